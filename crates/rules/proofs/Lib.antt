@@ -1,0 +1,24 @@
+-- That the rules keep the demands.
+pub mod Choice
+pub mod Place
+pub mod Row
+pub mod Rules
+pub mod Mask
+pub mod Obeyed
+pub mod Loaded
+pub mod Passed
+pub mod Figured
+pub mod Elect
+pub mod Worded
+pub mod SoundTest
+pub mod SoundKept
+pub mod Urgency
+pub mod EagerRuled
+pub mod Follow
+pub mod Calls
+pub mod Demand2
+pub mod Oldest
+pub mod Late
+pub mod OneEvent
+pub mod Jobs
+pub mod WorstCase

@@ -1,0 +1,192 @@
+-- A plan that is loaded obeys the rules, and lets a task take a lock exactly where a use says so. Assumes nothing.
+use mathlib.Core.Path.{_≡_, refl, sym, _∙_, ap, ap₂, subst}
+use mathlib.Core.Logic.{_≢_, _⊎_, inl, inr, ⊎-elim}
+use mathlib.Core.Bool.{Bool, true, false, not, _&&_, _||_}
+use mathlib.Core.List.{List, [], _∷_, _++_}
+use Prim.Native.Nat.{ℕ, zero, suc, _+_, _-_, _/_, _%_, _^_, _≤_, _<_}
+use native.Mathlib.Nat.{not-suc-le-zero}
+use native.Mathlib.Omega.{arith}
+use lib.Dec.{eqb, leb, ltb}
+use lib.ListN.{length, getD, set, replicate, length-set, length-replicate, List·getD-eq-default}
+use lib.Seq.{getD-set-same, getD-set-other}
+use lib.Pow.{pow-pos}
+use borrow.Author.Tests.{eqb-true, eqb-false, ltb-true, ltb-false, leb-false, not-false, eq-eqb, ne-eqb}
+use Rattle.rules.specs.Capacity.{maxTasks, maxLocks}
+use Rattle.rules.specs.Choice.{if_then_else_}
+use Rattle.rules.specs.Place.{at, any, firstFrom, from, tabulate}
+use Rattle.rules.specs.Refusal.{Check, found, firstFault}
+use Rattle.rules.specs.Mask.{hasBit, withBit}
+use Rattle.rules.specs.Plan.{most, countFault, taskFault, lockFault, declares, ceilingFault, Obeys}
+use Rattle.rules.specs.Load.{taskBase, taskSecond, lockCeiling, lockSecond, lockLimit, useTask, useLock, useKey, useFault, masksOf, planOf, recordCount, loadChecks}
+use Rattle.rules.specs.declared.plan.Plan.{Plan}
+use Rattle.rules.specs.declared.refusal.Refusal.{Refusal}
+use Rattle.rules.specs.declared.refusal.Refusal.the-variants.{WrongCount, WrongTask, WrongLock, WrongUse, WrongCeiling}
+use Rattle.rules.specs.declared.answer.Verdict.{Verdict}
+use Rattle.rules.proofs.Choice.{if-true, if-false, by-test, untrue, or-false, false-or, at-or, lt-or-le}
+use Rattle.rules.proofs.Place.{zero-past, first-within, first-none, length-from, getD-tabulate}
+use Rattle.rules.proofs.Mask.{bit-none, with-has, with-below}
+
+-- ---- checks in order
+
+-- no record offends
+abbrev pub Clean : Check → Type 0
+Clean c = (i : ℕ) → i < c .count → c .fault i ≡ false
+
+unfoldable pub AllClean : List Check → Type 0
+AllClean [] = Unit {0}
+AllClean (c ∷ cs) = Clean c × AllClean cs
+
+pub refused-not : {P : Type 0} (why : Refusal) (place : ℕ) → Verdict.Refused why place ≡ Verdict.Passed → P
+refused-not why place e = let z : _≡_ {A = ℕ} 0 1 = cc in absurd (omega arith)
+
+pub clean : (cs : List Check) → firstFault cs ≡ Verdict.Passed → AllClean cs
+unfolding AllClean firstFault found
+clean [] e = tt
+clean (c ∷ cs) e = by-test (ltb (firstFrom (c .fault) 0 (c .count)) (c .count))
+    (λ q. refused-not (c .refusal) _ (sym (if-true (ltb (firstFrom (c .fault) 0 (c .count)) (c .count)) _ (firstFault cs) q) ∙ e))
+    (λ q. (
+      λ i h. first-none (c .fault) 0 (c .count) (omega (arith, ltb-false (firstFrom (c .fault) 0 (c .count)) (c .count) q)) i (omega arith) (omega arith),
+      clean cs (sym (if-false (ltb (firstFrom (c .fault) 0 (c .count)) (c .count)) _ (firstFault cs) q) ∙ e),
+    ))
+
+pub clean-left : (cs ds : List Check) → AllClean (cs ++ ds) → AllClean cs × AllClean ds
+unfolding AllClean
+clean-left [] ds h = (tt, h)
+clean-left (c ∷ cs) ds h = let (a, b) = clean-left cs ds (h .1) in ((h .0, a), b)
+
+-- ---- places of the plan
+
+at-table : (n : ℕ) (g : ℕ → ℕ) (i : ℕ) → i < n → at (tabulate n g) i ≡ g i
+at-table n g i h = getD-tabulate g n i 0 h
+
+past-table : (n : ℕ) (g : ℕ → ℕ) (i : ℕ) → n ≤ i → at (tabulate n g) i ≡ 0
+past-table n g i h = List·getD-eq-default (tabulate n g) 0 (omega (arith, length-from g 0 n))
+
+past-end : (xs : List ℕ) (i : ℕ) → length xs ≤ i → at xs i ≡ 0
+past-end xs i h = List·getD-eq-default xs 0 h
+
+-- ---- uses
+
+module _ (uses : List ℕ) where
+  pub masks-length : (k : ℕ) → length (masksOf uses k) ≡ maxTasks
+  unfolding masksOf
+  masks-length zero = length-replicate {A = ℕ} maxTasks 0
+  masks-length (suc k) = length-set (masksOf uses k) (useTask (at uses k)) _ ∙ masks-length k
+
+  masks-here : (k : ℕ) → useTask (at uses k) < maxTasks → at (masksOf uses (suc k)) (useTask (at uses k)) ≡ withBit (at (masksOf uses k) (useTask (at uses k))) (useLock (at uses k))
+  unfolding masksOf
+  masks-here k h = getD-set-same (masksOf uses k) (useTask (at uses k)) _ 0 (omega (arith, masks-length k))
+
+  masks-other : (k t : ℕ) → t ≢ useTask (at uses k) → at (masksOf uses (suc k)) t ≡ at (masksOf uses k) t
+  unfolding masksOf
+  masks-other k t n = getD-set-other (masksOf uses k) (useTask (at uses k)) t _ 0 n
+
+  module _ (n m : ℕ) (small : n ≤ maxTasks) (known : (i : ℕ) → i < length uses → (useTask (at uses i) < n) × (useLock (at uses i) < m)) where
+    masks-below : (k t : ℕ) → k ≤ length uses → at (masksOf uses k) t < 2 ^ m
+    unfolding masksOf
+    masks-below zero t h = omega (arith, zero-past maxTasks t, pow-pos m)
+    masks-below (suc k) t h = at-or (λ t. at (masksOf uses (suc k)) t < 2 ^ m) (useTask (at uses k))
+        (rw (masks-here k (omega (arith, known k h .0))) (with-below m (at (masksOf uses k) (useTask (at uses k))) (useLock (at uses k)) (known k h .1) (masks-below k (useTask (at uses k)) (omega arith))))
+        (λ t q. rw (masks-other k t q) (masks-below k t (omega arith))) t
+
+    masks-past : (k t : ℕ) → k ≤ length uses → n ≤ t → at (masksOf uses k) t ≡ 0
+    unfolding masksOf
+    masks-past zero t h q = zero-past maxTasks t
+    masks-past (suc k) t h q = masks-other k t (λ e. omega (arith, known k h .0)) ∙ masks-past k t (omega arith) q
+
+    -- "A use says that one task may take one lock": the first k uses let t take l exactly where one of them says so
+    pub masks-say : (k t l : ℕ) → k ≤ length uses → hasBit (at (masksOf uses k) t) l ≡ any (λ i. eqb (useTask (at uses i)) t && eqb (useLock (at uses i)) l) k
+    unfolding masksOf any
+    masks-say zero t l h = ap (λ q. hasBit q l) (zero-past maxTasks t) ∙ bit-none l
+    masks-say (suc k) t l h = by-test (eqb (useTask (at uses k)) t)
+        (λ e. let q : useTask (at uses k) ≡ t = eqb-true _ _ e in
+        rw e (subst (λ t. hasBit (at (masksOf uses (suc k)) t) l ≡ (any says′ k || eqb (useLock (at uses k)) l)) q
+        (ap (λ v. hasBit v l) (masks-here k (omega (arith, known k h .0))) ∙ with-has (at (masksOf uses k) (useTask (at uses k))) (useLock (at uses k)) l
+        ∙ swap (eqb (useLock (at uses k)) l) (hasBit (at (masksOf uses k) (useTask (at uses k))) l) ∙ ap (λ b. b || eqb (useLock (at uses k)) l) (subst (λ t′. hasBit (at (masksOf uses k) t′) l ≡ any says′ k) (sym q) (masks-say k t l (omega arith))))))
+        (λ e. rw e (ap (λ v. hasBit v l) (masks-other k t (λ q. eqb-false (useTask (at uses k)) t e (sym q))) ∙ masks-say k t l (omega arith) ∙ sym (or-none (any says′ k))))
+      where
+        says′ : ℕ → Bool
+        says′ i = eqb (useTask (at uses i)) t && eqb (useLock (at uses i)) l
+
+        swap : (a b : Bool) → (a || b) ≡ (b || a)
+        swap true true = refl
+        swap true false = refl
+        swap false true = refl
+        swap false false = refl
+
+        or-none : (a : Bool) → (a || false) ≡ a
+        or-none true = refl
+        or-none false = refl
+
+-- ---- a plan that is loaded
+
+module _ (tasks locks uses : List ℕ) (C : AllClean (loadChecks tasks locks uses)) where
+  abbrev p : Plan
+  p = planOf tasks locks uses
+
+  counts : (e : ℕ) → e < 3 → countFault e (recordCount tasks locks uses e) ≡ false
+  unfolding loadChecks AllClean
+  counts = C .0
+
+  few-tasks : length tasks ≤ maxTasks
+  unfolding countFault most if_then_else_
+  few-tasks = ltb-false maxTasks (length tasks) (or-false (eqb (length tasks) 0) (ltb maxTasks (length tasks)) (counts 0 (omega arith)) .1)
+
+  few-locks : length locks ≤ maxLocks
+  unfolding countFault most if_then_else_
+  few-locks = ltb-false maxLocks (length locks) (counts 1 (omega arith))
+
+  known-use : (i : ℕ) → i < length uses → (useTask (at uses i) < length tasks) × (useLock (at uses i) < length locks)
+  unfolding loadChecks AllClean useFault
+  known-use i h =
+      let (ab, _) = or-false (leb (length tasks) (useTask (at uses i)) || leb (length locks) (useLock (at uses i))) _ (C .1 .1 .1 .0 i h) in
+      let (a, b) = or-false (leb (length tasks) (useTask (at uses i))) (leb (length locks) (useLock (at uses i))) ab in
+      (leb-false _ _ a, leb-false _ _ b)
+
+  loaded-base : (t : ℕ) → at (p .base) t ≡ taskBase (at tasks t)
+  unfolding planOf
+  loaded-base t = ⊎-elim (λ h. at-table maxTasks (λ t. taskBase (at tasks t)) t h)
+      (λ h. past-table maxTasks (λ t. taskBase (at tasks t)) t h ∙ sym (ap taskBase (past-end tasks t (omega (arith, few-tasks))))) (lt-or-le t maxTasks)
+
+  loaded-ceiling : (l : ℕ) → at (p .ceiling) l ≡ lockCeiling (at locks l)
+  unfolding planOf
+  loaded-ceiling l = ⊎-elim (λ h. at-table maxLocks (λ l. lockCeiling (at locks l)) l h)
+      (λ h. past-table maxLocks (λ l. lockCeiling (at locks l)) l h ∙ sym (ap lockCeiling (past-end locks l (omega (arith, few-locks))))) (lt-or-le l maxLocks)
+
+  loaded-limit : (l : ℕ) → at (p .limit) l ≡ lockLimit (at locks l)
+  unfolding planOf
+  loaded-limit l = ⊎-elim (λ h. at-table maxLocks (λ l. lockLimit (at locks l)) l h)
+      (λ h. past-table maxLocks (λ l. lockLimit (at locks l)) l h ∙ sym (ap lockLimit (past-end locks l (omega (arith, few-locks))))) (lt-or-le l maxLocks)
+
+  task-clean : (t : ℕ) → t < length tasks → taskFault (at (p .base) t) 0 ≡ false
+  unfolding loadChecks AllClean taskFault
+  task-clean t h = rw (loaded-base t) (false-or (eqb (taskBase (at tasks t)) 0) (not (eqb 0 0)) (or-false (eqb (taskBase (at tasks t)) 0) _ (C .1 .0 t h) .0) refl)
+
+  lock-clean : (l : ℕ) → l < length locks → lockFault (at (p .ceiling) l) 0 (at (p .limit) l) ≡ false
+  unfolding loadChecks AllClean lockFault
+  lock-clean l h =
+      let (ab, c) = or-false (eqb (lockCeiling (at locks l)) 0 || not (eqb (lockSecond (at locks l)) 0)) (eqb (lockLimit (at locks l)) 0) (C .1 .1 .0 l h) in
+      rw (loaded-ceiling l, loaded-limit l)
+      (false-or (eqb (lockCeiling (at locks l)) 0 || not (eqb 0 0)) (eqb (lockLimit (at locks l)) 0)
+      (false-or (eqb (lockCeiling (at locks l)) 0) (not (eqb 0 0)) (or-false (eqb (lockCeiling (at locks l)) 0) _ ab .0) refl) c)
+
+  pub loaded-obeys : Obeys p
+  unfolding planOf loadChecks AllClean if_then_else_
+  loaded-obeys = record {
+    tasks = counts 0 (omega arith);
+    locks = counts 1 (omega arith);
+    bases = task-clean;
+    baseBytes = λ t. rw (loaded-base t) (omega arith);
+    sections = lock-clean;
+    ceilingBytes = λ l. rw (loaded-ceiling l) (omega arith);
+    limitBytes = λ l. rw (loaded-limit l) (omega arith);
+    uses = λ t h. masks-below uses (length tasks) (length locks) few-tasks known-use (length uses) t (omega arith);
+    ceilings = C .1 .1 .1 .1 .0;
+    noTask = λ t h. (loaded-base t ∙ ap taskBase (past-end tasks t h), masks-past uses (length tasks) (length locks) few-tasks known-use (length uses) t (omega arith) h);
+    noLock = λ l h. (loaded-ceiling l ∙ ap lockCeiling (past-end locks l h), loaded-limit l ∙ ap lockLimit (past-end locks l h));
+  }
+
+  -- the plan lets task t take lock l exactly where a use says so
+  pub loaded-uses : (t l : ℕ) → declares p t l ≡ any (λ i. eqb (useTask (at uses i)) t && eqb (useLock (at uses i)) l) (length uses)
+  unfolding planOf declares
+  loaded-uses t l = masks-say uses (length tasks) (length locks) few-tasks known-use (length uses) t l (omega arith)

@@ -1,0 +1,275 @@
+-- Laws of what is asked of the places below n: what each means, and the turns of a loop that works it out from place 0 up. Assumes nothing.
+use mathlib.Core.Path.{_≡_, refl, sym, _∙_, ap, ap₂, subst}
+use mathlib.Core.Logic.{_≢_, _⊎_, inl, inr, ⊎-elim}
+use mathlib.Core.Bool.{Bool, true, false, _&&_, _||_}
+use mathlib.Core.List.{List, [], _∷_}
+use Prim.Native.Nat.{ℕ, zero, suc, _+_, _-_, _≤_, _<_, max}
+use native.Mathlib.Numerals.{add-one}
+use native.Mathlib.Nat.{eq-or-lt-of-le, le-of-suc-le-suc, not-suc-le-zero}
+use native.Mathlib.Omega.{arith}
+use lib.Dec.{eqb}
+use lib.ListN.{length, getD, set, drop, length-set, replicate}
+use lib.Seq.{getD-set-same, getD-set-other, ext-getD}
+use borrow.Author.Tests.{eqb-true, eq-eqb}
+use Rattle.rules.specs.Choice.{if_then_else_}
+use Rattle.rules.specs.Place.{at, every, any, count, greatest, firstFrom, from, tabulate, renewed, zeros}
+use Rattle.rules.proofs.Choice.{if-true, if-false, by-test, untrue, and-true, or-false, lt-or-le}
+
+-- below n + 1: n itself, or below n
+pub below : (P : ℕ → Type 0) (n : ℕ) → ((y : ℕ) → y < n → P y) → P n → (y : ℕ) → y < suc n → P y
+below P n h e y l = ⊎-elim (λ q. subst P (sym q) e) (λ q. h y q) (eq-or-lt-of-le (le-of-suc-le-suc l))
+
+module _ (f : ℕ → Bool) where
+  -- ---- every
+
+  pub every-true : (n : ℕ) → every f n ≡ true → (x : ℕ) → x < n → f x ≡ true
+  unfolding every
+  every-true zero e = λ x l. absurd (not-suc-le-zero l)
+  every-true (suc k) e = let (a, b) = and-true (every f k) (f k) e in below (λ x. f x ≡ true) k (every-true k a) b
+
+  pub true-every : (n : ℕ) → ((x : ℕ) → x < n → f x ≡ true) → every f n ≡ true
+  unfolding every
+  true-every zero h = refl
+  true-every (suc k) h = rw (true-every k (λ x l. h x (omega arith)), h k (omega arith))
+
+  pub every-none : every f 0 ≡ true
+  unfolding every
+  every-none = refl
+
+  pub every-next : (i : ℕ) → every f i ≡ true → f i ≡ true → every f (i + 1) ≡ true
+  unfolding every
+  every-next i e h = rw (add-one i) (rw (e, h))
+
+  pub every-fails : (n i : ℕ) → i < n → f i ≡ false → false ≡ every f n
+  every-fails n i l h = by-test (every f n) (λ e. untrue (sym (every-true n e i l) ∙ h)) (λ e. sym e)
+
+  pub every-ends : (n i : ℕ) → i ≤ n → n ≤ i → every f i ≡ true → true ≡ every f n
+  every-ends n i a b e = let q : i ≡ n = omega arith in sym e ∙ ap (every f) q
+
+  -- ---- any
+
+  pub any-false : (n : ℕ) → any f n ≡ false → (x : ℕ) → x < n → f x ≡ false
+  unfolding any
+  any-false zero e = λ x l. absurd (not-suc-le-zero l)
+  any-false (suc k) e = let (a, b) = or-false (any f k) (f k) e in below (λ x. f x ≡ false) k (any-false k a) b
+
+  pub false-any : (n : ℕ) → ((x : ℕ) → x < n → f x ≡ false) → any f n ≡ false
+  unfolding any
+  false-any zero h = refl
+  false-any (suc k) h = rw (false-any k (λ x l. h x (omega arith)), h k (omega arith))
+
+  pub any-some : (n : ℕ) → any f n ≡ true → (x : ℕ) × (x < n) × (f x ≡ true)
+  unfolding any
+  any-some zero e = untrue (sym e)
+  any-some (suc k) e =
+      by-test (any f k) (λ a. let (x, l, h) = any-some k a in (x, omega arith, h)) (λ a. (k, omega arith, rw a at e))
+
+  pub some-any : (n x : ℕ) → x < n → f x ≡ true → any f n ≡ true
+  some-any n x l h = by-test (any f n) (λ e. e) (λ e. untrue (sym h ∙ any-false n e x l))
+
+  pub any-none : any f 0 ≡ false
+  unfolding any
+  any-none = refl
+
+  pub any-next : (i : ℕ) → any f i ≡ false → f i ≡ false → any f (i + 1) ≡ false
+  unfolding any
+  any-next i e h = rw (add-one i) (rw (e, h))
+
+  pub any-found : (n i : ℕ) → i < n → f i ≡ true → true ≡ any f n
+  any-found n i l h = sym (some-any n i l h)
+
+  pub any-ends : (n i : ℕ) → i ≤ n → n ≤ i → any f i ≡ false → false ≡ any f n
+  any-ends n i a b e = let q : i ≡ n = omega arith in sym e ∙ ap (any f) q
+
+  -- ---- count
+
+  pub count-none : 0 ≡ count f 0
+  unfolding count
+  count-none = refl
+
+  pub count-in : (i c : ℕ) → c ≡ count f i → f i ≡ true → c + 1 ≡ count f (i + 1)
+  unfolding count
+  count-in i c e h = rw (add-one i) (rw (if-true (f i) (count f i + 1) (count f i) h) (omega arith))
+
+  pub count-out : (i c : ℕ) → c ≡ count f i → f i ≡ false → c ≡ count f (i + 1)
+  unfolding count
+  count-out i c e h = rw (add-one i) (rw (if-false (f i) (count f i + 1) (count f i) h) e)
+
+  pub count-most : (i : ℕ) → count f i ≤ i
+  unfolding count
+  count-most zero = omega arith
+  count-most (suc k) = by-test (f k) (λ e. rw (if-true (f k) (count f k + 1) (count f k) e) (omega (arith, count-most k)))
+      (λ e. rw (if-false (f k) (count f k + 1) (count f k) e) (omega (arith, count-most k)))
+
+  -- a count above 0 has somebody in it, and the other way round
+  pub count-some : (n : ℕ) → 0 < count f n → (x : ℕ) × (x < n) × (f x ≡ true)
+  unfolding count
+  count-some zero h = absurd (not-suc-le-zero h)
+  count-some (suc k) h = by-test (f k) (λ e. (k, omega arith, e))
+      (λ e. let (x, l, q) = count-some k (rw (if-false (f k) (count f k + 1) (count f k) e) at h) in (x, omega arith, q))
+
+  -- ---- the first place
+
+  pub first-stop : (i left : ℕ) → f i ≡ true → firstFrom f i (suc left) ≡ i
+  unfolding firstFrom
+  first-stop i left h = if-true (f i) i (firstFrom f (suc i) left) h
+
+  pub first-on : (i left : ℕ) → f i ≡ false → firstFrom f i (suc left) ≡ firstFrom f (suc i) left
+  unfolding firstFrom
+  first-on i left h = if-false (f i) i (firstFrom f (suc i) left) h
+
+  -- what it means
+  pub first-within : (i left : ℕ) → firstFrom f i left ≤ i + left
+  unfolding firstFrom
+  first-within i zero = omega arith
+  first-within i (suc left) = by-test (f i) (λ e. rw (if-true (f i) i (firstFrom f (suc i) left) e) (omega arith))
+      (λ e. rw (if-false (f i) i (firstFrom f (suc i) left) e) (omega (arith, first-within (suc i) left)))
+
+  pub first-none : (i left : ℕ) → i + left ≤ firstFrom f i left → (x : ℕ) → i ≤ x → x < i + left → f x ≡ false
+  unfolding firstFrom
+  first-none i zero h x a b = absurd (omega arith)
+  first-none i (suc left) h x a b = by-test (f i)
+      (λ e. absurd (omega (arith, rw (if-true (f i) i (firstFrom f (suc i) left) e) at h)))
+      (λ e. ⊎-elim (λ q. rw (← q) e)
+      (λ l. first-none (suc i) left (omega (arith, rw (if-false (f i) i (firstFrom f (suc i) left) e) at h)) x l (omega arith)) (eq-or-lt-of-le a))
+
+  pub first-hit : (i left : ℕ) → firstFrom f i left < i + left → f (firstFrom f i left) ≡ true
+  unfolding firstFrom
+  first-hit i zero h = absurd (omega arith)
+  first-hit i (suc left) h = by-test (f i)
+      (λ e. rw (if-true (f i) i (firstFrom f (suc i) left) e) e)
+      (λ e. rw (if-false (f i) i (firstFrom f (suc i) left) e) (first-hit (suc i) left (omega (arith, rw (if-false (f i) i (firstFrom f (suc i) left) e) at h))))
+
+  -- where f holds somewhere below n, it holds at the first place
+  pub first-some : (n x : ℕ) → x < n → f x ≡ true → (firstFrom f 0 n < n) × (f (firstFrom f 0 n) ≡ true)
+  first-some n x l h = ⊎-elim
+      (λ (q : firstFrom f 0 n < n). (q, first-hit 0 n (omega arith)))
+      (λ (q : n ≤ firstFrom f 0 n). untrue (sym h ∙ first-none 0 n (omega arith) x (omega arith) (omega arith)))
+      (lt-or-le (firstFrom f 0 n) n)
+
+  -- the turns of a loop that looks for it; r is what the whole gives
+  pub first-found : (n i r : ℕ) → firstFrom f i (n - i) ≡ r → i < n → f i ≡ true → i ≡ r
+  first-found n i r e l h = let q : n - i ≡ suc (n - i - 1) = omega arith in sym (first-stop i (n - i - 1) h) ∙ ap (firstFrom f i) (sym q) ∙ e
+
+  pub first-next : (n i r : ℕ) → firstFrom f i (n - i) ≡ r → i < n → f i ≡ false → firstFrom f (i + 1) (n - (i + 1)) ≡ r
+  first-next n i r e l h =
+      let q : n - i ≡ suc (n - (i + 1)) = omega arith in
+      rw (add-one i) (sym (first-on i (n - suc i) h) ∙ ap (firstFrom f i) (omega arith) ∙ e)
+
+  pub first-ends : (n i r : ℕ) → firstFrom f i (n - i) ≡ r → n ≤ i → i ≡ r
+  unfolding firstFrom
+  first-ends n i r e l = let q : n - i ≡ 0 = omega arith in rw q at e
+
+-- ---- greatest
+
+module _ (f : ℕ → ℕ) where
+  pub greatest-all : (n x : ℕ) → x < n → f x ≤ greatest f n
+  unfolding greatest
+  greatest-all zero = λ x l. absurd (not-suc-le-zero l)
+  greatest-all (suc k) = below (λ x. f x ≤ max (greatest f k) (f k)) k (λ x l. omega (arith, greatest-all k x l)) (omega arith)
+
+  pub greatest-least : (v n : ℕ) → ((x : ℕ) → x < n → f x ≤ v) → greatest f n ≤ v
+  unfolding greatest
+  greatest-least v zero h = omega arith
+  greatest-least v (suc k) h = omega (arith, h k (omega arith), greatest-least v k (λ x l. h x (omega arith)))
+
+  pub greatest-some : (n : ℕ) → 0 < greatest f n → (x : ℕ) × (x < n) × (f x ≡ greatest f n)
+  unfolding greatest
+  greatest-some zero h = absurd (not-suc-le-zero h)
+  greatest-some (suc k) h = ⊎-elim
+      (λ (g : greatest f k < f k). (k, omega arith, omega arith))
+      (λ (g : f k ≤ greatest f k). let (x, l, e) = greatest-some k (omega arith) in (x, omega arith, omega arith))
+      (lt-or-le (greatest f k) (f k))
+
+  pub greatest-none : 0 ≡ greatest f 0
+  unfolding greatest
+  greatest-none = refl
+
+  pub greatest-next : (i g v : ℕ) → g ≡ greatest f i → v ≡ f i → max g v ≡ greatest f (i + 1)
+  unfolding greatest
+  greatest-next i g v e h = rw (add-one i) (omega arith)
+
+pub greatest-ext : (f g : ℕ → ℕ) (n : ℕ) → ((x : ℕ) → x < n → f x ≡ g x) → greatest f n ≡ greatest g n
+unfolding greatest
+greatest-ext f g zero h = refl
+greatest-ext f g (suc k) h = ap₂ max (greatest-ext f g k (λ x l. h x (omega arith))) (h k (omega arith))
+
+-- ---- tables
+
+module _ {X : Type 0} (f : ℕ → X) where
+  pub length-from : (i n : ℕ) → length (from f i n) ≡ n
+  unfolding from
+  length-from i zero = refl
+  length-from i (suc n) = ap suc (length-from (suc i) n)
+
+  pub getD-from : (i n k : ℕ) (d : X) → k < n → getD (from f i n) k d ≡ f (i + k)
+  unfolding from
+  getD-from i zero k d h = absurd (not-suc-le-zero h)
+  getD-from i (suc n) zero d h = ap f (omega arith)
+  getD-from i (suc n) (suc k) d h = getD-from (suc i) n k d (le-of-suc-le-suc h) ∙ ap f (omega arith)
+
+  pub getD-tabulate : (n k : ℕ) (d : X) → k < n → getD (tabulate n f) k d ≡ f k
+  getD-tabulate n k d h = getD-from 0 n k d h ∙ ap f (omega arith)
+
+-- ---- a loop that writes f k at each place k in turn
+
+module _ (xs : List ℕ) (f : ℕ → ℕ) where
+  pub renewed-none : xs ≡ renewed xs f 0
+  unfolding renewed
+  renewed-none = refl
+
+  pub renewed-more : (k : ℕ) → renewed xs f (k + 1) ≡ set (renewed xs f k) k (f k)
+  unfolding renewed
+  renewed-more k = rw (add-one k)
+
+  pub length-renewed : (n : ℕ) → length (renewed xs f n) ≡ length xs
+  unfolding renewed
+  length-renewed zero = refl
+  length-renewed (suc k) = length-set (renewed xs f k) k (f k) ∙ length-renewed k
+
+  -- a place that the loop has not come to holds what it held
+  pub renewed-rest : (n i d : ℕ) → n ≤ i → getD (renewed xs f n) i d ≡ getD xs i d
+  unfolding renewed
+  renewed-rest zero i d h = refl
+  renewed-rest (suc k) i d h = getD-set-other (renewed xs f k) k i (f k) d (λ e. omega arith) ∙ renewed-rest k i d (omega arith)
+
+  pub renewed-at : (n i d : ℕ) → i < n → i < length xs → getD (renewed xs f n) i d ≡ f i
+  unfolding renewed
+  renewed-at zero i d h b = absurd (not-suc-le-zero h)
+  renewed-at (suc k) i d h b = ⊎-elim
+      (λ e. rw e (getD-set-same (renewed xs f k) k (f k) d (rw (length-renewed k) (rw e at b))))
+      (λ l. getD-set-other (renewed xs f k) k i (f k) d (λ e. omega arith) ∙ renewed-at k i d l b)
+      (eq-or-lt-of-le (le-of-suc-le-suc h))
+
+  pub renewed-next : (ys : List ℕ) (k v : ℕ) → ys ≡ renewed xs f k → v ≡ f k → set ys k v ≡ renewed xs f (k + 1)
+  renewed-next ys k v e g = rw (renewed-more, e, g)
+
+-- ---- all places from n on are 0
+
+pub zero-past : (n i : ℕ) → at (replicate n 0) i ≡ 0
+zero-past zero i = refl
+zero-past (suc n) zero = refl
+zero-past (suc n) (suc i) = zero-past n i
+
+pub zeros-at : (xs : List ℕ) → zeros xs ≡ true → (i : ℕ) → at xs i ≡ 0
+unfolding zeros
+zeros-at [] e i = refl
+zeros-at (x ∷ xs) e zero = eqb-true x 0 (and-true (eqb x 0) (zeros xs) e .0)
+zeros-at (x ∷ xs) e (suc i) = zeros-at xs (and-true (eqb x 0) (zeros xs) e .1) i
+
+pub at-zeros : (xs : List ℕ) → ((i : ℕ) → at xs i ≡ 0) → zeros xs ≡ true
+unfolding zeros
+at-zeros [] h = refl
+at-zeros (x ∷ xs) h = rw (eq-eqb x 0 (h 0)) (at-zeros xs (λ i. h (suc i)))
+
+pub spare-at : (n : ℕ) (xs : List ℕ) → zeros (drop n xs) ≡ true → (i : ℕ) → n ≤ i → at xs i ≡ 0
+spare-at zero xs e i h = zeros-at xs e i
+spare-at (suc n) [] e i h = refl
+spare-at (suc n) (x ∷ xs) e zero h = absurd (not-suc-le-zero h)
+spare-at (suc n) (x ∷ xs) e (suc i) h = spare-at n xs e i (le-of-suc-le-suc h)
+
+pub at-spare : (n : ℕ) (xs : List ℕ) → ((i : ℕ) → n ≤ i → at xs i ≡ 0) → zeros (drop n xs) ≡ true
+unfolding zeros
+at-spare zero xs h = at-zeros xs (λ i. h i (omega arith))
+at-spare (suc n) [] h = refl
+at-spare (suc n) (x ∷ xs) h = at-spare n xs (λ i l. h (suc i) (omega arith))

@@ -1,0 +1,493 @@
+-- The test of soundness holds exactly where every named condition of Sound.antt does. Assumes nothing.
+use mathlib.Core.Path.{_≡_, refl, sym, _∙_, ap, ap₂, subst}
+use mathlib.Core.Logic.{_≢_, _⊎_, inl, inr, ⊎-elim, _↔_}
+use mathlib.Core.Bool.{Bool, true, false, not, _&&_}
+use Prim.Native.Nat.{ℕ, zero, suc, _+_, _≤_, _<_, _^_}
+use native.Mathlib.Decide.{ℕ-discrete}
+use native.Mathlib.Nat.{eq-zero-or-pos}
+use native.Mathlib.Omega.{arith}
+use lib.Dec.{eqb, leb, ltb}
+use lib.ListN.{drop}
+use borrow.Author.Tests.{eqb-true, eqb-false, leb-true, ltb-true, eq-eqb, ne-eqb, le-leb, lt-ltb, not-true}
+use Rattle.rules.specs.Capacity.{maxOpen, maxAccepted, maxDelay, nobody}
+use Rattle.rules.specs.Choice.{if_then_else_}
+use Rattle.rules.specs.Place.{at, every, greatest, zeros}
+use Rattle.rules.specs.Row.{newest, under, has, saves}
+use Rattle.rules.specs.Plan.{countFault, taskFault, lockFault, ceilingFault, declares, Obeys}
+use Rattle.rules.specs.Figures.{Figures, figuresOf, holds, rankOf}
+use Rattle.rules.specs.Lazy.{Words, wordsOf}
+use Rattle.rules.specs.Sound.{distinct, Figured, keptOf, savedOf, ownerOf, Worded, Sound}
+use Rattle.rules.specs.SoundTest.{taskObeys, lockObeys, spareObeys, obeys, rowTest, numberTest, ownTest, taskTest, lockTest, headTest, spareTest, soundTest}
+use Rattle.rules.specs.declared.plan.Plan.{Plan}
+use Rattle.rules.specs.declared.state.State.{State}
+use Rattle.rules.proofs.Choice.{if-true, if-false, by-test, untrue, not-so, and-true, true-and, at-or, lt-or-le}
+use Rattle.rules.proofs.Place.{every-true, true-every, spare-at, at-spare}
+use Rattle.rules.proofs.Row.{has-none, has-newest, has-under, has-cases, places-under, saves-none}
+use Rattle.rules.proofs.Figured.{inside, holder-out}
+use Rattle.rules.proofs.Worded.{owner-none, owner-is, owner-some}
+use Rattle.rules.proofs.Rules.{rank-in, kept-own, kept-other}
+
+false-not : (t : Bool) → t ≡ false → not t ≡ true
+false-not t e = ap not e
+
+-- ---- the plan
+
+module _ (p : Plan) where
+  pub obeys-so : obeys p ≡ true → Obeys p
+  unfolding obeys taskObeys lockObeys spareObeys
+  obeys-so e =
+      let (e4, spare) = and-true _ (spareObeys p) e in
+      let (e3, locks) = and-true _ (every (lockObeys p) (p .locks)) e4 in
+      let (e2, tasks) = and-true _ (every (taskObeys p) (p .tasks)) e3 in
+      let (a, b) = and-true (not (countFault 0 (p .tasks))) (not (countFault 1 (p .locks))) e2 in
+      let (s3, noLimit) = and-true _ (zeros (drop (p .locks) (p .limit))) spare in
+      let (s2, noCeiling) = and-true _ (zeros (drop (p .locks) (p .ceiling))) s3 in
+      let (noBase, noUses) = and-true (zeros (drop (p .tasks) (p .base))) (zeros (drop (p .tasks) (p .uses))) s2 in
+      record {
+        tasks = not-true (countFault 0 (p .tasks)) a;
+        locks = not-true (countFault 1 (p .locks)) b;
+        bases = λ t h. not-true (taskFault (at (p .base) t) 0) (task tasks t h .0);
+        baseBytes = λ t. ⊎-elim (λ h. ltb-true (at (p .base) t) (2 ^ 8) (task tasks t h .1)) (λ h. omega (arith, spare-at (p .tasks) (p .base) noBase t h)) (lt-or-le t (p .tasks));
+        sections = λ l h. not-true (lockFault (at (p .ceiling) l) 0 (at (p .limit) l)) (lock locks l h .0);
+        ceilingBytes = λ l. ⊎-elim (λ h. ltb-true (at (p .ceiling) l) (2 ^ 8) (lock locks l h .1)) (λ h. omega (arith, spare-at (p .locks) (p .ceiling) noCeiling l h)) (lt-or-le l (p .locks));
+        limitBytes = λ l. ⊎-elim (λ h. ltb-true (at (p .limit) l) (2 ^ 16) (lock locks l h .2)) (λ h. omega (arith, spare-at (p .locks) (p .limit) noLimit l h)) (lt-or-le l (p .locks));
+        uses = λ t h. ltb-true (at (p .uses) t) (2 ^ p .locks) (task tasks t h .2);
+        ceilings = λ l h. not-true (ceilingFault p l) (lock locks l h .3);
+        noTask = λ t h. (spare-at (p .tasks) (p .base) noBase t h, spare-at (p .tasks) (p .uses) noUses t h);
+        noLock = λ l h. (spare-at (p .locks) (p .ceiling) noCeiling l h, spare-at (p .locks) (p .limit) noLimit l h);
+      }
+    where
+      task : every (taskObeys p) (p .tasks) ≡ true → (t : ℕ) → t < p .tasks
+          → (not (taskFault (at (p .base) t) 0) ≡ true) × (ltb (at (p .base) t) (2 ^ 8) ≡ true) × (ltb (at (p .uses) t) (2 ^ p .locks) ≡ true)
+      task e t h =
+          let (ab, c) = and-true _ (ltb (at (p .uses) t) (2 ^ p .locks)) (every-true (taskObeys p) (p .tasks) e t h) in
+          let (a, b) = and-true (not (taskFault (at (p .base) t) 0)) (ltb (at (p .base) t) (2 ^ 8)) ab in (a, b, c)
+
+      lock : every (lockObeys p) (p .locks) ≡ true → (l : ℕ) → l < p .locks
+          → (not (lockFault (at (p .ceiling) l) 0 (at (p .limit) l)) ≡ true) × (ltb (at (p .ceiling) l) (2 ^ 8) ≡ true) × (ltb (at (p .limit) l) (2 ^ 16) ≡ true) × (not (ceilingFault p l) ≡ true)
+      lock e l h =
+          let (abc, d) = and-true _ (not (ceilingFault p l)) (every-true (lockObeys p) (p .locks) e l h) in
+          let (ab, c) = and-true _ (ltb (at (p .limit) l) (2 ^ 16)) abc in
+          let (a, b) = and-true (not (lockFault (at (p .ceiling) l) 0 (at (p .limit) l))) (ltb (at (p .ceiling) l) (2 ^ 8)) ab in (a, b, c, d)
+
+  pub so-obeys : Obeys p → obeys p ≡ true
+  unfolding obeys taskObeys lockObeys spareObeys
+  so-obeys O =
+      true-and _ (spareObeys p)
+      (true-and _ (every (lockObeys p) (p .locks))
+      (true-and _ (every (taskObeys p) (p .tasks))
+      (true-and (not (countFault 0 (p .tasks))) (not (countFault 1 (p .locks))) (false-not _ (O .tasks)) (false-not _ (O .locks)))
+      (true-every (taskObeys p) (p .tasks) (λ t h. true-and _ (ltb (at (p .uses) t) (2 ^ p .locks))
+      (true-and (not (taskFault (at (p .base) t) 0)) (ltb (at (p .base) t) (2 ^ 8)) (false-not _ (O .bases t h)) (lt-ltb _ _ (O .baseBytes t)))
+      (lt-ltb _ _ (O .uses t h)))))
+      (true-every (lockObeys p) (p .locks) (λ l h. true-and _ (not (ceilingFault p l))
+      (true-and _ (ltb (at (p .limit) l) (2 ^ 16))
+      (true-and (not (lockFault (at (p .ceiling) l) 0 (at (p .limit) l))) (ltb (at (p .ceiling) l) (2 ^ 8)) (false-not _ (O .sections l h)) (lt-ltb _ _ (O .ceilingBytes l)))
+      (lt-ltb _ _ (O .limitBytes l)))
+      (false-not _ (O .ceilings l h)))))
+      (true-and _ (zeros (drop (p .locks) (p .limit)))
+      (true-and _ (zeros (drop (p .locks) (p .ceiling)))
+      (true-and (zeros (drop (p .tasks) (p .base))) (zeros (drop (p .tasks) (p .uses)))
+      (at-spare (p .tasks) (p .base) (λ t h. O .noTask t h .0)) (at-spare (p .tasks) (p .uses) (λ t h. O .noTask t h .1)))
+      (at-spare (p .locks) (p .ceiling) (λ l h. O .noLock l h .0)))
+      (at-spare (p .locks) (p .limit) (λ l h. O .noLock l h .1)))
+
+-- ---- a row
+
+module _ (p : Plan) (x : ℕ) where
+  pub record RowOk (row k : ℕ) : Type 0 where
+    pub known : (l : ℕ) → has row k l ≡ true → l < p .locks
+    pub declared : (l : ℕ) → has row k l ≡ true → declares p x l ≡ true
+    pub once : distinct row k ≡ true
+    pub places : row < 256 ^ k
+
+  row-so : (row k : ℕ) → rowTest p x row k ≡ true → RowOk row k
+  unfolding rowTest distinct
+  row-so row zero e = record {
+    known = λ l h. untrue (sym h ∙ has-none row l);
+    declared = λ l h. untrue (sym h ∙ has-none row l);
+    once = refl;
+    places = omega (arith, eqb-true row 0 e);
+  }
+  row-so row (suc k) e =
+      let (abc, d) = and-true _ (rowTest p x (under row) k) e in
+      let (ab, c) = and-true _ (not (has (under row) k (newest row))) abc in
+      let (a, b) = and-true (ltb (newest row) (p .locks)) (declares p x (newest row)) ab in
+      go (row-so (under row) k d) (ltb-true _ _ a) b c
+    where
+      go : RowOk (under row) k → newest row < p .locks → declares p x (newest row) ≡ true → not (has (under row) k (newest row)) ≡ true → RowOk row (suc k)
+      go R a b c = record {
+        known = λ l h. ⊎-elim (λ q. omega (arith, a)) (λ q. R .known l q) (has-cases row k l h);
+        declared = λ l h. ⊎-elim (λ q. subst (λ l. declares p x l ≡ true) q b) (λ q. R .declared l q) (has-cases row k l h);
+        once = true-and (not (has (under row) k (newest row))) (distinct (under row) k) c (R .once);
+        places = omega (arith, R .places);
+      }
+
+  so-row : (row k : ℕ) → RowOk row k → rowTest p x row k ≡ true
+  unfolding rowTest distinct
+  so-row row zero R = eq-eqb row 0 (omega (arith, R .places))
+  so-row row (suc k) R =
+      let (c, d) = and-true (not (has (under row) k (newest row))) (distinct (under row) k) (R .once) in
+      true-and _ (rowTest p x (under row) k)
+      (true-and _ (not (has (under row) k (newest row)))
+      (true-and (ltb (newest row) (p .locks)) (declares p x (newest row)) (lt-ltb _ _ (R .known (newest row) (has-newest row k))) (R .declared (newest row) (has-newest row k)))
+      c)
+      (so-row (under row) k (record {
+        known = λ l h. R .known l (has-under row k l h);
+        declared = λ l h. R .declared l (has-under row k l h);
+        once = d;
+        places = places-under row k (R .places);
+      }))
+
+module _ (w : Words) (x : ℕ) where
+  own-so : (row k : ℕ) → ownTest w x row k ≡ true → (l : ℕ) → has row k l ≡ true → at (w .owner) l ≡ suc x
+  unfolding ownTest
+  own-so row zero e l h = untrue (sym h ∙ has-none row l)
+  own-so row (suc k) e l h =
+      let (a, b) = and-true (eqb (at (w .owner) (newest row)) (suc x)) (ownTest w x (under row) k) e in
+      ⊎-elim (λ q. subst (λ l. at (w .owner) l ≡ suc x) q (eqb-true _ _ a)) (λ q. own-so (under row) k b l q) (has-cases row k l h)
+
+  so-own : (row k : ℕ) → ((l : ℕ) → has row k l ≡ true → at (w .owner) l ≡ suc x) → ownTest w x row k ≡ true
+  unfolding ownTest
+  so-own row zero h = refl
+  so-own row (suc k) h =
+      true-and (eqb (at (w .owner) (newest row)) (suc x)) (ownTest w x (under row) k)
+      (eq-eqb _ _ (h (newest row) (has-newest row k))) (so-own (under row) k (λ l q. h l (has-under row k l q)))
+
+-- ---- release numbers
+
+module _ (f : Figures) (x : ℕ) where
+  number-so : numberTest f x ≡ true
+      → (at (f .released) x ≡ 0 → at (f .held) x ≡ 0) × (at (f .released) x ≤ f .accepted) × ((y : ℕ) → y < x → 0 < at (f .released) x → at (f .released) y ≢ at (f .released) x)
+  unfolding numberTest
+  number-so e = by-test (eqb (at (f .released) x) 0)
+      (λ t. let z : at (f .released) x ≡ 0 = eqb-true _ 0 t in
+      ((λ _. eqb-true _ 0 (sym (if-true (eqb (at (f .released) x) 0) _ _ t) ∙ e)), omega arith, λ y l o. absurd (omega arith)))
+      (λ t. let (a, b) = and-true (leb (at (f .released) x) (f .accepted)) _ (sym (if-false (eqb (at (f .released) x) 0) _ _ t) ∙ e) in (
+        (λ z. absurd (eqb-false _ 0 t z)),
+        leb-true _ _ a,
+        λ y l o. eqb-false _ _ (not-true _ (every-true (λ y. not (eqb (at (f .released) y) (at (f .released) x))) x b y l)),
+      ))
+
+  so-number : (at (f .released) x ≡ 0 → at (f .held) x ≡ 0) → at (f .released) x ≤ f .accepted → ((y : ℕ) → y < x → 0 < at (f .released) x → at (f .released) y ≢ at (f .released) x)
+      → numberTest f x ≡ true
+  unfolding numberTest
+  so-number a b c = by-test (eqb (at (f .released) x) 0)
+      (λ t. if-true (eqb (at (f .released) x) 0) _ _ t ∙ eq-eqb _ 0 (a (eqb-true _ 0 t)))
+      (λ t. if-false (eqb (at (f .released) x) 0) _ _ t
+      ∙ true-and (leb (at (f .released) x) (f .accepted)) _ (le-leb _ _ b)
+      (true-every (λ y. not (eqb (at (f .released) y) (at (f .released) x))) x (λ y l. false-not _ (ne-eqb _ _ (c y l (omega (arith, eqb-false (at (f .released) x) 0 t)))))))
+
+-- ---- a task, a lock and the head, by name
+
+module _ (p : Plan) (f : Figures) (w : Words) where
+  record TaskOk (x : ℕ) : Type 0 where
+    depth : at (f .held) x ≤ maxOpen
+    row : RowOk p x (at (f .locks) x) (at (f .held) x)
+    own : (l : ℕ) → holds f x l ≡ true → at (w .owner) l ≡ suc x
+    resting : at (f .released) x ≡ 0 → at (f .held) x ≡ 0
+    number : at (f .released) x ≤ f .accepted
+    differ : (y : ℕ) → y < x → 0 < at (f .released) x → at (f .released) y ≢ at (f .released) x
+    delay : at (f .delay) x ≤ maxDelay
+    kept : at (w .kept) x ≡ keptOf p f (w .running) x
+    saved : at (w .saved) x ≡ savedOf p f x
+
+  task-so : (x : ℕ) → taskTest p f w x ≡ true → TaskOk x
+  unfolding taskTest holds
+  task-so x e =
+      let (e5, s) = and-true _ (eqb (at (w .saved) x) (savedOf p f x)) e in
+      let (e4, k) = and-true _ (eqb (at (w .kept) x) (keptOf p f (w .running) x)) e5 in
+      let (e3, d) = and-true _ (leb (at (f .delay) x) maxDelay) e4 in
+      let (e2, n) = and-true _ (numberTest f x) e3 in
+      let (e1, o) = and-true _ (ownTest w x (at (f .locks) x) (at (f .held) x)) e2 in
+      let (h, r) = and-true (leb (at (f .held) x) maxOpen) (rowTest p x (at (f .locks) x) (at (f .held) x)) e1 in
+      let (n0, n1, n2) = number-so f x n in
+      record {
+        depth = leb-true _ _ h;
+        row = row-so p x _ _ r;
+        own = own-so w x _ _ o;
+        resting = n0;
+        number = n1;
+        differ = n2;
+        delay = leb-true _ _ d;
+        kept = eqb-true _ _ k;
+        saved = eqb-true _ _ s;
+      }
+
+  so-task : (x : ℕ) → TaskOk x → taskTest p f w x ≡ true
+  unfolding taskTest holds
+  so-task x T =
+      true-and _ (eqb (at (w .saved) x) (savedOf p f x))
+      (true-and _ (eqb (at (w .kept) x) (keptOf p f (w .running) x))
+      (true-and _ (leb (at (f .delay) x) maxDelay)
+      (true-and _ (numberTest f x)
+      (true-and _ (ownTest w x (at (f .locks) x) (at (f .held) x))
+      (true-and (leb (at (f .held) x) maxOpen) (rowTest p x (at (f .locks) x) (at (f .held) x)) (le-leb _ _ (T .depth)) (so-row p x _ _ (T .row)))
+      (so-own w x _ _ (T .own)))
+      (so-number f x (T .resting) (T .number) (T .differ)))
+      (le-leb _ _ (T .delay)))
+      (eq-eqb _ _ (T .kept)))
+      (eq-eqb _ _ (T .saved))
+
+  lock-so : (l : ℕ) → lockTest p f w l ≡ true
+      → (at (w .owner) l ≡ ownerOf f (p .tasks) l) × (at (f .units) l ≤ at (p .limit) l) × (at (w .owner) l ≡ 0 → at (f .units) l ≡ 0)
+  unfolding lockTest
+  lock-so l e =
+      let (ab, c) = and-true _ (if eqb (at (w .owner) l) 0 then eqb (at (f .units) l) 0 else true) e in
+      let (a, b) = and-true (eqb (at (w .owner) l) (ownerOf f (p .tasks) l)) (leb (at (f .units) l) (at (p .limit) l)) ab in
+      (eqb-true _ _ a, leb-true _ _ b, λ z. eqb-true _ 0 (sym (if-true (eqb (at (w .owner) l) 0) _ _ (eq-eqb _ 0 z)) ∙ c))
+
+  so-lock : (l : ℕ) → at (w .owner) l ≡ ownerOf f (p .tasks) l → at (f .units) l ≤ at (p .limit) l → (at (w .owner) l ≡ 0 → at (f .units) l ≡ 0) → lockTest p f w l ≡ true
+  unfolding lockTest
+  so-lock l a b c =
+      true-and _ (if eqb (at (w .owner) l) 0 then eqb (at (f .units) l) 0 else true)
+      (true-and (eqb (at (w .owner) l) (ownerOf f (p .tasks) l)) (leb (at (f .units) l) (at (p .limit) l)) (eq-eqb _ _ a) (le-leb _ _ b))
+      (by-test (eqb (at (w .owner) l) 0) (λ t. if-true (eqb (at (w .owner) l) 0) _ _ t ∙ eq-eqb _ 0 (c (eqb-true _ 0 t))) (λ t. if-false (eqb (at (w .owner) l) 0) _ _ t))
+
+  record HeadOk : Type 0 where
+    events : f .accepted ≤ maxAccepted
+    eager : f .calls ≤ f .accepted
+    lazy : w .lazy ≤ f .accepted
+    idle : w .running ≡ nobody → (x : ℕ) → x < p .tasks → at (f .released) x ≡ 0
+    runs : w .running ≢ nobody → (w .running < p .tasks) × (0 < at (f .released) (w .running))
+    user : w .user ≡ rankOf p f (w .running)
+    next : w .next ≡ greatest (keptOf p f (w .running)) (p .tasks)
+
+  head-so : headTest p f w ≡ true → HeadOk
+  unfolding headTest
+  head-so e =
+      let (e4, n) = and-true _ (eqb (w .next) (greatest (keptOf p f (w .running)) (p .tasks))) e in
+      let (e3, u) = and-true _ (eqb (w .user) (rankOf p f (w .running))) e4 in
+      let (e2, r) = and-true _ (if eqb (w .running) nobody then every (λ x. eqb (at (f .released) x) 0) (p .tasks) else ltb (w .running) (p .tasks) && ltb 0 (at (f .released) (w .running))) e3 in
+      let (e1, l) = and-true _ (leb (w .lazy) (f .accepted)) e2 in
+      let (a, g) = and-true (leb (f .accepted) maxAccepted) (leb (f .calls) (f .accepted)) e1 in
+      record {
+        events = leb-true _ _ a;
+        eager = leb-true _ _ g;
+        lazy = leb-true _ _ l;
+        idle = λ z x h. eqb-true _ 0 (every-true (λ x. eqb (at (f .released) x) 0) (p .tasks) (sym (if-true (eqb (w .running) nobody) _ _ (eq-eqb _ _ z)) ∙ r) x h);
+        runs = λ z. let (i, o) = and-true (ltb (w .running) (p .tasks)) (ltb 0 (at (f .released) (w .running))) (sym (if-false (eqb (w .running) nobody) _ _ (ne-eqb _ _ z)) ∙ r) in (ltb-true _ _ i, ltb-true 0 _ o);
+        user = eqb-true _ _ u;
+        next = eqb-true _ _ n;
+      }
+
+  so-head : HeadOk → headTest p f w ≡ true
+  unfolding headTest
+  so-head H =
+      true-and _ (eqb (w .next) (greatest (keptOf p f (w .running)) (p .tasks)))
+      (true-and _ (eqb (w .user) (rankOf p f (w .running)))
+      (true-and _ (if eqb (w .running) nobody then every (λ x. eqb (at (f .released) x) 0) (p .tasks) else ltb (w .running) (p .tasks) && ltb 0 (at (f .released) (w .running)))
+      (true-and _ (leb (w .lazy) (f .accepted))
+      (true-and (leb (f .accepted) maxAccepted) (leb (f .calls) (f .accepted)) (le-leb _ _ (H .events)) (le-leb _ _ (H .eager)))
+      (le-leb _ _ (H .lazy)))
+      (by-test (eqb (w .running) nobody)
+      (λ t. if-true (eqb (w .running) nobody) _ _ t ∙ true-every (λ x. eqb (at (f .released) x) 0) (p .tasks) (λ x h. eq-eqb _ 0 (H .idle (eqb-true _ _ t) x h)))
+      (λ t. let (i, o) = H .runs (eqb-false _ _ t) in
+      if-false (eqb (w .running) nobody) _ _ t ∙ true-and (ltb (w .running) (p .tasks)) (ltb 0 (at (f .released) (w .running))) (lt-ltb _ _ i) (lt-ltb 0 _ o))))
+      (eq-eqb _ _ (H .user)))
+      (eq-eqb _ _ (H .next))
+
+-- ---- places past the last task and the last lock
+
+record SpareOk (p : Plan) (s : State) : Type 0 where
+  released : (x : ℕ) → p .tasks ≤ x → at (s .released) x ≡ 0
+  kept : (x : ℕ) → p .tasks ≤ x → at (s .kept) x ≡ 0
+  delay : (x : ℕ) → p .tasks ≤ x → at (s .delay) x ≡ 0
+  held : (x : ℕ) → p .tasks ≤ x → at (s .held) x ≡ 0
+  locks : (x : ℕ) → p .tasks ≤ x → at (s .locks) x ≡ 0
+  saved : (x : ℕ) → p .tasks ≤ x → at (s .saved) x ≡ 0
+  units : (l : ℕ) → p .locks ≤ l → at (s .units) l ≡ 0
+  owner : (l : ℕ) → p .locks ≤ l → at (s .owner) l ≡ 0
+
+module _ (p : Plan) (s : State) where
+  spare-so : spareTest p s ≡ true → SpareOk p s
+  unfolding spareTest
+  spare-so e =
+      let (e6, o) = and-true _ (zeros (drop (p .locks) (s .owner))) e in
+      let (e5, u) = and-true _ (zeros (drop (p .locks) (s .units))) e6 in
+      let (e4, v) = and-true _ (zeros (drop (p .tasks) (s .saved))) e5 in
+      let (e3, l) = and-true _ (zeros (drop (p .tasks) (s .locks))) e4 in
+      let (e2, h) = and-true _ (zeros (drop (p .tasks) (s .held))) e3 in
+      let (e1, d) = and-true _ (zeros (drop (p .tasks) (s .delay))) e2 in
+      let (r, k) = and-true (zeros (drop (p .tasks) (s .released))) (zeros (drop (p .tasks) (s .kept))) e1 in
+      record {
+        released = spare-at (p .tasks) (s .released) r;
+        kept = spare-at (p .tasks) (s .kept) k;
+        delay = spare-at (p .tasks) (s .delay) d;
+        held = spare-at (p .tasks) (s .held) h;
+        locks = spare-at (p .tasks) (s .locks) l;
+        saved = spare-at (p .tasks) (s .saved) v;
+        units = spare-at (p .locks) (s .units) u;
+        owner = spare-at (p .locks) (s .owner) o;
+      }
+
+  so-spare : SpareOk p s → spareTest p s ≡ true
+  unfolding spareTest
+  so-spare S =
+      true-and _ (zeros (drop (p .locks) (s .owner)))
+      (true-and _ (zeros (drop (p .locks) (s .units)))
+      (true-and _ (zeros (drop (p .tasks) (s .saved)))
+      (true-and _ (zeros (drop (p .tasks) (s .locks)))
+      (true-and _ (zeros (drop (p .tasks) (s .held)))
+      (true-and _ (zeros (drop (p .tasks) (s .delay)))
+      (true-and (zeros (drop (p .tasks) (s .released))) (zeros (drop (p .tasks) (s .kept))) (at-spare _ _ (S .released)) (at-spare _ _ (S .kept)))
+      (at-spare _ _ (S .delay)))
+      (at-spare _ _ (S .held)))
+      (at-spare _ _ (S .locks)))
+      (at-spare _ _ (S .saved)))
+      (at-spare _ _ (S .units)))
+      (at-spare _ _ (S .owner))
+
+-- without open locks nothing is saved
+pub unsaved-by : (p : Plan) (f : Figures) (x : ℕ) → at (f .held) x ≡ 0 → savedOf p f x ≡ 0
+unfolding savedOf
+unsaved-by p f x z = ap (saves (at (p .ceiling)) (at (p .base) x) (at (f .locks) x)) z ∙ saves-none (at (p .ceiling)) (at (p .base) x) (at (f .locks) x)
+
+-- ---- together
+
+module _ (p : Plan) (s : State) where
+  abbrev f : Figures
+  f = figuresOf s
+
+  abbrev w : Words
+  w = wordsOf s
+
+  abbrev n : ℕ
+  n = p .tasks
+
+  module _ (H : HeadOk p f w) (T : (x : ℕ) → x < n → TaskOk p f w x)
+      (L : (l : ℕ) → l < p .locks → (at (w .owner) l ≡ ownerOf f n l) × (at (f .units) l ≤ at (p .limit) l) × (at (w .owner) l ≡ 0 → at (f .units) l ≡ 0)) (S : SpareOk p s) where
+    -- of each task: one of the plan's, or all 0
+    each : (P : ℕ → Type 0) → ((x : ℕ) → x < n → P x) → ((x : ℕ) → n ≤ x → P x) → (x : ℕ) → P x
+    each P a b x = ⊎-elim (a x) (b x) (lt-or-le x n)
+
+    none-held : (x l : ℕ) → n ≤ x → holds f x l ≡ false
+    unfolding holds
+    none-held x l h = ap (λ k. has (at (f .locks) x) k l) (S .held x h) ∙ has-none (at (f .locks) x) l
+
+    mine : (x l : ℕ) → holds f x l ≡ true → (x < n) × (at (w .owner) l ≡ suc x)
+    mine x l h = ⊎-elim (λ q. (q, T x q .own l h)) (λ q. untrue (sym h ∙ none-held x l q)) (lt-or-le x n)
+
+    known : (x l : ℕ) → holds f x l ≡ true → l < p .locks
+    unfolding holds
+    known x l h = T x (mine x l h .0) .row .known l h
+
+    allowed : (x l : ℕ) → holds f x l ≡ true → declares p x l ≡ true
+    unfolding holds
+    allowed x l h = T x (mine x l h .0) .row .declared l h
+
+    figured : Figured p f
+    unfolding distinct
+    figured = record {
+      events = H .events;
+      numbers = each (λ x. at (f .released) x ≤ f .accepted) (λ x h. T x h .number) (λ x h. omega (arith, S .released x h));
+      differ = λ x y o e. apart x y o e;
+      eager = H .eager;
+      depth = each (λ x. at (f .held) x ≤ maxOpen) (λ x h. T x h .depth) (λ x h. omega (arith, S .held x h));
+      known = known;
+      declared = allowed;
+      resting = each (λ x. at (f .released) x ≡ 0 → at (f .held) x ≡ 0) (λ x h. T x h .resting) (λ x h z. S .held x h);
+      once = each (λ x. distinct (at (f .locks) x) (at (f .held) x) ≡ true) (λ x h. T x h .row .once) (λ x h. ap (distinct (at (f .locks) x)) (S .held x h));
+      alone = λ x y l h k. omega (arith, mine x l h .1, mine y l k .1);
+      limits = λ l. ⊎-elim (λ h. L l h .1) (λ h. omega (arith, S .units l h)) (lt-or-le l (p .locks));
+      delays = each (λ x. at (f .delay) x ≤ maxDelay) (λ x h. T x h .delay) (λ x h. omega (arith, S .delay x h));
+      closed = λ l h. ⊎-elim (λ q. L l q .2 (L l q .0 ∙ owner-none f l n (λ x i. h x))) (λ q. S .units l q) (lt-or-le l (p .locks));
+      places = each (λ x. at (f .locks) x < 256 ^ at (f .held) x) (λ x h. T x h .row .places) (λ x h. rw (S .locks x h, S .held x h) (omega arith));
+      noTask = λ x h. (S .released x h, S .delay x h);
+    }
+      where
+        apart : (x y : ℕ) → 0 < at (f .released) x → at (f .released) x ≡ at (f .released) y → x ≡ y
+        apart x y o e = ⊎-elim
+            (λ hx. ⊎-elim
+            (λ hy. ⊎-elim (λ l. absurd (T y hy .differ x l (omega arith) e)) (λ l. ⊎-elim (λ q. absurd (T x hx .differ y q o (sym e))) (λ q. omega arith) (lt-or-le y x)) (lt-or-le x y))
+            (λ hy. absurd (omega (arith, S .released y hy))) (lt-or-le y n))
+            (λ hx. absurd (omega (arith, S .released x hx))) (lt-or-le x n)
+
+    worded : Worded p f w
+    worded = record {
+      idle = λ e. each (λ x. at (f .released) x ≡ 0) (H .idle e) (S .released);
+      runs = λ e. H .runs e .1;
+      user = H .user;
+      next = H .next;
+      kept = each (λ x. at (w .kept) x ≡ keptOf p f (w .running) x) (λ x h. T x h .kept)
+          (λ x h. S .kept x h ∙ sym (at-or (λ x. at (f .released) x ≡ 0 → keptOf p f (w .running) x ≡ 0) (w .running) (λ _. kept-own p f (w .running)) (λ x m z. kept-other p f (w .running) x m ∙ rank-in p f x z) x (S .released x h)));
+      saved = each (λ x. at (w .saved) x ≡ savedOf p f x) (λ x h. T x h .saved) (λ x h. S .saved x h ∙ sym (unsaved-by p f x (S .held x h)));
+      owner = λ l. ⊎-elim (λ h. L l h .0) (λ h. S .owner l h ∙ sym (owner-none f l n (λ x i. not-so (holds f x l) (λ k. omega (arith, known x l k))))) (lt-or-le l (p .locks));
+      lazy = H .lazy;
+    }
+
+  sound-so : soundTest p s ≡ true → Sound p s
+  unfolding soundTest
+  sound-so e =
+      let (e3, sp) = and-true _ (spareTest p s) e in
+      let (e2, lo) = and-true _ (every (lockTest p f w) (p .locks)) e3 in
+      let (e1, ta) = and-true _ (every (taskTest p f w) n) e2 in
+      let (ob, he) = and-true (obeys p) (headTest p f w) e1 in
+      let H : HeadOk p f w = head-so p f w he in
+      let T : (x : ℕ) → x < n → TaskOk p f w x = λ x h. task-so p f w x (every-true (taskTest p f w) n ta x h) in
+      let L : (l : ℕ) → l < p .locks → (at (w .owner) l ≡ ownerOf f n l) × (at (f .units) l ≤ at (p .limit) l) × (at (w .owner) l ≡ 0 → at (f .units) l ≡ 0) =
+      λ l h. lock-so p f w l (every-true (lockTest p f w) (p .locks) lo l h) in
+      let S : SpareOk p s = spare-so p s sp in
+      record { plan = obeys-so p ob; figures = figured H T L S; words = worded H T L S }
+
+  module _ (X : Sound p s) where
+    owned : (x l : ℕ) → holds f x l ≡ true → at (w .owner) l ≡ suc x
+    owned x l h = X .words .owner l ∙ owner-is f l x n (inside (X .figures) x (holder-out (X .figures) x l h)) h (λ y k. X .figures .alone y x l k h)
+
+    so-tasks : (x : ℕ) → x < n → TaskOk p f w x
+    unfolding holds
+    so-tasks x h = record {
+      depth = X .figures .depth x;
+      row = record { known = X .figures .known x; declared = X .figures .declared x; once = X .figures .once x; places = X .figures .places x };
+      own = owned x;
+      resting = X .figures .resting x;
+      number = X .figures .numbers x;
+      differ = λ y l o e. omega (arith, X .figures .differ x y o (sym e));
+      delay = X .figures .delays x;
+      kept = X .words .kept x;
+      saved = X .words .saved x;
+    }
+
+    unowned : (l : ℕ) → at (w .owner) l ≡ 0 → (x : ℕ) → holds f x l ≡ false
+    unowned l z x = not-so (holds f x l) (λ h. omega (arith, owned x l h))
+
+    so-spares : SpareOk p s
+    so-spares = record {
+      released = λ x h. X .figures .noTask x h .0;
+      kept = λ x h. X .words .kept x ∙ at-or (λ x. at (f .released) x ≡ 0 → keptOf p f (w .running) x ≡ 0) (w .running) (λ _. kept-own p f (w .running)) (λ x m z. kept-other p f (w .running) x m ∙ rank-in p f x z) x (X .figures .noTask x h .0);
+      delay = λ x h. X .figures .noTask x h .1;
+      held = empty;
+      locks = λ x h. let q : at (f .locks) x < 256 ^ 0 = subst (λ k. at (f .locks) x < 256 ^ k) (empty x h) (X .figures .places x) in omega arith;
+      saved = λ x h. X .words .saved x ∙ unsaved-by p f x (empty x h);
+      units = λ l h. X .figures .closed l (far l h);
+      owner = λ l h. X .words .owner l ∙ owner-none f l n (λ x i. far l h x);
+    }
+      where
+        empty : (x : ℕ) → n ≤ x → at (f .held) x ≡ 0
+        empty x h = X .figures .resting x (X .figures .noTask x h .0)
+
+        far : (l : ℕ) → p .locks ≤ l → (x : ℕ) → holds f x l ≡ false
+        far l h x = not-so (holds f x l) (λ k. omega (arith, X .figures .known x l k))
+
+    so-sound : soundTest p s ≡ true
+    unfolding soundTest
+    so-sound =
+        true-and _ (spareTest p s)
+        (true-and _ (every (lockTest p f w) (p .locks))
+        (true-and _ (every (taskTest p f w) n)
+        (true-and (obeys p) (headTest p f w) (so-obeys p (X .plan)) (so-head p f w (record {
+          events = X .figures .events;
+          eager = X .figures .eager;
+          lazy = X .words .lazy;
+          idle = λ e x h. X .words .idle e x;
+          runs = λ e. (inside (X .figures) (w .running) (X .words .runs e), X .words .runs e);
+          user = X .words .user;
+          next = X .words .next;
+        })))
+        (true-every (taskTest p f w) n (λ x h. so-task p f w x (so-tasks x h))))
+        (true-every (lockTest p f w) (p .locks) (λ l h. so-lock p f w l (X .words .owner l) (X .figures .limits l) (λ z. X .figures .closed l (unowned l z)))))
+        (so-spare p s so-spares)
+
+-- the test decides soundness
+pub sound-is : (p : Plan) (s : State) → (soundTest p s ≡ true) ↔ Sound p s
+sound-is p s = (sound-so p s, so-sound p s)

@@ -1,0 +1,44 @@
+use crate::event::Event;
+use crate::plan::Plan;
+use crate::refusal::Refusal;
+use crate::state::State;
+
+// What the tests of an event come to.
+pub enum Tested {
+    Passed,
+    Refused(Refusal),
+}
+
+// What a step answers: the event is accepted, with whether the lazy scheduler called the kernel, or
+// it is refused.
+pub enum Answer {
+    Accepted(bool),
+    Refused(Refusal),
+}
+
+// What a check of records, or the run of a list of events, comes to: nothing is refused, or the
+// first offender is, at its place.
+pub enum Verdict {
+    Passed,
+    Refused(Refusal, usize),
+}
+
+// What stands at a place of the event body: an event, with the next place; a record that is
+// refused, at its place; or no whole record.
+pub enum Found {
+    Got(Event, usize),
+    Refused(Refusal, usize),
+    End,
+}
+
+// A plan that was loaded, or the blank plan beside a refusal.
+pub struct Loaded {
+    pub verdict: Verdict,
+    pub plan: Plan,
+}
+
+// The answer of a step and the state after it, which is the given one where the event is refused.
+pub struct Stepped {
+    pub answer: Answer,
+    pub state: State,
+}

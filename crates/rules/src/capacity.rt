@@ -1,0 +1,21 @@
+// How much the recorder holds. specs/Capacity.antt names the same numbers; no other file writes them.
+
+pub const MAX_TASKS: usize = 96;
+
+pub const MAX_LOCKS: usize = 32;
+
+pub const MAX_USES: usize = 3072;
+
+pub const MAX_EVENTS: usize = 12000;
+
+// Locks that one task may have open at a time.
+pub const MAX_OPEN: u8 = 8;
+
+// Events that are accepted before a state is exhausted.
+pub const MAX_ACCEPTED: u32 = 1000000;
+
+// Where the count of a delay sticks.
+pub const MAX_DELAY: u16 = 65535;
+
+// The running task's byte where nobody runs.
+pub const NOBODY: u8 = 255;

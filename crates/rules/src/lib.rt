@@ -1,0 +1,9 @@
+// The types of the recorder's scheduler, as document 01 names them. What each must do is in specs/,
+// and that the rules keep the demands is proved in proofs/.
+pub mod answer;
+pub mod capacity;
+pub mod event;
+pub mod plan;
+pub mod priority;
+pub mod refusal;
+pub mod state;

@@ -7,26 +7,25 @@ use native.Mathlib.Omega.{arith}
 use lib.ListN.{set}
 use lib.Seq.{getD-set-same, getD-set-other}
 use Rattle.rules.specs.Capacity.{maxTasks, maxLocks, maxAccepted, maxDelay, nobody}
-use Rattle.rules.specs.Choice.{if_then_else_}
 use Rattle.rules.specs.Place.{at, any, greatest}
 use Rattle.rules.specs.Row.{under, priority}
 use Rattle.rules.specs.Plan.{Obeys, declares}
 use Rattle.rules.specs.Figures.{Figures, freshFigures, holds, priorityOf}
 use Rattle.rules.specs.Move.{movedOf}
 use Rattle.rules.specs.Eager.{runningOf, settle, eagerTest, eagerStep}
-use Rattle.rules.specs.Bound.{mayBlock, boundOf}
+use Rattle.rules.specs.Bound.{mayBlock, limitIf, longestLimit, boundOf}
 use Rattle.rules.specs.declared.plan.Plan.{Plan}
 use Rattle.rules.specs.declared.answer.Tested.{Tested}
 use Rattle.rules.specs.declared.event.Event.{Event}
 use Rattle.rules.specs.declared.event.Event.the-variants.{Release, Acquire, Unlock, Work, Finish, Tick}
-use Rattle.rules.proofs.Choice.{if-true, by-test, either, untrue, at-or}
+use Rattle.rules.proofs.Choice.{by-test, untrue, at-or}
 use Rattle.rules.proofs.Place.{zero-past, greatest-all, greatest-least}
 use Rattle.rules.proofs.Obeyed.{few-locks}
 use Rattle.rules.proofs.Passed.{Releasable, Takeable, Givable, Workable, Finishable, Allowed, passed-room, allowed}
 use Rattle.rules.proofs.Figured as Figured
 use Rattle.rules.proofs.Figured.{Stage, inside}
 use Rattle.rules.proofs.Worded.{Same, same-priority, cleared}
-use Rattle.rules.proofs.Rules.{base-priority, plain-priority, charged-open, charged-closed, Counts, delayed-cases, blocks}
+use Rattle.rules.proofs.Rules.{base-priority, plain-priority, charged-open, charged-closed, Counts, delayed-cases, blocks, limit-blocks, limit-else}
 use Rattle.rules.proofs.Urgency as Urgency
 use Rattle.rules.proofs.Urgency.{Best}
 use Rattle.rules.proofs.EagerRuled.{standing, Ruled, good, stage, runs-best, runner-out}
@@ -47,19 +46,15 @@ pub record Late (p : Plan) (f : Figures) : Type 0 where
 
 -- a lock that may hold up t has a limit within the bound
 pub bound-limit : (p : Plan) (t x l : ℕ) → x < p .tasks → l < p .locks → declares p x l ≡ true → at (p .base) x < at (p .base) t → at (p .base) t ≤ at (p .ceiling) l → at (p .limit) l ≤ boundOf p t
-unfolding boundOf
+unfolding longestLimit
 bound-limit p t x l hx hl d lo hi =
-    omega (
-      arith,
-      greatest-all (λ v. if mayBlock p (at (p .base) t) v then at (p .limit) v else 0) (p .locks) l hl,
-      if-true (mayBlock p (at (p .base) t) l) (at (p .limit) l) 0 (blocks p (at (p .base) t) l x hi hx d lo),
-    )
+    omega (arith, greatest-all (limitIf p (at (p .base) t)) (p .locks) l hl, limit-blocks p (at (p .base) t) l (blocks p (at (p .base) t) l x hi hx d lo))
 
 -- a bound fits two bytes, so a delay within it does not stick
 pub bound-small : {p : Plan} → Obeys p → (t : ℕ) → boundOf p t ≤ maxDelay
-unfolding boundOf
-bound-small {p} O t = greatest-least (λ l. if mayBlock p (at (p .base) t) l then at (p .limit) l else 0) maxDelay (p .locks)
-    (λ l h. either (λ v. v ≤ maxDelay) (mayBlock p (at (p .base) t) l) (at (p .limit) l) 0 (omega (arith, O .limitBytes l)) (omega arith))
+unfolding longestLimit
+bound-small {p} O t = greatest-least (limitIf p (at (p .base) t)) maxDelay (p .locks)
+    (λ l h. by-test (mayBlock p (at (p .base) t) l) (λ e. omega (arith, limit-blocks p (at (p .base) t) l e, O .limitBytes l)) (λ e. omega (arith, limit-else p (at (p .base) t) l e)))
 
 -- ---- the oldest lock of the running task, when it takes a lock or gives it back
 

@@ -5,6 +5,7 @@ pub mod Row
 pub mod Rules
 pub mod Mask
 pub mod Obeyed
+pub mod Checks
 pub mod Loaded
 pub mod Passed
 pub mod Figured

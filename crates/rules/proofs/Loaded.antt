@@ -2,7 +2,7 @@
 use mathlib.Core.Path.{_≡_, refl, sym, _∙_, ap, ap₂, subst}
 use mathlib.Core.Logic.{_≢_, _⊎_, inl, inr, ⊎-elim}
 use mathlib.Core.Bool.{Bool, true, false, not, _&&_, _||_}
-use mathlib.Core.List.{List, [], _∷_, _++_}
+use mathlib.Core.List.{List}
 use Prim.Native.Nat.{ℕ, zero, suc, _+_, _-_, _/_, _%_, _^_, _≤_, _<_}
 use native.Mathlib.Nat.{not-suc-le-zero}
 use native.Mathlib.Omega.{arith}
@@ -13,46 +13,15 @@ use lib.Pow.{pow-pos}
 use borrow.Author.Tests.{eqb-true, eqb-false, ltb-true, ltb-false, leb-false, not-false, eq-eqb, ne-eqb}
 use Rattle.rules.specs.Capacity.{maxTasks, maxLocks}
 use Rattle.rules.specs.Choice.{if_then_else_}
-use Rattle.rules.specs.Place.{at, any, firstFrom, from, tabulate}
-use Rattle.rules.specs.Refusal.{Check, found, firstFault}
+use Rattle.rules.specs.Place.{at, any, tabulate}
 use Rattle.rules.specs.Mask.{hasBit, withBit}
 use Rattle.rules.specs.Plan.{most, countFault, taskFault, lockFault, declares, ceilingFault, Obeys}
-use Rattle.rules.specs.Load.{taskBase, taskSecond, lockCeiling, lockSecond, lockLimit, useTask, useLock, useKey, useFault, masksOf, planOf, recordCount, loadChecks}
+use Rattle.rules.specs.Load.{taskBase, taskSecond, lockCeiling, lockSecond, lockLimit, useTask, useLock, useKey, taskFaultAt, lockFaultAt, countFaultOf, useFault, masksOf, planOf, recordChecks, loadChecks}
 use Rattle.rules.specs.declared.plan.Plan.{Plan}
-use Rattle.rules.specs.declared.refusal.Refusal.{Refusal}
-use Rattle.rules.specs.declared.refusal.Refusal.the-variants.{WrongCount, WrongTask, WrongLock, WrongUse, WrongCeiling}
-use Rattle.rules.specs.declared.answer.Verdict.{Verdict}
-use Rattle.rules.proofs.Choice.{if-true, if-false, by-test, untrue, or-false, false-or, at-or, lt-or-le}
-use Rattle.rules.proofs.Place.{zero-past, first-within, first-none, length-from, getD-tabulate}
+use Rattle.rules.proofs.Choice.{by-test, or-false, false-or, at-or, lt-or-le}
+use Rattle.rules.proofs.Place.{zero-past, length-from, getD-tabulate}
+use Rattle.rules.proofs.Checks.{AllClean}
 use Rattle.rules.proofs.Mask.{bit-none, with-has, with-below}
-
--- ---- checks in order
-
--- no record offends
-abbrev pub Clean : Check → Type 0
-Clean c = (i : ℕ) → i < c .count → c .fault i ≡ false
-
-unfoldable pub AllClean : List Check → Type 0
-AllClean [] = Unit {0}
-AllClean (c ∷ cs) = Clean c × AllClean cs
-
-pub refused-not : {P : Type 0} (why : Refusal) (place : ℕ) → Verdict.Refused why place ≡ Verdict.Passed → P
-refused-not why place e = let z : _≡_ {A = ℕ} 0 1 = cc in absurd (omega arith)
-
-pub clean : (cs : List Check) → firstFault cs ≡ Verdict.Passed → AllClean cs
-unfolding AllClean firstFault found
-clean [] e = tt
-clean (c ∷ cs) e = by-test (ltb (firstFrom (c .fault) 0 (c .count)) (c .count))
-    (λ q. refused-not (c .refusal) _ (sym (if-true (ltb (firstFrom (c .fault) 0 (c .count)) (c .count)) _ (firstFault cs) q) ∙ e))
-    (λ q. (
-      λ i h. first-none (c .fault) 0 (c .count) (omega (arith, ltb-false (firstFrom (c .fault) 0 (c .count)) (c .count) q)) i (omega arith) (omega arith),
-      clean cs (sym (if-false (ltb (firstFrom (c .fault) 0 (c .count)) (c .count)) _ (firstFault cs) q) ∙ e),
-    ))
-
-pub clean-left : (cs ds : List Check) → AllClean (cs ++ ds) → AllClean cs × AllClean ds
-unfolding AllClean
-clean-left [] ds h = (tt, h)
-clean-left (c ∷ cs) ds h = let (a, b) = clean-left cs ds (h .1) in ((h .0, a), b)
 
 -- ---- places of the plan
 
@@ -118,30 +87,42 @@ module _ (uses : List ℕ) where
         or-none true = refl
         or-none false = refl
 
+-- ---- what a record that is no offender is
+
+pub tasks-fit : (n m u : ℕ) → countFaultOf n m u 0 ≡ false → n ≤ maxTasks
+unfolding countFaultOf countFault most if_then_else_
+tasks-fit n m u e = ltb-false maxTasks n (or-false (eqb n 0) (ltb maxTasks n) e .1)
+
+pub locks-fit : (n m u : ℕ) → countFaultOf n m u 1 ≡ false → m ≤ maxLocks
+unfolding countFaultOf countFault most if_then_else_
+locks-fit n m u e = ltb-false maxLocks m e
+
+pub use-known : (n m : ℕ) (uses : List ℕ) (i : ℕ) → useFault n m uses i ≡ false → (useTask (at uses i) < n) × (useLock (at uses i) < m)
+unfolding useFault
+use-known n m uses i e =
+    let (ab, _) = or-false (leb n (useTask (at uses i)) || leb m (useLock (at uses i))) _ e in
+    let (a, b) = or-false (leb n (useTask (at uses i))) (leb m (useLock (at uses i))) ab in
+    (leb-false _ _ a, leb-false _ _ b)
+
 -- ---- a plan that is loaded
 
 module _ (tasks locks uses : List ℕ) (C : AllClean (loadChecks tasks locks uses)) where
   abbrev p : Plan
   p = planOf tasks locks uses
 
-  counts : (e : ℕ) → e < 3 → countFault e (recordCount tasks locks uses e) ≡ false
-  unfolding loadChecks AllClean
+  counts : (e : ℕ) → e < 3 → countFaultOf (length tasks) (length locks) (length uses) e ≡ false
+  unfolding loadChecks recordChecks AllClean
   counts = C .0
 
   few-tasks : length tasks ≤ maxTasks
-  unfolding countFault most if_then_else_
-  few-tasks = ltb-false maxTasks (length tasks) (or-false (eqb (length tasks) 0) (ltb maxTasks (length tasks)) (counts 0 (omega arith)) .1)
+  few-tasks = tasks-fit (length tasks) (length locks) (length uses) (counts 0 (omega arith))
 
   few-locks : length locks ≤ maxLocks
-  unfolding countFault most if_then_else_
-  few-locks = ltb-false maxLocks (length locks) (counts 1 (omega arith))
+  few-locks = locks-fit (length tasks) (length locks) (length uses) (counts 1 (omega arith))
 
   known-use : (i : ℕ) → i < length uses → (useTask (at uses i) < length tasks) × (useLock (at uses i) < length locks)
-  unfolding loadChecks AllClean useFault
-  known-use i h =
-      let (ab, _) = or-false (leb (length tasks) (useTask (at uses i)) || leb (length locks) (useLock (at uses i))) _ (C .1 .1 .1 .0 i h) in
-      let (a, b) = or-false (leb (length tasks) (useTask (at uses i))) (leb (length locks) (useLock (at uses i))) ab in
-      (leb-false _ _ a, leb-false _ _ b)
+  unfolding loadChecks recordChecks AllClean
+  known-use i h = use-known (length tasks) (length locks) uses i (C .1 .1 .1 .0 i h)
 
   loaded-base : (t : ℕ) → at (p .base) t ≡ taskBase (at tasks t)
   unfolding planOf
@@ -159,11 +140,11 @@ module _ (tasks locks uses : List ℕ) (C : AllClean (loadChecks tasks locks use
       (λ h. past-table maxLocks (λ l. lockLimit (at locks l)) l h ∙ sym (ap lockLimit (past-end locks l (omega (arith, few-locks))))) (lt-or-le l maxLocks)
 
   task-clean : (t : ℕ) → t < length tasks → taskFault (at (p .base) t) 0 ≡ false
-  unfolding loadChecks AllClean taskFault
+  unfolding loadChecks recordChecks AllClean taskFaultAt taskFault
   task-clean t h = rw (loaded-base t) (false-or (eqb (taskBase (at tasks t)) 0) (not (eqb 0 0)) (or-false (eqb (taskBase (at tasks t)) 0) _ (C .1 .0 t h) .0) refl)
 
   lock-clean : (l : ℕ) → l < length locks → lockFault (at (p .ceiling) l) 0 (at (p .limit) l) ≡ false
-  unfolding loadChecks AllClean lockFault
+  unfolding loadChecks recordChecks AllClean lockFaultAt lockFault
   lock-clean l h =
       let (ab, c) = or-false (eqb (lockCeiling (at locks l)) 0 || not (eqb (lockSecond (at locks l)) 0)) (eqb (lockLimit (at locks l)) 0) (C .1 .1 .0 l h) in
       rw (loaded-ceiling l, loaded-limit l)
@@ -171,7 +152,7 @@ module _ (tasks locks uses : List ℕ) (C : AllClean (loadChecks tasks locks use
       (false-or (eqb (lockCeiling (at locks l)) 0) (not (eqb 0 0)) (or-false (eqb (lockCeiling (at locks l)) 0) _ ab .0) refl) c)
 
   pub loaded-obeys : Obeys p
-  unfolding planOf loadChecks AllClean if_then_else_
+  unfolding planOf loadChecks recordChecks AllClean countFaultOf if_then_else_
   loaded-obeys = record {
     tasks = counts 0 (omega arith);
     locks = counts 1 (omega arith);

@@ -3,12 +3,12 @@ use mathlib.Core.Path.{_≡_, refl, sym, _∙_, ap, ap₂, subst}
 use mathlib.Core.Logic.{_≢_, _⊎_, inl, inr, ⊎-elim}
 use mathlib.Core.Bool.{Bool, true, false, _&&_, _||_}
 use mathlib.Core.List.{List, [], _∷_}
-use Prim.Native.Nat.{ℕ, zero, suc, _+_, _-_, _≤_, _<_, max}
+use Prim.Native.Nat.{ℕ, zero, suc, _+_, _-_, _≤_, _<_, min, max}
 use native.Mathlib.Numerals.{add-one}
-use native.Mathlib.Nat.{eq-or-lt-of-le, le-of-suc-le-suc, not-suc-le-zero}
+use native.Mathlib.Nat.{le-antisymm, eq-or-lt-of-le, le-of-suc-le-suc, not-suc-le-zero}
 use native.Mathlib.Omega.{arith}
 use lib.Dec.{eqb}
-use lib.ListN.{length, getD, set, drop, length-set, replicate}
+use lib.ListN.{length, getD, set, drop, length-set, replicate, length-replicate}
 use lib.Seq.{getD-set-same, getD-set-other, ext-getD}
 use borrow.Author.Tests.{eqb-true, eq-eqb}
 use Rattle.rules.specs.Choice.{if_then_else_}
@@ -32,19 +32,23 @@ module _ (f : ℕ → Bool) where
   true-every zero h = refl
   true-every (suc k) h = rw (true-every k (λ x l. h x (omega arith)), h k (omega arith))
 
-  pub every-none : every f 0 ≡ true
-  unfolding every
-  every-none = refl
+  -- a loop that has found f at the first i of n places
+  abbrev pub AllSoFar : ℕ → ℕ → Type 0
+  AllSoFar n i = (i ≤ n) × (every f i ≡ true)
 
-  pub every-next : (i : ℕ) → every f i ≡ true → f i ≡ true → every f (i + 1) ≡ true
+  pub every-start : (n : ℕ) → AllSoFar n 0
   unfolding every
-  every-next i e h = rw (add-one i) (rw (e, h))
+  every-start n = (omega arith, refl)
+
+  pub every-next : (n i : ℕ) → AllSoFar n i → i < n → f i ≡ true → AllSoFar n (i + 1)
+  unfolding every
+  every-next n i e l h = (omega arith, rw (add-one i) (rw (e .1, h)))
 
   pub every-fails : (n i : ℕ) → i < n → f i ≡ false → false ≡ every f n
   every-fails n i l h = by-test (every f n) (λ e. untrue (sym (every-true n e i l) ∙ h)) (λ e. sym e)
 
-  pub every-ends : (n i : ℕ) → i ≤ n → n ≤ i → every f i ≡ true → true ≡ every f n
-  every-ends n i a b e = let q : i ≡ n = omega arith in sym e ∙ ap (every f) q
+  pub every-ends : (n i : ℕ) → AllSoFar n i → n ≤ i → true ≡ every f n
+  every-ends n i e b = let q : i ≡ n = omega arith in sym (e .1) ∙ ap (every f) q
 
   -- ---- any
 
@@ -67,39 +71,58 @@ module _ (f : ℕ → Bool) where
   pub some-any : (n x : ℕ) → x < n → f x ≡ true → any f n ≡ true
   some-any n x l h = by-test (any f n) (λ e. e) (λ e. untrue (sym h ∙ any-false n e x l))
 
-  pub any-none : any f 0 ≡ false
-  unfolding any
-  any-none = refl
+  -- a loop that has found f at none of the first i of n places
+  abbrev pub NoneSoFar : ℕ → ℕ → Type 0
+  NoneSoFar n i = (i ≤ n) × (any f i ≡ false)
 
-  pub any-next : (i : ℕ) → any f i ≡ false → f i ≡ false → any f (i + 1) ≡ false
+  pub any-start : (n : ℕ) → NoneSoFar n 0
   unfolding any
-  any-next i e h = rw (add-one i) (rw (e, h))
+  any-start n = (omega arith, refl)
+
+  pub any-next : (n i : ℕ) → NoneSoFar n i → i < n → f i ≡ false → NoneSoFar n (i + 1)
+  unfolding any
+  any-next n i e l h = (omega arith, rw (add-one i) (rw (e .1, h)))
 
   pub any-found : (n i : ℕ) → i < n → f i ≡ true → true ≡ any f n
   any-found n i l h = sym (some-any n i l h)
 
-  pub any-ends : (n i : ℕ) → i ≤ n → n ≤ i → any f i ≡ false → false ≡ any f n
-  any-ends n i a b e = let q : i ≡ n = omega arith in sym e ∙ ap (any f) q
+  pub any-ends : (n i : ℕ) → NoneSoFar n i → n ≤ i → false ≡ any f n
+  any-ends n i e b = let q : i ≡ n = omega arith in sym (e .1) ∙ ap (any f) q
+
+  -- where f holds at no place from k on, the places below k are enough
+  pub any-clamped : (n k : ℕ) → ((x : ℕ) → k ≤ x → f x ≡ false) → any f (min n k) ≡ any f n
+  any-clamped n k h = ⊎-elim
+      (λ (q : n < k). let e : min n k ≡ n = omega arith in ap (any f) e)
+      (λ (q : k ≤ n). let e : min n k ≡ k = omega arith in ap (any f) e ∙ by-test (any f n)
+      (λ t. let (x, l, u) = any-some n t in some-any k x (⊎-elim (λ (b : x < k). b) (λ (b : k ≤ x). untrue (sym u ∙ h x b)) (lt-or-le x k)) u ∙ sym t)
+      (λ t. false-any k (λ x l. any-false n t x (omega arith)) ∙ sym t))
+      (lt-or-le n k)
 
   -- ---- count
 
-  pub count-none : 0 ≡ count f 0
-  unfolding count
-  count-none = refl
+  -- a loop that has counted the first i of n places
+  abbrev pub CountSoFar : ℕ → ℕ → ℕ → Type 0
+  CountSoFar n i c = (i ≤ n) × (c ≡ count f i)
 
-  pub count-in : (i c : ℕ) → c ≡ count f i → f i ≡ true → c + 1 ≡ count f (i + 1)
+  pub count-start : (n : ℕ) → CountSoFar n 0 0
   unfolding count
-  count-in i c e h = rw (add-one i) (rw (if-true (f i) (count f i + 1) (count f i) h) (omega arith))
+  count-start n = (omega arith, refl)
 
-  pub count-out : (i c : ℕ) → c ≡ count f i → f i ≡ false → c ≡ count f (i + 1)
+  pub count-next : (n i c d : ℕ) (t : Bool) → CountSoFar n i c → i < n → t ≡ f i → d ≡ (if t then c + 1 else c) → CountSoFar n (i + 1) d
   unfolding count
-  count-out i c e h = rw (add-one i) (rw (if-false (f i) (count f i + 1) (count f i) h) e)
+  count-next n i c d t e l h g = (omega arith, rw (add-one i) (g ∙ ap₂ (λ b v. if b then v + 1 else v) h (e .1)))
+
+  pub count-ends : (n i c : ℕ) → CountSoFar n i c → n ≤ i → c ≡ count f n
+  count-ends n i c e b = let q : i ≡ n = omega arith in e .1 ∙ ap (count f) q
 
   pub count-most : (i : ℕ) → count f i ≤ i
   unfolding count
   count-most zero = omega arith
   count-most (suc k) = by-test (f k) (λ e. rw (if-true (f k) (count f k + 1) (count f k) e) (omega (arith, count-most k)))
       (λ e. rw (if-false (f k) (count f k + 1) (count f k) e) (omega (arith, count-most k)))
+
+  pub count-room : (n i c k : ℕ) → CountSoFar n i c → i < n → n ≤ k → c < k
+  count-room n i c k e l h = omega (arith, count-most i)
 
   -- a count above 0 has somebody in it, and the other way round
   pub count-some : (n : ℕ) → 0 < count f n → (x : ℕ) × (x < n) × (f x ≡ true)
@@ -147,18 +170,24 @@ module _ (f : ℕ → Bool) where
       (λ (q : n ≤ firstFrom f 0 n). untrue (sym h ∙ first-none 0 n (omega arith) x (omega arith) (omega arith)))
       (lt-or-le (firstFrom f 0 n) n)
 
-  -- the turns of a loop that looks for it; r is what the whole gives
-  pub first-found : (n i r : ℕ) → firstFrom f i (n - i) ≡ r → i < n → f i ≡ true → i ≡ r
-  first-found n i r e l h = let q : n - i ≡ suc (n - i - 1) = omega arith in sym (first-stop i (n - i - 1) h) ∙ ap (firstFrom f i) (sym q) ∙ e
+  -- a loop that looks for it in n places, and has passed i of them by
+  abbrev pub PassedSoFar : ℕ → ℕ → Type 0
+  PassedSoFar n i = (i ≤ n) × (firstFrom f i (n - i) ≡ firstFrom f 0 n)
 
-  pub first-next : (n i r : ℕ) → firstFrom f i (n - i) ≡ r → i < n → f i ≡ false → firstFrom f (i + 1) (n - (i + 1)) ≡ r
-  first-next n i r e l h =
-      let q : n - i ≡ suc (n - (i + 1)) = omega arith in
-      rw (add-one i) (sym (first-on i (n - suc i) h) ∙ ap (firstFrom f i) (omega arith) ∙ e)
+  pub passed-start : (n : ℕ) → PassedSoFar n 0
+  passed-start n = let q : n - 0 ≡ n = omega arith in (omega arith, ap (firstFrom f 0) q)
 
-  pub first-ends : (n i r : ℕ) → firstFrom f i (n - i) ≡ r → n ≤ i → i ≡ r
+  pub passed-next : (n i : ℕ) → PassedSoFar n i → i < n → f i ≡ false → PassedSoFar n (i + 1)
+  passed-next n i e l h =
+      let q : n - i ≡ suc (n - suc i) = omega arith in
+      (omega arith, rw (add-one i) (sym (first-on i (n - suc i) h) ∙ ap (firstFrom f i) (sym q) ∙ e .1))
+
+  pub passed-found : (n i : ℕ) → PassedSoFar n i → i < n → f i ≡ true → i ≡ firstFrom f 0 n
+  passed-found n i e l h = let q : n - i ≡ suc (n - i - 1) = omega arith in sym (first-stop i (n - i - 1) h) ∙ ap (firstFrom f i) (sym q) ∙ e .1
+
+  pub passed-ends : (n i : ℕ) → PassedSoFar n i → n ≤ i → i ≡ firstFrom f 0 n
   unfolding firstFrom
-  first-ends n i r e l = let q : n - i ≡ 0 = omega arith in rw q at e
+  passed-ends n i e l = let q : n - i ≡ 0 = omega arith in rw q at (e .1)
 
 -- ---- greatest
 
@@ -181,13 +210,29 @@ module _ (f : ℕ → ℕ) where
       (λ (g : f k ≤ greatest f k). let (x, l, e) = greatest-some k (omega arith) in (x, omega arith, omega arith))
       (lt-or-le (greatest f k) (f k))
 
-  pub greatest-none : 0 ≡ greatest f 0
-  unfolding greatest
-  greatest-none = refl
+  -- a loop that has looked at the first i of n places
+  abbrev pub GreatestSoFar : ℕ → ℕ → ℕ → Type 0
+  GreatestSoFar n i g = (i ≤ n) × (g ≡ greatest f i)
 
-  pub greatest-next : (i g v : ℕ) → g ≡ greatest f i → v ≡ f i → max g v ≡ greatest f (i + 1)
+  pub greatest-start : (n : ℕ) → GreatestSoFar n 0 0
   unfolding greatest
-  greatest-next i g v e h = rw (add-one i) (omega arith)
+  greatest-start n = (omega arith, refl)
+
+  pub greatest-next : (n i g v d : ℕ) → GreatestSoFar n i g → i < n → v ≡ f i → d ≡ max g v → GreatestSoFar n (i + 1) d
+  unfolding greatest
+  greatest-next n i g v d e l h q = (omega arith, rw (add-one i) (omega arith))
+
+  pub greatest-ends : (n i g : ℕ) → GreatestSoFar n i g → n ≤ i → g ≡ greatest f n
+  greatest-ends n i g e b = let q : i ≡ n = omega arith in e .1 ∙ ap (greatest f) q
+
+-- where f is 0 from k on, the places below k are enough
+pub greatest-clamped : (f : ℕ → ℕ) (n k : ℕ) → ((x : ℕ) → k ≤ x → f x ≡ 0) → greatest f (min n k) ≡ greatest f n
+greatest-clamped f n k h = ⊎-elim
+    (λ (q : n < k). let e : min n k ≡ n = omega arith in ap (greatest f) e)
+    (λ (q : k ≤ n). let e : min n k ≡ k = omega arith in ap (greatest f) e ∙ le-antisymm
+    (greatest-least f (greatest f n) k (λ x l. greatest-all f n x (omega arith)))
+    (greatest-least f (greatest f k) n (λ x l. ⊎-elim (λ (b : x < k). greatest-all f k x b) (λ (b : k ≤ x). omega (arith, h x b)) (lt-or-le x k))))
+    (lt-or-le n k)
 
 pub greatest-ext : (f g : ℕ → ℕ) (n : ℕ) → ((x : ℕ) → x < n → f x ≡ g x) → greatest f n ≡ greatest g n
 unfolding greatest
@@ -214,9 +259,13 @@ module _ {X : Type 0} (f : ℕ → X) where
 -- ---- a loop that writes f k at each place k in turn
 
 module _ (xs : List ℕ) (f : ℕ → ℕ) where
-  pub renewed-none : xs ≡ renewed xs f 0
+  -- a loop that has written the first k of n places
+  abbrev pub RenewedSoFar : ℕ → ℕ → List ℕ → Type 0
+  RenewedSoFar n k ys = (k ≤ n) × (ys ≡ renewed xs f k)
+
+  pub renewed-start : (n : ℕ) → RenewedSoFar n 0 xs
   unfolding renewed
-  renewed-none = refl
+  renewed-start n = (omega arith, refl)
 
   pub renewed-more : (k : ℕ) → renewed xs f (k + 1) ≡ set (renewed xs f k) k (f k)
   unfolding renewed
@@ -241,8 +290,11 @@ module _ (xs : List ℕ) (f : ℕ → ℕ) where
       (λ l. getD-set-other (renewed xs f k) k i (f k) d (λ e. omega arith) ∙ renewed-at k i d l b)
       (eq-or-lt-of-le (le-of-suc-le-suc h))
 
-  pub renewed-next : (ys : List ℕ) (k v : ℕ) → ys ≡ renewed xs f k → v ≡ f k → set ys k v ≡ renewed xs f (k + 1)
-  renewed-next ys k v e g = rw (renewed-more, e, g)
+  pub renewed-next : (n k v : ℕ) (ys : List ℕ) → RenewedSoFar n k ys → k < n → v ≡ f k → RenewedSoFar n (k + 1) (set ys k v)
+  renewed-next n k v ys e l g = (omega arith, rw (renewed-more, e .1, g))
+
+  pub renewed-ends : (n k : ℕ) (ys : List ℕ) → RenewedSoFar n k ys → n ≤ k → ys ≡ renewed xs f n
+  renewed-ends n k ys e b = let q : k ≡ n = omega arith in e .1 ∙ ap (renewed xs f) q
 
 -- ---- all places from n on are 0
 
@@ -273,3 +325,13 @@ unfolding zeros
 at-spare zero xs h = at-zeros xs (λ i. h i (omega arith))
 at-spare (suc n) [] h = refl
 at-spare (suc n) (x ∷ xs) h = at-spare n xs (λ i l. h (suc i) (omega arith))
+
+-- a table that was 0 all over, written up to place k, where f is 0 from there on
+pub renewed-table : (f : ℕ → ℕ) (n k : ℕ) → k ≤ n → ((x : ℕ) → k ≤ x → f x ≡ 0) → renewed (replicate n 0) f k ≡ tabulate n f
+renewed-table f n k h z = ext-getD 0 (renewed (replicate n 0) f k) (tabulate n f)
+    (length-renewed (replicate n 0) f k ∙ length-replicate n 0 ∙ sym (length-from f 0 n))
+    (λ i l. let b : i < n = omega (arith, length-renewed (replicate n 0) f k, length-replicate {A = ℕ} n 0) in
+    ⊎-elim
+    (λ (q : i < k). renewed-at (replicate n 0) f k i 0 q (omega (arith, length-replicate {A = ℕ} n 0)) ∙ sym (getD-tabulate f n i 0 b))
+    (λ (q : k ≤ i). renewed-rest (replicate n 0) f k i 0 q ∙ zero-past n i ∙ sym (z i q) ∙ sym (getD-tabulate f n i 0 b))
+    (lt-or-le i k))

@@ -16,7 +16,7 @@ use Rattle.rules.specs.Elect.{earlier}
 use Rattle.rules.specs.Move.{charged, delayed}
 use Rattle.rules.specs.Lazy.{callsFor}
 use Rattle.rules.specs.Sound.{keptOf}
-use Rattle.rules.specs.Bound.{lowerUser, mayBlock}
+use Rattle.rules.specs.Bound.{lowerAt, lowerUser, mayBlock, limitIf}
 use Rattle.rules.specs.declared.plan.Plan.{Plan}
 use Rattle.rules.proofs.Choice.{if-true, if-false, by-test, untrue, and-true, true-and}
 use Rattle.rules.proofs.Place.{any-some, some-any}
@@ -123,13 +123,24 @@ module _ (p : Plan) (b l : ℕ) where
   unfolding mayBlock
   block-high m = leb-true b (at (p .ceiling) l) (and-true _ (lowerUser p b l) m .0)
 
-  pub block-user : mayBlock p b l ≡ true → (x : ℕ) × (x < p .tasks) × (declares p x l ≡ true) × (at (p .base) x < b)
+  pub block-user : mayBlock p b l ≡ true → (x : ℕ) × (x < p .tasks) × (lowerAt p b l x ≡ true)
   unfolding mayBlock lowerUser
-  block-user m =
-      let (x, q, e) = any-some (λ x. declares p x l && ltb (at (p .base) x) b) (p .tasks) (and-true (leb b (at (p .ceiling) l)) _ m .1) in
-      let (d, h) = and-true (declares p x l) (ltb (at (p .base) x) b) e in (x, q, d, ltb-true (at (p .base) x) b h)
+  block-user m = any-some (lowerAt p b l) (p .tasks) (and-true (leb b (at (p .ceiling) l)) _ m .1)
+
+  pub lower-so : (x : ℕ) → lowerAt p b l x ≡ true → (declares p x l ≡ true) × (at (p .base) x < b)
+  unfolding lowerAt
+  lower-so x e = let (d, h) = and-true (declares p x l) (ltb (at (p .base) x) b) e in (d, ltb-true (at (p .base) x) b h)
 
   pub blocks : (x : ℕ) → b ≤ at (p .ceiling) l → x < p .tasks → declares p x l ≡ true → at (p .base) x < b → mayBlock p b l ≡ true
-  unfolding mayBlock lowerUser
+  unfolding mayBlock lowerUser lowerAt
   blocks x c q d h = true-and _ _ (le-leb b (at (p .ceiling) l) c)
-      (some-any (λ x. declares p x l && ltb (at (p .base) x) b) (p .tasks) x q (true-and (declares p x l) (ltb (at (p .base) x) b) d (lt-ltb (at (p .base) x) b h)))
+      (some-any (lowerAt p b l) (p .tasks) x q (true-and (declares p x l) (ltb (at (p .base) x) b) d (lt-ltb (at (p .base) x) b h)))
+
+  -- such a lock counts with its limit, and any other not
+  pub limit-blocks : mayBlock p b l ≡ true → limitIf p b l ≡ at (p .limit) l
+  unfolding limitIf
+  limit-blocks m = if-true _ _ _ m
+
+  pub limit-else : mayBlock p b l ≡ false → limitIf p b l ≡ 0
+  unfolding limitIf
+  limit-else m = if-false _ _ _ m

@@ -21,7 +21,7 @@ use Rattle.rules.specs.Figures.{Figures, freshFigures, holds, priorityOf
 use Rattle.rules.specs.Tests.{elsewhere, pastLimit}
 use Rattle.rules.specs.Move.{movedOf}
 use Rattle.rules.specs.Eager.{runningOf, eagerTest}
-use Rattle.rules.specs.Bound.{mayBlock, boundOf}
+use Rattle.rules.specs.Bound.{lowerAt, mayBlock, limitIf, longestLimit, boundOf}
 use Rattle.rules.specs.Answer.{testedNumber}
 use Rattle.rules.specs.History.{eventAt, eagerAt, lazyAt, runnerAt, acceptedAt, delayNext}
 use Rattle.rules.specs.Job.{Accepted, Does, Job}
@@ -36,7 +36,7 @@ use Rattle.rules.proofs.Obeyed.{few-tasks, base-some}
 use Rattle.rules.proofs.Passed.{Releasable, Takeable, Workable, Allowed, accepts}
 use Rattle.rules.proofs.Figured as Figured
 use Rattle.rules.proofs.Worded.{Same, same-priority}
-use Rattle.rules.proofs.Rules.{base-priority, plain-priority, block-high, block-user}
+use Rattle.rules.proofs.Rules.{base-priority, plain-priority, block-high, block-user, lower-so, limit-blocks, limit-else}
 use Rattle.rules.proofs.Urgency as Urgency
 use Rattle.rules.proofs.Urgency.{Best}
 use Rattle.rules.proofs.EagerRuled.{standing, same-alike, Ruled, good, pays, stage, best-runs, not-elsewhere}
@@ -269,24 +269,22 @@ module _ {p : Plan} (O : Obeys p) (t u l : ℕ) (ht : t < p .tasks) (hu : u < p 
 
 module _ (p : Plan) (t : ℕ) where
   longest : 0 < boundOf p t → (longestLock p t < p .locks) × (mayBlock p (at (p .base) t) (longestLock p t) ≡ true) × (at (p .limit) (longestLock p t) ≡ boundOf p t)
-  unfolding longestLock boundOf
+  unfolding longestLock longestLimit
   longest h =
-      let (l, q, e) = greatest-some limits (p .locks) h in
-      let m : mayBlock p (at (p .base) t) l ≡ true = by-test (mayBlock p (at (p .base) t) l) (λ b. b) (λ b. absurd (omega (arith, e, if-false (mayBlock p (at (p .base) t) l) (at (p .limit) l) 0 b))) in
-      let i : at (p .limit) l ≡ greatest limits (p .locks) = sym (if-true (mayBlock p (at (p .base) t) l) (at (p .limit) l) 0 m) ∙ e in
-      let (v, w) = first-some (λ l. mayBlock p (at (p .base) t) l && eqb (at (p .limit) l) (greatest limits (p .locks))) (p .locks) l q (true-and _ _ m (eq-eqb _ _ i)) in
+      let b : ℕ = at (p .base) t in
+      let (l, q, e) = greatest-some (limitIf p b) (p .locks) h in
+      let m : mayBlock p b l ≡ true = by-test (mayBlock p b l) (λ m. m) (λ n. absurd (omega (arith, e, limit-else p b l n))) in
+      let i : at (p .limit) l ≡ greatest (limitIf p b) (p .locks) = sym (limit-blocks p b l m) ∙ e in
+      let (v, w) = first-some (λ l. mayBlock p b l && eqb (at (p .limit) l) (greatest (limitIf p b) (p .locks))) (p .locks) l q (true-and _ _ m (eq-eqb _ _ i)) in
       let (x, y) = and-true _ _ w in (v, x, eqb-true _ _ y)
-    where
-      limits : ℕ → ℕ
-      limits l = if mayBlock p (at (p .base) t) l then at (p .limit) l else 0
 
   lower : (l : ℕ) → mayBlock p (at (p .base) t) l ≡ true
       → (at (p .base) t ≤ at (p .ceiling) l) × (firstLower p t l < p .tasks) × (declares p (firstLower p t l) l ≡ true) × (at (p .base) (firstLower p t l) < at (p .base) t)
   unfolding firstLower
   lower l m =
-      let (x, q, d, b) = block-user p (at (p .base) t) l m in
-      let (v, w) = first-some (λ x. declares p x l && ltb (at (p .base) x) (at (p .base) t)) (p .tasks) x q (true-and _ _ d (lt-ltb (at (p .base) x) (at (p .base) t) b)) in
-      let (d′, b′) = and-true _ _ w in (block-high p (at (p .base) t) l m, v, d′, ltb-true _ _ b′)
+      let (x, q, e) = block-user p (at (p .base) t) l m in
+      let (v, w) = first-some (lowerAt p (at (p .base) t) l) (p .tasks) x q e in
+      let (d, b) = lower-so p (at (p .base) t) l _ w in (block-high p (at (p .base) t) l m, v, d, b)
 
   worst-alone : eqb (boundOf p t) 0 ≡ true → worstCase p t ≡ Release t ∷ []
   unfolding worstCase

@@ -7,13 +7,23 @@ use Rattle.rules.specs.Place.{at, any, greatest}
 use Rattle.rules.specs.Plan.{declares}
 use Rattle.rules.specs.declared.plan.Plan.{Plan}
 
--- lock l has a user of base below b
+-- task x may take lock l and has a base below b; some task does
+unfoldable pub lowerAt : Plan → ℕ → ℕ → ℕ → Bool
+lowerAt p b l x = declares p x l && ltb (at (p .base) x) b
+
 unfoldable pub lowerUser : Plan → ℕ → ℕ → Bool
-lowerUser p b l = any (λ x. declares p x l && ltb (at (p .base) x) b) (p .tasks)
+lowerUser p b l = any (lowerAt p b l) (p .tasks)
 
 -- lock l may hold up a task of base b
 unfoldable pub mayBlock : Plan → ℕ → ℕ → Bool
 mayBlock p b l = leb b (at (p .ceiling) l) && lowerUser p b l
 
-unfoldable pub boundOf : Plan → ℕ → ℕ
-boundOf p t = greatest (λ l. if mayBlock p (at (p .base) t) l then at (p .limit) l else 0) (p .locks)
+-- the limit of such a lock, and the greatest of these; 0 without one
+unfoldable pub limitIf : Plan → ℕ → ℕ → ℕ
+limitIf p b l = if mayBlock p b l then at (p .limit) l else 0
+
+unfoldable pub longestLimit : Plan → ℕ → ℕ
+longestLimit p b = greatest (limitIf p b) (p .locks)
+
+abbrev pub boundOf : Plan → ℕ → ℕ
+boundOf p t = longestLimit p (at (p .base) t)

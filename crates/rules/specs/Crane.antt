@@ -11,7 +11,7 @@ use Rattle.rules.specs.Answer.{testedNumber, verdictNumber}
 use Rattle.rules.specs.Event.{eventFault, eventOf}
 use Rattle.rules.specs.Mask.{hasBit, withBit}
 use Rattle.rules.specs.Plan.{most, countFault, taskFault, lockFault, declares, users, usersBase, ceilingFault}
-use Rattle.rules.specs.Load.{useFault, masksOf, planOf, loadChecks, loadedAs, loadOf}
+use Rattle.rules.specs.Load.{taskFaultAt, lockFaultAt, countFaultOf, useFault, masksOf, planOf, recordChecks, loadChecks}
 use Rattle.rules.specs.Book.{sizeOf, bodyAt, layoutFault, contentsChecks, eventChecks, checkOf}
 use Rattle.rules.specs.State.{freshOf}
 use Rattle.rules.specs.Row.{has, priority, saves}
@@ -27,7 +27,7 @@ use Rattle.rules.specs.Step.{afterOf, answered, actOf, stepOf}
 use Rattle.rules.specs.Run.{withRow, Ran, onward, runFrom}
 use Rattle.rules.specs.Replay.{replayAs, replayOf}
 use Rattle.rules.specs.History.{eagerAt, lazyAt, runnerAt}
-use Rattle.rules.specs.Bound.{lowerUser, mayBlock, boundOf}
+use Rattle.rules.specs.Bound.{lowerAt, lowerUser, mayBlock, limitIf, longestLimit, boundOf}
 use Rattle.rules.specs.declared.plan.Plan.{Plan}
 use Rattle.rules.specs.declared.state.State.{State}
 use Rattle.rules.specs.declared.event.Event.{Event}
@@ -158,9 +158,9 @@ cases =
 table : T (all cases)
 unfolding crane book endOf rowOf rowsOf same sames agree right all cases
     if_then_else_ every any count greatest firstFrom from renewed zeros numberOf firstTrue found firstFault testedNumber verdictNumber eventFault eventOf hasBit withBit
-    most countFault taskFault lockFault declares users usersBase ceilingFault useFault masksOf planOf loadChecks sizeOf bodyAt layoutFault contentsChecks eventChecks checkOf
+    most countFault taskFault lockFault declares users usersBase ceilingFault taskFaultAt lockFaultAt countFaultOf useFault masksOf planOf recordChecks loadChecks sizeOf bodyAt layoutFault contentsChecks eventChecks checkOf
     has priority saves holds priorityOf rankOf earlier earliest elected elsewhere notNewest pastLimit testsOf refusalOf eagerCalls charged delayed movedOf runningOf settle eagerTest eagerStep
     callsFor runsOn switched waits arrives takes gives returns wordsAfter lazyCall keptOf savedOf ownerOf
     taskObeys lockObeys spareObeys obeys rowTest numberTest ownTest taskTest lockTest headTest spareTest soundTest
-    afterOf answered actOf stepOf withRow onward runFrom replayAs replayOf eagerAt lazyAt lowerUser mayBlock boundOf
+    afterOf answered actOf stepOf withRow onward runFrom replayAs replayOf eagerAt lazyAt lowerAt lowerUser mayBlock limitIf longestLimit
 table = tt

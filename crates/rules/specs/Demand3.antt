@@ -7,12 +7,11 @@ use mathlib.Core.Logic.{_↔_}
 use mathlib.Core.Bool.{Bool, true, _&&_}
 use mathlib.Core.List.{List, [], _∷_}
 use Prim.Native.Nat.{ℕ, _≤_, _<_}
-use lib.Dec.{eqb, ltb}
+use lib.Dec.{eqb}
 use lib.ListN.{length}
 use Rattle.rules.specs.Choice.{if_then_else_}
 use Rattle.rules.specs.Place.{at, firstFrom}
-use Rattle.rules.specs.Plan.{declares}
-use Rattle.rules.specs.Bound.{mayBlock, boundOf}
+use Rattle.rules.specs.Bound.{lowerAt, mayBlock, boundOf}
 use Rattle.rules.specs.Figures.{holds}
 use Rattle.rules.specs.History.{eagerAt, lazyAt, runnerAt, acceptedAt}
 use Rattle.rules.specs.Job.{Accepted, Does, Section, Job, LowerWork, lowerUnits, lowerTotal}
@@ -55,7 +54,7 @@ unfoldable pub longestLock : Plan → ℕ → ℕ
 longestLock p t = firstFrom (λ l. mayBlock p (at (p .base) t) l && eqb (at (p .limit) l) (boundOf p t)) 0 (p .locks)
 
 unfoldable pub firstLower : Plan → ℕ → ℕ → ℕ
-firstLower p t l = firstFrom (λ x. declares p x l && ltb (at (p .base) x) (at (p .base) t)) 0 (p .tasks)
+firstLower p t l = firstFrom (lowerAt p (at (p .base) t) l) 0 (p .tasks)
 
 -- release the lower user, acquire the lock, release the task, work the limit; or the release alone for a bound of zero
 unfoldable pub worstCase : Plan → ℕ → List Event

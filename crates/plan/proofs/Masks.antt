@@ -1,0 +1,36 @@
+-- The loop that puts each use into its task's set. Assumes nothing.
+use mathlib.Core.Path.{_≡_, refl, sym, _∙_, ap}
+use mathlib.Core.List.{List}
+use Prim.Native.Nat.{ℕ, _+_, _≤_, _<_}
+use native.Mathlib.Numerals.{add-one}
+use native.Mathlib.Omega.{arith}
+use lib.ListN.{length, set}
+use Rattle.rules.specs.Capacity.{maxTasks, maxLocks}
+use Rattle.rules.specs.Place.{at}
+use Rattle.rules.specs.Mask.{withBit}
+use Rattle.rules.specs.Load.{useTask, useLock, masksOf}
+use Rattle.plan.specs.Placed.{Placed}
+
+module _ (uses : List ℕ) where
+  abbrev pub MasksSoFar : ℕ → List ℕ → Type 0
+  MasksSoFar i masks = (i ≤ length uses) × (masks ≡ masksOf uses i)
+
+  pub masks-start : (masks : List ℕ) → masks ≡ masksOf uses 0 → MasksSoFar 0 masks
+  masks-start masks e = (omega arith, e)
+
+  -- w is the use at place i, t and l its ids, v the set with the lock
+  module _ (i w t l : ℕ) (read : w ≡ at uses i) (task : t ≡ useTask w) (lock : l ≡ useLock w) where
+    pub masks-next : (masks : List ℕ) (v : ℕ) → MasksSoFar i masks → i < length uses → v ≡ withBit (at masks t) l → MasksSoFar (i + 1) (set masks t v)
+    unfolding masksOf
+    masks-next masks v e h g = (omega arith, rw (add-one i) (rw (g, task, lock, read, e .1)))
+
+    pub task-in : Placed uses → i < length uses → t < maxTasks
+    unfolding Placed
+    task-in h b = rw (task, read) (h i b .0)
+
+    pub lock-in : Placed uses → i < length uses → l < maxLocks
+    unfolding Placed
+    lock-in h b = rw (lock, read) (h i b .1)
+
+  pub masks-end : (i : ℕ) (masks : List ℕ) → MasksSoFar i masks → length uses ≤ i → masks ≡ masksOf uses (length uses)
+  masks-end i masks e h = let q : i ≡ length uses = omega arith in e .1 ∙ ap (masksOf uses) q

@@ -1,0 +1,120 @@
+-- The order of the load: each check is asked where those before it found no offender. Assumes nothing.
+use mathlib.Core.Path.{_≡_, refl, sym, _∙_, ap}
+use mathlib.Core.List.{List, [], _∷_}
+use Prim.Native.Nat.{ℕ, _+_, _≤_, _<_}
+use native.Mathlib.Omega.{arith}
+use lib.ListN.{length, replicate}
+use lib.Dec.{ltb}
+use Rattle.rules.specs.Capacity.{maxTasks, maxLocks}
+use Rattle.rules.specs.Place.{at, firstFrom, renewed, tabulate}
+use Rattle.rules.specs.Refusal.{Check, firstFault}
+use Rattle.rules.specs.Plan.{ceilingFault}
+use Rattle.rules.specs.Load.{taskBase, lockCeiling, lockLimit, countFaultOf, taskFaultAt, lockFaultAt, useFault, masksOf, planOf, recordChecks, loadChecks, passedLoad, refusedLoad, loadedAs, loadOf}
+use Rattle.rules.specs.declared.plan.Plan.{Plan}
+use Rattle.rules.specs.declared.answer.Verdict.{Verdict}
+use Rattle.rules.specs.declared.answer.Loaded.{Loaded}
+use Rattle.rules.specs.declared.refusal.Refusal.{Refusal}
+use Rattle.rules.specs.declared.refusal.Refusal.the-variants.{WrongCount, WrongTask, WrongLock, WrongUse, WrongCeiling}
+use Rattle.rules.proofs.Place.{renewed-table}
+use Rattle.rules.proofs.Checks.{AllClean, clean, check-left, check-right, check-none, check-finds, check-passes}
+use Rattle.rules.proofs.Loaded.{tasks-fit, locks-fit, use-known}
+use Rattle.plan.specs.Placed.{Placed}
+use Rattle.plan.proofs.Ways.{none-past}
+
+-- ---- the tables of the plan
+
+-- a table filled from the records has 0 past them
+table : (f : ℕ → ℕ) (n : ℕ) (xs : List ℕ) → f 0 ≡ 0 → length xs ≤ n → renewed (replicate n 0) (λ i. f (at xs i)) (length xs) ≡ tabulate n (λ i. f (at xs i))
+table f n xs z h = renewed-table (λ i. f (at xs i)) n (length xs) h (λ i l. ap f (sym (none-past xs (length xs) i refl l)) ∙ z)
+
+pub as-plan : (tasks locks uses base ceiling limit masks : List ℕ) (few : (length tasks ≤ maxTasks) × (length locks ≤ maxLocks))
+    → base ≡ renewed (replicate maxTasks 0) (λ t. taskBase (at tasks t)) (length tasks)
+    → ceiling ≡ renewed (replicate maxLocks 0) (λ l. lockCeiling (at locks l)) (length locks)
+    → limit ≡ renewed (replicate maxLocks 0) (λ l. lockLimit (at locks l)) (length locks)
+    → masks ≡ masksOf uses (length uses)
+    → _≡_ {A = Plan} (record { tasks = length tasks; locks = length locks; base = base; ceiling = ceiling; limit = limit; uses = masks }) (planOf tasks locks uses)
+unfolding planOf
+as-plan tasks locks uses base ceiling limit masks few a b c d = rw (a, b, c, d, table taskBase maxTasks tasks refl (few .0), table lockCeiling maxLocks locks refl (few .1), table lockLimit maxLocks locks refl (few .1))
+
+-- ---- 2, 4, 5 and 6, in this order
+
+-- e, t, l and u are their first offenders
+module _ (tasks locks uses : List ℕ) (e : ℕ) (count : e ≡ firstFrom (countFaultOf (length tasks) (length locks) (length uses)) 0 3) where
+  pub wrong-count : e < 3 → Verdict.Refused WrongCount (e + 1) ≡ firstFault (recordChecks tasks locks uses)
+  unfolding recordChecks
+  wrong-count h = sym (check-finds _ _ e count h ∙ ap (Verdict.Refused WrongCount) (omega arith))
+
+  module _ (counts : 3 ≤ e) (t : ℕ) (task : t ≡ firstFrom (taskFaultAt tasks) 0 (length tasks)) where
+    pub wrong-task : t < length tasks → Verdict.Refused WrongTask t ≡ firstFault (recordChecks tasks locks uses)
+    unfolding recordChecks
+    wrong-task h = sym (check-passes _ _ e count counts ∙ check-finds _ _ t task h ∙ ap (Verdict.Refused WrongTask) (omega arith))
+
+    module _ (tasked : length tasks ≤ t) (l : ℕ) (lock : l ≡ firstFrom (lockFaultAt locks) 0 (length locks)) where
+      pub wrong-lock : l < length locks → Verdict.Refused WrongLock l ≡ firstFault (recordChecks tasks locks uses)
+      unfolding recordChecks
+      wrong-lock h = sym (check-passes _ _ e count counts ∙ check-passes _ _ t task tasked ∙ check-finds _ _ l lock h ∙ ap (Verdict.Refused WrongLock) (omega arith))
+
+      module _ (locked : length locks ≤ l) (u : ℕ) (use′ : u ≡ firstFrom (useFault (length tasks) (length locks) uses) 0 (length uses)) where
+        pub wrong-use : u < length uses → Verdict.Refused WrongUse u ≡ firstFault (recordChecks tasks locks uses)
+        unfolding recordChecks
+        wrong-use h = sym
+            (check-passes _ _ e count counts ∙ check-passes _ _ t task tasked ∙ check-passes _ _ l lock locked ∙ check-finds _ _ u use′ h ∙ ap (Verdict.Refused WrongUse) (omega arith))
+
+        pub no-wrong : length uses ≤ u → Verdict.Passed ≡ firstFault (recordChecks tasks locks uses)
+        unfolding recordChecks
+        no-wrong h = sym (check-passes _ _ e count counts ∙ check-passes _ _ t task tasked ∙ check-passes _ _ l lock locked ∙ check-passes _ _ u use′ h ∙ check-none)
+
+-- ---- then 7
+
+-- v is what the checks of the records say
+module _ (tasks locks uses : List ℕ) (v : Verdict) (said : v ≡ firstFault (recordChecks tasks locks uses)) where
+  abbrev p : Plan
+  p = planOf tasks locks uses
+
+  pub refused-record : (why : Refusal) (place : ℕ) (r : Loaded) → v ≡ Verdict.Refused why place → r ≡ refusedLoad why place → r ≡ loadOf tasks locks uses
+  unfolding loadOf loadedAs loadChecks
+  refused-record why place r e h = h ∙ ap (λ w. loadedAs w p) (sym (check-left (recordChecks tasks locks uses) _ why place (sym said ∙ e)))
+
+  module _ (passed : v ≡ Verdict.Passed) where
+    right : AllClean (recordChecks tasks locks uses)
+    right = clean (recordChecks tasks locks uses) (sym said ∙ passed)
+
+    pub few-tasks : length tasks ≤ maxTasks
+    unfolding recordChecks AllClean
+    few-tasks = tasks-fit (length tasks) (length locks) (length uses) (right .0 0 (omega arith))
+
+    pub few-locks : length locks ≤ maxLocks
+    unfolding recordChecks AllClean
+    few-locks = locks-fit (length tasks) (length locks) (length uses) (right .0 1 (omega arith))
+
+    pub placed : Placed uses
+    unfolding recordChecks AllClean Placed
+    placed i b = let (t, l) = use-known (length tasks) (length locks) uses i (right .1 .1 .1 .0 i b) in (omega (arith, few-tasks), omega (arith, few-locks))
+
+    -- q is the plan as built, and c its first lock of a wrong ceiling
+    module _ (q : Plan) (built : q ≡ p) where
+      pub plan-tasks : q .tasks ≤ maxTasks
+      unfolding planOf
+      plan-tasks = rw built few-tasks
+
+      pub plan-locks : q .locks ≤ maxLocks
+      unfolding planOf
+      plan-locks = rw built few-locks
+
+      module _ (c : ℕ) (ceiling : c ≡ firstFrom (ceilingFault q) 0 (q .locks)) where
+        first : c ≡ firstFrom (ceilingFault p) 0 (length locks)
+        unfolding planOf
+        first = ceiling ∙ ap (λ w. firstFrom (ceilingFault w) 0 (w .locks)) built
+
+        pub wrong-ceiling : (r : Loaded) → c < length locks → r ≡ refusedLoad WrongCeiling c → r ≡ loadOf tasks locks uses
+        unfolding loadOf loadedAs loadChecks
+        wrong-ceiling r h g =
+            g
+            ∙ ap (λ w. loadedAs w p)
+            (sym (check-right (recordChecks tasks locks uses) _ (sym said ∙ passed) ∙ check-finds _ _ c first h ∙ ap (Verdict.Refused WrongCeiling) (omega arith)))
+
+        pub all-right : (r : Loaded) → length locks ≤ c → r ≡ passedLoad q → r ≡ loadOf tasks locks uses
+        unfolding loadOf loadedAs loadChecks
+        all-right r h g =
+            g ∙ ap passedLoad built
+            ∙ ap (λ w. loadedAs w p) (sym (check-right (recordChecks tasks locks uses) _ (sym said ∙ passed) ∙ check-passes _ _ c first h ∙ check-none))

@@ -1,0 +1,100 @@
+-- The ways through a test that is said with "or": the code's returns, one law each. Assumes nothing.
+use mathlib.Core.Path.{_≡_, refl, sym, _∙_, ap, ap₂}
+use mathlib.Core.Bool.{Bool, true, false, not, _&&_, _||_}
+use mathlib.Core.List.{List, [], _∷_}
+use Prim.Native.Nat.{ℕ, zero, suc, _-_, _≤_, _<_}
+use lib.ListN.{length}
+use lib.Dec.{eqb, leb, ltb}
+use borrow.Author.Tests.{eq-eqb, ne-eqb, le-leb, lt-leb, lt-ltb, le-ltb}
+use native.Mathlib.Omega.{arith}
+use Rattle.rules.specs.Choice.{if_then_else_}
+use Rattle.rules.specs.Place.{at}
+use Rattle.rules.specs.Plan.{most, countFault, taskFault, lockFault, users, usersBase, ceilingFault}
+use Rattle.rules.specs.declared.plan.Plan.{Plan}
+use Rattle.rules.specs.Load.{useTask, useLock, useKey, useFault, countFaultOf}
+
+and-with : (a : Bool) → (a && true) ≡ a
+and-with true = refl
+and-with false = refl
+
+and-no : (a : Bool) → (a && false) ≡ false
+and-no true = refl
+and-no false = refl
+
+or-no : (a : Bool) → (a || false) ≡ a
+or-no true = refl
+or-no false = refl
+
+-- 4, with a and b for the parts as the code has them
+module _ (base second a b : ℕ) where
+  pub task-zero : a ≡ base → a ≡ 0 → true ≡ taskFault base second
+  unfolding taskFault
+  task-zero e z = rw (← e, eq-eqb a 0 z)
+
+  pub task-else : a ≡ base → (a ≡ 0 → ⊥) → b ≡ second → not (eqb b 0) ≡ taskFault base second
+  unfolding taskFault
+  task-else e n g = rw (← e, ← g, ne-eqb a 0 n)
+
+-- 5
+module _ (ceiling second limit a b d : ℕ) where
+  pub lock-zero : a ≡ ceiling → a ≡ 0 → true ≡ lockFault ceiling second limit
+  unfolding lockFault
+  lock-zero e z = rw (← e, eq-eqb a 0 z)
+
+  pub lock-second : a ≡ ceiling → (a ≡ 0 → ⊥) → b ≡ second → (b ≡ 0 → ⊥) → true ≡ lockFault ceiling second limit
+  unfolding lockFault
+  lock-second e n g m = rw (← e, ← g, ne-eqb a 0 n, ne-eqb b 0 m)
+
+  pub lock-else : a ≡ ceiling → (a ≡ 0 → ⊥) → b ≡ second → b ≡ 0 → d ≡ limit → eqb d 0 ≡ lockFault ceiling second limit
+  unfolding lockFault
+  lock-else e n g z h = rw (← e, ← g, ← h, ne-eqb a 0 n, eq-eqb b 0 z)
+
+-- 2
+pub count-none : (e n : ℕ) → n ≡ 0 → eqb e 0 ≡ countFault e n
+unfolding countFault
+count-none e n h = rw (h, and-with (eqb e 0), le-ltb (most e) 0 (omega arith), or-no (eqb e 0))
+
+pub count-some : (e n r : ℕ) → (n ≡ 0 → ⊥) → r ≡ most e → ltb r n ≡ countFault e n
+unfolding countFault
+count-some e n r h g = rw (g, ne-eqb n 0 h, and-no (eqb e 0))
+
+-- 6, with w for the record at place i, t and l for its ids
+module _ (n m i : ℕ) (uses : List ℕ) where
+  pub use-task : (w t : ℕ) → w ≡ at uses i → t ≡ useTask w → n ≤ t → true ≡ useFault n m uses i
+  unfolding useFault
+  use-task w t a b h = rw (← a, ← b, le-leb n t h)
+
+  pub use-lock : (w t l : ℕ) → w ≡ at uses i → t ≡ useTask w → l ≡ useLock w → t < n → m ≤ l → true ≡ useFault n m uses i
+  unfolding useFault
+  use-lock w t l a b d k h = rw (← a, ← b, ← d, lt-leb n t k, le-leb m l h)
+
+  pub use-first : (w t l : ℕ) → w ≡ at uses i → t ≡ useTask w → l ≡ useLock w → t < n → l < m → i ≡ 0 → false ≡ useFault n m uses i
+  unfolding useFault
+  use-first w t l a b d k h e = rw (← a, ← b, ← d, lt-leb n t k, lt-leb m l h, le-ltb 0 i (omega arith))
+
+  -- a and b are the keys of this record and of the one before it
+  pub use-else : (w t l v a b : ℕ) → w ≡ at uses i → t ≡ useTask w → l ≡ useLock w → t < n → l < m → (i ≡ 0 → ⊥)
+      → v ≡ at uses (i - 1) → a ≡ useKey w → b ≡ useKey v → leb a b ≡ useFault n m uses i
+  unfolding useFault
+  use-else w t l v a b e f g k h z x y u = rw (y, u, x, e, lt-leb n (useTask (at uses i)) (omega arith), lt-leb m (useLock (at uses i)) (omega arith), lt-ltb 0 i (omega arith))
+
+-- the test of an entry, of the count that is its own
+pub count-said : (n m u e c : ℕ) (r : Bool) → c ≡ (if eqb e 0 then n else if eqb e 1 then m else u) → r ≡ countFault e c → r ≡ countFaultOf n m u e
+unfolding countFaultOf
+count-said n m u e c r g h = rw (← g) h
+
+-- an array of n places has nothing past them
+pub none-past : (xs : List ℕ) (n i : ℕ) → length xs ≡ n → n ≤ i → 0 ≡ at xs i
+none-past [] n i e h = refl
+none-past (x ∷ xs) n zero e h = absurd (omega arith)
+none-past (x ∷ xs) n (suc i) e h = none-past xs (length xs) i refl (omega arith)
+
+-- 7
+module _ (p : Plan) (l u c g : ℕ) (counted : u ≡ users p l) where
+  pub ceiling-none : u ≡ 0 → true ≡ ceilingFault p l
+  unfolding ceilingFault
+  ceiling-none e = rw (← counted, eq-eqb u 0 e)
+
+  pub ceiling-else : (u ≡ 0 → ⊥) → c ≡ at (p .ceiling) l → g ≡ usersBase p l → not (eqb c g) ≡ ceilingFault p l
+  unfolding ceilingFault
+  ceiling-else n e h = rw (← counted, ← e, ← h, ne-eqb u 0 n)

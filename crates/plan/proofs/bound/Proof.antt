@@ -1,0 +1,10 @@
+-- `plan::bound` meets its contract. The bound is the longest limit over the task's base. Assumes nothing.
+use borrow.Author.Needs.{needs}
+use Rattle.plan.proofs.bound.Statement.{statement}
+use Rattle.plan.proofs.bound.Tie as tie
+
+pub bound-spec : {M : Type 1} → statement M
+bound-spec =
+    tie.close
+    (tie.spec
+    (λ c κs. search needs) (λ c κs. search needs) (λ c. cc))

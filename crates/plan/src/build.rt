@@ -1,0 +1,131 @@
+// The plan of records that pass 2 and 4 to 6.
+use crate::record::lock_ceiling;
+use crate::record::lock_limit;
+use crate::record::task_base;
+use crate::record::use_lock;
+use crate::record::use_task;
+use rules::answer::Loaded;
+use rules::answer::Verdict;
+use rules::capacity::MAX_LOCKS;
+use rules::capacity::MAX_TASKS;
+use rules::plan::Plan;
+use rules::refusal::Refusal;
+ghost use mathlib.Core.Path.{_≡_};
+ghost use Prim.Native.Nat.{_<_, _≤_};
+ghost use lib.ListN.{length};
+ghost use Rattle.rules.specs.Place.{at, renewed};
+ghost use Rattle.rules.specs.Capacity.{maxTasks, maxLocks};
+ghost use Rattle.rules.specs.Mask.{withBit};
+ghost use Rattle.plan.specs.Placed.{Placed};
+ghost use Rattle.rules.specs.Load.{taskBase, lockCeiling, lockLimit, masksOf, planOf, refusedLoad, passedLoad};
+
+// The blank plan beside a refusal.
+pub fn refused(why: Refusal, place: usize) -> Loaded
+    ensures { λ r. ⌜ r ≡ refusedLoad why place ⌝ }
+{
+    let plan = Plan {
+        tasks: 0,
+        locks: 0,
+        base: [0u8; MAX_TASKS],
+        ceiling: [0u8; MAX_LOCKS],
+        limit: [0u16; MAX_LOCKS],
+        uses: [0u32; MAX_TASKS],
+    };
+    Loaded {
+        verdict: Verdict::Refused(why, place),
+        plan: plan,
+    }
+}
+
+pub fn loaded(plan: Plan) -> Loaded
+    ensures { λ r. ⌜ r ≡ passedLoad plan ⌝ }
+{
+    Loaded {
+        verdict: Verdict::Passed,
+        plan: plan,
+    }
+}
+
+fn fill_bases(tasks: &[u16], base: &mut [u8; MAX_TASKS])
+    requires { ⌜ length (now tasks) ≤ maxTasks ⌝ }
+    ensures { λ _. ⌜ now (base .exit) ≡ renewed (now (base .entry)) (λ t. taskBase (at (now (tasks .entry)) t)) (length (now (tasks .entry))) ⌝ }
+{
+    let mut t: usize = 0;
+    while t < tasks.len() {
+        base[t] = task_base(tasks[t]);
+        t += 1;
+    }
+}
+
+fn fill_ceilings(locks: &[u32], ceiling: &mut [u8; MAX_LOCKS])
+    requires { ⌜ length (now locks) ≤ maxLocks ⌝ }
+    ensures { λ _. ⌜ now (ceiling .exit) ≡ renewed (now (ceiling .entry)) (λ l. lockCeiling (at (now (locks .entry)) l)) (length (now (locks .entry))) ⌝ }
+{
+    let mut l: usize = 0;
+    while l < locks.len() {
+        ceiling[l] = lock_ceiling(locks[l]);
+        l += 1;
+    }
+}
+
+fn fill_limits(locks: &[u32], limit: &mut [u16; MAX_LOCKS])
+    requires { ⌜ length (now locks) ≤ maxLocks ⌝ }
+    ensures { λ _. ⌜ now (limit .exit) ≡ renewed (now (limit .entry)) (λ l. lockLimit (at (now (locks .entry)) l)) (length (now (locks .entry))) ⌝ }
+{
+    let mut l: usize = 0;
+    while l < locks.len() {
+        limit[l] = lock_limit(locks[l]);
+        l += 1;
+    }
+}
+
+// The set with lock l in it.
+fn with_bit(mask: u32, l: u8) -> u32
+    requires { ⌜ l < maxLocks ⌝ }
+    ensures { λ r. ⌜ r ≡ withBit mask l ⌝ }
+{
+    if crate::mask::has_bit(mask, l) {
+        return mask;
+    }
+    let bit = 1u32 << l;
+    mask + bit
+}
+
+fn fill_masks(uses: &[u16], masks: &mut [u32; MAX_TASKS])
+    requires { ⌜ now masks ≡ masksOf (now uses) 0 ⌝ }
+    requires { ⌜ Placed (now uses) ⌝ }
+    ensures { λ _. ⌜ now (masks .exit) ≡ masksOf (now (uses .entry)) (length (now (uses .entry))) ⌝ }
+{
+    let mut i: usize = 0;
+    while i < uses.len() {
+        let w = uses[i];
+        let t = use_task(w) as usize;
+        let l = use_lock(w);
+        let mask = masks[t];
+        masks[t] = with_bit(mask, l);
+        i += 1;
+    }
+}
+
+pub fn built(tasks: &[u16], locks: &[u32], uses: &[u16]) -> Plan
+    requires { ⌜ (length (now tasks) ≤ maxTasks) × (length (now locks) ≤ maxLocks) ⌝ }
+    requires { ⌜ Placed (now uses) ⌝ }
+    ensures { λ r. ⌜ r ≡ planOf (now (tasks .entry)) (now (locks .entry)) (now (uses .entry)) ⌝ }
+{
+    let mut base = [0u8; MAX_TASKS];
+    fill_bases(tasks, &mut base);
+    let mut ceiling = [0u8; MAX_LOCKS];
+    fill_ceilings(locks, &mut ceiling);
+    let mut limit = [0u16; MAX_LOCKS];
+    fill_limits(locks, &mut limit);
+    let mut masks = [0u32; MAX_TASKS];
+    fill_masks(uses, &mut masks);
+    Plan {
+        tasks: tasks.len(),
+        locks: locks.len(),
+        base: base,
+        ceiling: ceiling,
+        limit: limit,
+        uses: masks,
+    }
+}

@@ -1,0 +1,107 @@
+// Refusal 7: a lock without users, or whose ceiling isn't the greatest base among them.
+use crate::mask::has_bit;
+use rules::plan::Plan;
+ghost use mathlib.Core.Path.{_≡_};
+ghost use Prim.Native.Nat.{_<_, _≤_, _+_, max};
+ghost use Rattle.rules.specs.Capacity.{maxTasks, maxLocks};
+ghost use Rattle.rules.specs.Choice.{if_then_else_};
+ghost use Rattle.rules.specs.Place.{at, firstFrom};
+ghost use Rattle.rules.specs.Plan.{declares, users, usersBase, ceilingFault};
+
+// Whether the plan lets task x take lock l.
+fn declared(p: Plan, x: usize, l: u8) -> bool
+    requires { ⌜ x < maxTasks ⌝ }
+    ensures { λ r. ⌜ r ≡ declares p x l ⌝ }
+{
+    has_bit(p.uses[x], l)
+}
+
+fn one_more(found: usize, yes: bool) -> usize
+    requires { ⌜ found < maxTasks ⌝ }
+    ensures { λ r. ⌜ r ≡ (if yes then found + 1 else found) ⌝ }
+{
+    if yes {
+        return found + 1;
+    }
+    found
+}
+
+// How many users lock l has.
+fn users_of(p: Plan, l: u8) -> usize
+    requires { ⌜ p .tasks ≤ maxTasks ⌝ }
+    ensures { λ r. ⌜ r ≡ users p l ⌝ }
+{
+    let n = p.tasks;
+    let mut found: usize = 0;
+    let mut x: usize = 0;
+    while x < n {
+        let yes = declared(p, x, l);
+        found = one_more(found, yes);
+        x += 1;
+    }
+    found
+}
+
+// The base of task x if it is a user of lock l, and 0 if not.
+fn user_base(p: Plan, x: usize, l: u8) -> u8
+    requires { ⌜ x < maxTasks ⌝ }
+    ensures { λ r. ⌜ r ≡ (if declares p x l then at (p .base) x else 0) ⌝ }
+{
+    if declared(p, x, l) {
+        return p.base[x];
+    }
+    0
+}
+
+fn greater(a: u8, b: u8) -> u8
+    ensures { λ r. ⌜ r ≡ max a b ⌝ }
+{
+    if a < b {
+        return b;
+    }
+    a
+}
+
+// The greatest base among its users, and 0 without any.
+fn users_base(p: Plan, l: u8) -> u8
+    requires { ⌜ p .tasks ≤ maxTasks ⌝ }
+    ensures { λ r. ⌜ r ≡ usersBase p l ⌝ }
+{
+    let n = p.tasks;
+    let mut top: u8 = 0;
+    let mut x: usize = 0;
+    while x < n {
+        let base = user_base(p, x, l);
+        top = greater(top, base);
+        x += 1;
+    }
+    top
+}
+
+fn ceiling_fault(p: Plan, l: usize) -> bool
+    requires { ⌜ (p .tasks ≤ maxTasks) × (l < maxLocks) ⌝ }
+    ensures { λ r. ⌜ r ≡ ceilingFault p l ⌝ }
+{
+    let v = l as u8;
+    if users_of(p, v) == 0 {
+        return true;
+    }
+    let c = p.ceiling[l];
+    c != users_base(p, v)
+}
+
+// The first lock at fault; the number of locks where there is none.
+pub fn first_ceiling(p: Plan) -> usize
+    requires { ⌜ (p .tasks ≤ maxTasks) × (p .locks ≤ maxLocks) ⌝ }
+    ensures { λ r. ⌜ r ≡ firstFrom (ceilingFault p) 0 (p .locks) ⌝ }
+{
+    let m = p.locks;
+    let mut l: usize = 0;
+    while l < m {
+        if ceiling_fault(p, l) {
+            return l;
+        }
+        l += 1;
+    }
+    l
+}

@@ -1,0 +1,42 @@
+// A plan from its records, and the bound on a task's delay.
+mod build;
+mod ceilings;
+mod faults;
+mod lower;
+pub mod mask;
+mod record;
+
+use rules::answer::Loaded;
+use rules::answer::Verdict;
+use rules::plan::Plan;
+use rules::refusal::Refusal;
+ghost use mathlib.Core.Path.{_≡_};
+ghost use Rattle.rules.specs.Load.{loadOf};
+ghost use Rattle.rules.specs.Bound.{boundOf};
+
+// One number for a record, little-endian: a task's two bytes, a lock's four, a use's two. The answer
+// is the plan, or the first offender of 2 and 4 to 7.
+pub fn load(tasks: &[u16], locks: &[u32], uses: &[u16]) -> Loaded
+    ensures { λ r. ⌜ r ≡ loadOf (now (tasks .entry)) (now (locks .entry)) (now (uses .entry)) ⌝ }
+{
+    let verdict = faults::first_record(tasks, locks, uses);
+    match verdict {
+        Verdict::Refused(why, place) => build::refused(why, place),
+        Verdict::Passed => {
+            let plan = build::built(tasks, locks, uses);
+            let c = ceilings::first_ceiling(plan);
+            if c < locks.len() {
+                return build::refused(Refusal::WrongCeiling, c);
+            }
+            build::loaded(plan)
+        }
+    }
+}
+
+// The bound on the delay of task t: the greatest limit of a lock that may hold it up.
+pub fn bound(p: Plan, t: usize) -> u16
+    ensures { λ r. ⌜ r ≡ boundOf p t ⌝ }
+{
+    let b = lower::base_of(p, t);
+    lower::longest(p, b)
+}

@@ -9,6 +9,7 @@ use rules::answer::Verdict;
 use rules::capacity::MAX_LOCKS;
 use rules::capacity::MAX_TASKS;
 use rules::plan::Plan;
+use rules::plan::blank;
 use rules::refusal::Refusal;
 ghost use mathlib.Core.Path.{_≡_};
 ghost use Prim.Native.Nat.{_<_, _≤_};
@@ -23,14 +24,7 @@ ghost use Rattle.rules.specs.Load.{taskBase, lockCeiling, lockLimit, masksOf, p
 pub fn refused(why: Refusal, place: usize) -> Loaded
     ensures { λ r. ⌜ r ≡ refusedLoad why place ⌝ }
 {
-    let plan = Plan {
-        tasks: 0,
-        locks: 0,
-        base: [0u8; MAX_TASKS],
-        ceiling: [0u8; MAX_LOCKS],
-        limit: [0u16; MAX_LOCKS],
-        uses: [0u32; MAX_TASKS],
-    };
+    let plan = blank();
     Loaded {
         verdict: Verdict::Refused(why, place),
         plan: plan,

@@ -1,4 +1,5 @@
 // The first offender of 2, 4, 5 and 6; where there is none, the number of records.
+use crate::count::count_fault;
 use crate::record::lock_ceiling;
 use crate::record::lock_limit;
 use crate::record::lock_second;
@@ -7,10 +8,6 @@ use crate::record::task_second;
 use crate::record::use_lock;
 use crate::record::use_task;
 use rules::answer::Verdict;
-use rules::capacity::MAX_EVENTS;
-use rules::capacity::MAX_LOCKS;
-use rules::capacity::MAX_TASKS;
-use rules::capacity::MAX_USES;
 use rules::refusal::Refusal;
 ghost use mathlib.Core.Path.{_≡_};
 ghost use Prim.Native.Nat.{_<_, _≤_};
@@ -18,34 +15,9 @@ ghost use lib.Dec.{eqb};
 ghost use lib.ListN.{length};
 ghost use Rattle.rules.specs.Choice.{if_then_else_};
 ghost use Rattle.rules.specs.Place.{firstFrom};
-ghost use Rattle.rules.specs.Plan.{most, countFault, taskFault, lockFault};
+ghost use Rattle.rules.specs.Plan.{taskFault, lockFault};
 ghost use Rattle.rules.specs.Load.{taskBase, taskSecond, lockCeiling, lockSecond, lockLimit, useKey, countFaultOf, taskFaultAt, lockFaultAt, useFault, recordChecks};
 ghost use Rattle.rules.specs.Refusal.{firstFault};
-
-// The most records that an entry may have: 0 tasks, 1 locks, 2 uses, 3 events.
-fn most_of(e: usize) -> usize
-    ensures { λ r. ⌜ r ≡ most e ⌝ }
-{
-    if e == 0 {
-        return MAX_TASKS;
-    }
-    if e == 1 {
-        return MAX_LOCKS;
-    }
-    if e == 2 {
-        return MAX_USES;
-    }
-    MAX_EVENTS
-}
-
-fn count_fault(e: usize, n: usize) -> bool
-    ensures { λ r. ⌜ r ≡ countFault e n ⌝ }
-{
-    if n == 0 {
-        return e == 0;
-    }
-    most_of(e) < n
-}
 
 fn count_of(n: usize, m: usize, u: usize, e: usize) -> usize
     ensures { λ r. ⌜ r ≡ (if eqb e 0 then n else if eqb e 1 then m else u) ⌝ }

@@ -1,6 +1,7 @@
 // A plan from its records, and the bound on a task's delay.
 mod build;
 mod ceilings;
+pub mod count;
 mod faults;
 mod lower;
 pub mod mask;

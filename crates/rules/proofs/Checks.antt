@@ -1,6 +1,6 @@
 -- Checks in order: what the first that finds an offender says, and what is known where none does. Assumes nothing.
 use mathlib.Core.Path.{_≡_, refl, sym, _∙_, ap}
-use mathlib.Core.Bool.{true, false}
+use mathlib.Core.Bool.{Bool, true, false}
 use mathlib.Core.List.{List, [], _∷_, _++_}
 use Prim.Native.Nat.{ℕ, _+_, _≤_, _<_}
 use native.Mathlib.Omega.{arith}
@@ -12,7 +12,7 @@ use Rattle.rules.specs.Refusal.{Check, found, firstFault}
 use Rattle.rules.specs.declared.refusal.Refusal.{Refusal}
 use Rattle.rules.specs.declared.answer.Verdict.{Verdict}
 use Rattle.rules.proofs.Choice.{if-true, if-false, by-test}
-use Rattle.rules.proofs.Place.{first-none}
+use Rattle.rules.proofs.Place.{first-none, first-stop, first-on}
 
 -- no record offends
 abbrev pub Clean : Check → Type 0
@@ -79,3 +79,11 @@ module _ (c : Check) (cs : List Check) (i : ℕ) (first : i ≡ firstFrom (c .fa
   pub check-passes : c .count ≤ i → firstFault (c ∷ cs) ≡ firstFault cs
   unfolding firstFault
   check-passes h = rw (← first) (miss c i (firstFault cs) (le-ltb i (c .count) h))
+
+-- a check of one record
+pub one-finds : (t : Bool) → t ≡ true → 0 ≡ firstFrom (λ _. t) 0 1
+one-finds t e = sym (first-stop (λ _. t) 0 0 e)
+
+pub one-passes : (t : Bool) → t ≡ false → 1 ≡ firstFrom (λ _. t) 0 1
+unfolding firstFrom
+one-passes t e = sym (first-on (λ _. t) 0 0 e)

@@ -16,8 +16,11 @@ use Rattle.rules.specs.Choice.{if_then_else_}
 use Rattle.rules.specs.Place.{at, any, tabulate}
 use Rattle.rules.specs.Mask.{hasBit, withBit}
 use Rattle.rules.specs.Plan.{most, countFault, taskFault, lockFault, declares, ceilingFault, Obeys}
-use Rattle.rules.specs.Load.{taskBase, taskSecond, lockCeiling, lockSecond, lockLimit, useTask, useLock, useKey, taskFaultAt, lockFaultAt, countFaultOf, useFault, masksOf, planOf, recordChecks, loadChecks}
+use Rattle.rules.specs.Load.{taskBase, taskSecond, lockCeiling, lockSecond, lockLimit, useTask, useLock, useKey, taskFaultAt, lockFaultAt, countFaultOf, useFault, masksOf, planOf, recordChecks, loadChecks, loadedAs, loadOf}
+use Rattle.rules.specs.Refusal.{firstFault}
 use Rattle.rules.specs.declared.plan.Plan.{Plan}
+use Rattle.rules.specs.declared.refusal.Refusal.{Refusal}
+use Rattle.rules.specs.declared.answer.Verdict.{Verdict}
 use Rattle.rules.proofs.Choice.{by-test, or-false, false-or, at-or, lt-or-le}
 use Rattle.rules.proofs.Place.{zero-past, length-from, getD-tabulate}
 use Rattle.rules.proofs.Checks.{AllClean}
@@ -33,6 +36,12 @@ past-table n g i h = List·getD-eq-default (tabulate n g) 0 (omega (arith, lengt
 
 past-end : (xs : List ℕ) (i : ℕ) → length xs ≤ i → at xs i ≡ 0
 past-end xs i h = List·getD-eq-default xs 0 h
+
+-- the verdict beside a plan is the one that was given
+verdict-of : (v : Verdict) (p : Plan) → loadedAs v p .verdict ≡ v
+unfolding loadedAs
+verdict-of Verdict.Passed p = refl
+verdict-of (Verdict.Refused why place) p = refl
 
 -- ---- uses
 
@@ -171,3 +180,17 @@ module _ (tasks locks uses : List ℕ) (C : AllClean (loadChecks tasks locks use
   pub loaded-uses : (t l : ℕ) → declares p t l ≡ any (λ i. eqb (useTask (at uses i)) t && eqb (useLock (at uses i)) l) (length uses)
   unfolding planOf declares
   loaded-uses t l = masks-say uses (length tasks) (length locks) few-tasks known-use (length uses) t l (omega arith)
+
+-- what a load answers
+module _ (tasks locks uses : List ℕ) where
+  pub load-refused : (why : Refusal) (place : ℕ) → loadOf tasks locks uses .verdict ≡ Verdict.Refused why place → firstFault (loadChecks tasks locks uses) ≡ Verdict.Refused why place
+  unfolding loadOf
+  load-refused why place e = sym (verdict-of (firstFault (loadChecks tasks locks uses)) (planOf tasks locks uses)) ∙ e
+
+  pub load-passed : loadOf tasks locks uses .verdict ≡ Verdict.Passed → firstFault (loadChecks tasks locks uses) ≡ Verdict.Passed
+  unfolding loadOf
+  load-passed e = sym (verdict-of (firstFault (loadChecks tasks locks uses)) (planOf tasks locks uses)) ∙ e
+
+  pub load-plan : loadOf tasks locks uses .verdict ≡ Verdict.Passed → loadOf tasks locks uses .plan ≡ planOf tasks locks uses
+  unfolding loadOf loadedAs
+  load-plan e = ap (λ v. loadedAs v (planOf tasks locks uses) .plan) (load-passed e)

@@ -8,8 +8,8 @@ use native.Mathlib.Numerals.{add-one}
 use native.Mathlib.Nat.{le-antisymm, eq-or-lt-of-le, le-of-suc-le-suc, not-suc-le-zero}
 use native.Mathlib.Omega.{arith}
 use lib.Dec.{eqb}
-use lib.ListN.{length, getD, set, drop, length-set, replicate, length-replicate}
-use lib.Seq.{getD-set-same, getD-set-other, ext-getD}
+use lib.ListN.{length, getD, set, take, drop, length-set, replicate, length-replicate}
+use lib.Seq.{getD-set-same, getD-set-other, getD-take, length-take-le, ext-getD}
 use borrow.Author.Tests.{eqb-true, eq-eqb}
 use Rattle.rules.specs.Choice.{if_then_else_}
 use Rattle.rules.specs.Place.{at, every, any, count, greatest, firstFrom, from, tabulate, renewed, zeros}
@@ -335,3 +335,12 @@ renewed-table f n k h z = ext-getD 0 (renewed (replicate n 0) f k) (tabulate n f
     (λ (q : i < k). renewed-at (replicate n 0) f k i 0 q (omega (arith, length-replicate {A = ℕ} n 0)) ∙ sym (getD-tabulate f n i 0 b))
     (λ (q : k ≤ i). renewed-rest (replicate n 0) f k i 0 q ∙ zero-past n i ∙ sym (z i q) ∙ sym (getD-tabulate f n i 0 b))
     (lt-or-le i k))
+
+-- the places that were written are the table
+pub renewed-front : (xs : List ℕ) (f : ℕ → ℕ) (n : ℕ) → n ≤ length xs → take n (renewed xs f n) ≡ tabulate n f
+renewed-front xs f n h = ext-getD 0 (take n (renewed xs f n)) (tabulate n f)
+    (long ∙ sym (length-from f 0 n))
+    (λ i l. let b : i < n = omega (arith, long) in getD-take n (renewed xs f n) i 0 b ∙ renewed-at xs f n i 0 b (omega arith) ∙ sym (getD-tabulate f n i 0 b))
+  where
+    long : length (take n (renewed xs f n)) ≡ n
+    long = length-take-le n (renewed xs f n) (omega (arith, length-renewed xs f n))

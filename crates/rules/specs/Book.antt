@@ -1,18 +1,21 @@
 -- "The book: contents, then bodies", and refusals 1 to 9 in order. Assumes nothing.
 use mathlib.Core.Bool.{Bool, true, false, not, _||_}
 use mathlib.Core.List.{List, [], _∷_, _++_}
-use Prim.Native.Nat.{ℕ, zero, suc, _+_, _*_}
+use Prim.Native.Nat.{ℕ, zero, suc, _+_, _*_, _/_}
 use lib.Dec.{eqb, ltb}
-use lib.ListN.{length}
+use lib.ListN.{length, drop}
 use Rattle.rules.specs.Choice.{if_then_else_}
 use Rattle.rules.specs.Place.{at, tabulate}
 use Rattle.rules.specs.Refusal.{Check, firstFault}
 use Rattle.rules.specs.Event.{eventFault, eventOf}
 use Rattle.rules.specs.Plan.{countFault}
-use Rattle.rules.specs.Load.{loadChecks, planOf}
+use Rattle.rules.specs.Load.{loadChecks, planOf, blankPlan}
 use Rattle.rules.specs.declared.plan.Plan.{Plan}
 use Rattle.rules.specs.declared.event.Event.{Event}
 use Rattle.rules.specs.declared.answer.Verdict.{Verdict}
+use Rattle.rules.specs.declared.answer.Found.{Found}
+use Rattle.rules.specs.declared.answer.Checked.{Checked}
+use Rattle.rules.specs.declared.refusal.Refusal.{Refusal}
 use Rattle.rules.specs.declared.refusal.Refusal.the-variants.{ShortBook, WrongCount, WrongLayout, WrongEvent, ShortRows}
 
 -- the little-endian numbers of two and of four bytes at place i
@@ -50,25 +53,41 @@ layoutFault b e =
     if ltb e 4 then not (eqb (kindAt b e) (e + 1)) || not (eqb (offsetAt b e) (bodyAt b e))
     else not (eqb (bodyAt b 4) (length b))
 
--- the records of the first three bodies, one number for a record
+-- the records of an entry, one number for a record of two or of four bytes
+abbrev pub wordsAt : List ℕ → ℕ → List ℕ
+wordsAt b e = tabulate (countAt b e) (λ i. word b (bodyAt b e + i * 2))
+
+abbrev pub longsAt : List ℕ → ℕ → List ℕ
+longsAt b e = tabulate (countAt b e) (λ i. long b (bodyAt b e + i * 4))
+
 abbrev pub tasksOf : List ℕ → List ℕ
-tasksOf b = tabulate (countAt b 0) (λ i. word b (bodyAt b 0 + i * 2))
+tasksOf b = wordsAt b 0
 
 abbrev pub locksOf : List ℕ → List ℕ
-locksOf b = tabulate (countAt b 1) (λ i. long b (bodyAt b 1 + i * 4))
+locksOf b = longsAt b 1
 
 abbrev pub usesOf : List ℕ → List ℕ
-usesOf b = tabulate (countAt b 2) (λ i. word b (bodyAt b 2 + i * 2))
+usesOf b = wordsAt b 2
 
--- "Event, 4 bytes: kind, id, amount (2)": the event at place i of a list of bytes, and whether its record is refused
+-- the event body, where it lies
+abbrev pub eventBody : List ℕ → List ℕ
+eventBody b = drop (bodyAt b 3) b
+
+-- "Event, 4 bytes: kind, id, amount (2)": the event of record k of a body, and whether it is refused
 abbrev pub recordFault : List ℕ → ℕ → Bool
-recordFault b i = eventFault (at b i) (at b (i + 1)) (word b (i + 2))
+recordFault body k = eventFault (at body (k * 4)) (at body (k * 4 + 1)) (word body (k * 4 + 2))
 
 abbrev pub recordEvent : List ℕ → ℕ → Event
-recordEvent b i = eventOf (at b i) (at b (i + 1)) (word b (i + 2))
+recordEvent body k = eventOf (at body (k * 4)) (at body (k * 4 + 1)) (word body (k * 4 + 2))
 
 abbrev pub eventsOf : List ℕ → List Event
-eventsOf b = tabulate (countAt b 3) (λ k. recordEvent b (bodyAt b 3 + k * 4))
+eventsOf b = tabulate (countAt b 3) (recordEvent (eventBody b))
+
+-- "A reader walks the event body where it lies in the lent book, one record at a time": what stands at record k
+unfoldable pub foundAt : List ℕ → ℕ → Found
+foundAt body k =
+    if ltb k (length body / 4) then (if recordFault body k then Found.Refused WrongEvent k else Found.Got (recordEvent body k) (k + 1))
+    else Found.End
 
 abbrev pub planIn : List ℕ → Plan
 planIn b = planOf (tasksOf b) (locksOf b) (usesOf b)
@@ -84,10 +103,24 @@ contentsChecks b =
 -- 8 (the event), 9 (place 0): four bytes of row space for each event
 unfoldable pub eventChecks : List ℕ → ℕ → List Check
 eventChecks b room =
-    (record { refusal = WrongEvent; first = 0; count = countAt b 3; fault = λ k. recordFault b (bodyAt b 3 + k * 4) })
+    (record { refusal = WrongEvent; first = 0; count = countAt b 3; fault = recordFault (eventBody b) })
     ∷ (record { refusal = ShortRows; first = 0; count = 1; fault = λ _. ltb room (countAt b 3 * 4) })
     ∷ []
 
 -- "1 to 9 are tested in that order, each with the place of its first offender"
 unfoldable pub checkOf : List ℕ → ℕ → Verdict
-checkOf b room = firstFault (contentsChecks b ++ loadChecks (tasksOf b) (locksOf b) (usesOf b) ++ eventChecks b room)
+checkOf b room = firstFault (contentsChecks b ++ (loadChecks (tasksOf b) (locksOf b) (usesOf b) ++ eventChecks b room))
+
+-- what a book gives: its plan, and the place of its event body; a blank plan and 0 beside a refusal
+abbrev pub passedCheck : Plan → ℕ → Checked
+passedCheck p events = record { verdict = Verdict.Passed; plan = p; events = events }
+
+abbrev pub refusedCheck : Refusal → ℕ → Checked
+refusedCheck why place = record { verdict = Verdict.Refused why place; plan = blankPlan; events = 0 }
+
+unfoldable pub checkedAs : Verdict → List ℕ → Checked
+checkedAs Verdict.Passed b = passedCheck (planIn b) (bodyAt b 3)
+checkedAs (Verdict.Refused why place) b = refusedCheck why place
+
+abbrev pub checkedOf : List ℕ → ℕ → Checked
+checkedOf b room = checkedAs (checkOf b room) b

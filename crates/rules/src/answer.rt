@@ -37,6 +37,14 @@ pub struct Loaded {
     pub plan: Plan,
 }
 
+// A book that was read: its plan and the place of its event body; or a blank plan and 0 beside a
+// refusal.
+pub struct Checked {
+    pub verdict: Verdict,
+    pub plan: Plan,
+    pub events: usize,
+}
+
 // The answer of a step and the state after it, which is the given one where the event is refused.
 pub struct Stepped {
     pub answer: Answer,

@@ -1,5 +1,7 @@
 use crate::capacity::MAX_LOCKS;
 use crate::capacity::MAX_TASKS;
+ghost use mathlib.Core.Path.{_≡_};
+ghost use Rattle.rules.specs.Load.{blankPlan};
 
 // A recorder's plan. Tasks and locks are named by place, from 0; places past the last one hold 0.
 // Bit l of a task's uses says that the task may take lock l.
@@ -10,4 +12,18 @@ pub struct Plan {
     pub ceiling: [u8; MAX_LOCKS],
     pub limit: [u16; MAX_LOCKS],
     pub uses: [u32; MAX_TASKS],
+}
+
+// The plan beside a refusal: every figure 0.
+pub fn blank() -> Plan
+    ensures { λ r. ⌜ r ≡ blankPlan ⌝ }
+{
+    Plan {
+        tasks: 0,
+        locks: 0,
+        base: [0u8; MAX_TASKS],
+        ceiling: [0u8; MAX_LOCKS],
+        limit: [0u16; MAX_LOCKS],
+        uses: [0u32; MAX_TASKS],
+    }
 }

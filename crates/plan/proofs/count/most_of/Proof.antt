@@ -1,8 +1,8 @@
--- `plan::faults::most_of` meets its contract. Each test is the definition's. Assumes nothing.
+-- `plan::count::most_of` meets its contract. Each test is the definition's. Assumes nothing.
 use Rattle.rules.proofs.Choice.{tests}
 use Rattle.rules.specs.Plan.{most}
-use Rattle.plan.proofs.faults.most_of.Statement.{statement}
-use Rattle.plan.proofs.faults.most_of.Tie as tie
+use Rattle.plan.proofs.count.most_of.Statement.{statement}
+use Rattle.plan.proofs.count.most_of.Tie as tie
 
 returns : tie.Need-returns
 unfolding most

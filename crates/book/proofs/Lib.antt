@@ -1,0 +1,5 @@
+-- The laws behind the proofs of this crate.
+mod Records
+mod LaidOut
+mod Parts
+mod Order

@@ -1,0 +1,2 @@
+-- What the code of this crate asks of its own callers.
+pub mod Laid

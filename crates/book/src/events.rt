@@ -1,0 +1,76 @@
+// 8 and 9: the events where they lie, and the row space for them.
+use crate::cursor::cursor;
+use crate::entry::body_at;
+use rules::answer::Checked;
+use rules::answer::Found;
+use rules::answer::Verdict;
+use rules::plan::Plan;
+use rules::plan::blank;
+use rules::refusal::Refusal;
+ghost use mathlib.Core.Path.{_≡_};
+ghost use Prim.Native.Nat.{_<_, _/_};
+ghost use lib.ListN.{length};
+ghost use Rattle.rules.specs.Place.{firstFrom};
+ghost use Rattle.rules.specs.Refusal.{firstFault};
+ghost use Rattle.rules.specs.Book.{recordFault, planIn, eventChecks, refusedCheck, checkedAs};
+ghost use Rattle.book.specs.Laid.{Laid};
+
+pub fn refused(why: Refusal, place: usize) -> Checked
+    ensures { λ r. ⌜ r ≡ refusedCheck why place ⌝ }
+{
+    let plan = blank();
+    Checked {
+        verdict: Verdict::Refused(why, place),
+        plan: plan,
+        events: 0,
+    }
+}
+
+// Whether 8 refuses record k of a body.
+fn fault_at(body: &[u8], k: usize) -> bool
+    requires { ⌜ k < length (now body) / 4 ⌝ }
+    ensures { λ r. ⌜ r ≡ recordFault (now (body .entry)) k ⌝ }
+{
+    let found = cursor(body, k);
+    match found {
+        Found::Got(_, _) => false,
+        Found::Refused(_, _) => true,
+        Found::End => false,
+    }
+}
+
+// The first record of a body that 8 refuses; the number of records where there is none.
+fn first_fault(body: &[u8]) -> usize
+    ensures { λ r. ⌜ r ≡ firstFrom (recordFault (now (body .entry))) 0 (length (now (body .entry)) / 4) ⌝ }
+{
+    let n = body.len() / 4;
+    let mut k: usize = 0;
+    while k < n {
+        if fault_at(body, k) {
+            return k;
+        }
+        k += 1;
+    }
+    k
+}
+
+// The rest of the check of a book whose plan is loaded.
+pub fn check(b: &[u8], room: usize, plan: Plan) -> Checked
+    requires { ⌜ Laid (now b) × (plan ≡ planIn (now b)) ⌝ }
+    ensures { λ r. ⌜ r ≡ checkedAs (firstFault (eventChecks (now (b .entry)) room)) (now (b .entry)) ⌝ }
+{
+    let events = body_at(b, 3);
+    let body = &b[events..];
+    let k = first_fault(body);
+    if k < body.len() / 4 {
+        return refused(Refusal::WrongEvent, k);
+    }
+    if room < body.len() {
+        return refused(Refusal::ShortRows, 0);
+    }
+    Checked {
+        verdict: Verdict::Passed,
+        plan: plan,
+        events: events,
+    }
+}

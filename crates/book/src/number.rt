@@ -1,0 +1,29 @@
+// Little-endian numbers of two and of four bytes.
+ghost use mathlib.Core.Path.{_≡_};
+ghost use Prim.Native.Nat.{_+_, _<_};
+ghost use lib.ListN.{length};
+ghost use Rattle.rules.specs.Book.{word, long};
+
+fn wide(x: u8) -> u16
+    ensures { λ r. ⌜ (r ≡ x) × (r < 256) ⌝ }
+{
+    x as u16
+}
+
+pub fn word_at(b: &[u8], i: usize) -> u16
+    requires { ⌜ i + 1 < length (now b) ⌝ }
+    ensures { λ r. ⌜ r ≡ word (now (b .entry)) i ⌝ }
+{
+    let low = wide(b[i]);
+    let high = wide(b[i + 1]);
+    low + high * 256
+}
+
+pub fn long_at(b: &[u8], i: usize) -> u32
+    requires { ⌜ i + 3 < length (now b) ⌝ }
+    ensures { λ r. ⌜ r ≡ long (now (b .entry)) i ⌝ }
+{
+    let low = word_at(b, i) as u32;
+    let high = word_at(b, i + 2) as u32;
+    low + high * 65536
+}

@@ -15,7 +15,7 @@ use Rattle.rules.specs.Place.{at, greatest}
 use Rattle.rules.specs.Refusal.{numberOf, firstTrue}
 use Rattle.rules.specs.Plan.{Obeys, declares}
 use Rattle.rules.specs.Figures.{Figures, figuresOf, holds, priorityOf, rankOf}
-use Rattle.rules.specs.Tests.{elsewhere, notNewest, pastLimit, testsOf, refusalOf}
+use Rattle.rules.specs.Tests.{elsewhere, notNewest, pastLimit, testsOf, releaseOrder, acquireOrder, unlockOrder, workOrder, finishOrder, refusalOf}
 use Rattle.rules.specs.Move.{movedOf}
 use Rattle.rules.specs.Eager.{runningOf, eagerTest}
 use Rattle.rules.specs.Lazy.{wordsOf, callsFor, backOf, lazyCall}
@@ -68,7 +68,7 @@ module _ {p : Plan} (O : Obeys p) {f : Figures} (R : Ruled p f) where
 
   -- of the numbers 10 and 17
   never : (n : ℕ) → (n ≡ 10) ⊎ (n ≡ 17) → (e : Event) → testedNumber (eagerTest p f e) ≢ n
-  unfolding eagerTest refusalOf testsOf firstTrue numberOf if_then_else_
+  unfolding eagerTest refusalOf testsOf releaseOrder acquireOrder unlockOrder workOrder finishOrder firstTrue numberOf if_then_else_
   never n h (Release t) =
       skip n (leb maxAccepted (f .accepted)) Exhausted _ (apart-from n h 11 refl) (λ _. skip n (leb (p .tasks) t) Unknown _ (apart-from n h 13 refl)
       (λ _. skip n (ltb 0 (at (f .released) t)) AlreadyReleased _ (apart-from n h 14 refl) (λ _. last n (above n h))))

@@ -4,6 +4,7 @@ use mathlib.Core.Logic.{_≢_, _⊎_, inl, inr, ⊎-elim}
 use mathlib.Core.Bool.{Bool, true, false}
 use Prim.Native.Nat.{ℕ, zero, suc, _≤_, _<_}
 use native.Mathlib.Nat.{eq-zero-or-pos, not-suc-le-zero}
+use native.Mathlib.Decide.{ℕ-discrete}
 use native.Mathlib.Omega.{arith}
 use lib.Dec.{eqb}
 use borrow.Author.Tests.{eqb-true, eqb-false, eq-eqb, ne-eqb}
@@ -53,6 +54,16 @@ module _ (released key : ℕ → ℕ) where
     passed-by : (k b : ℕ) → key k ≢ g → Lead g k b → Lead g (suc k) b
     passed-by k b e L = record { within = omega (arith, L .within); keyed = L .keyed; first = below (λ x. key x ≡ g → released b ≤ released x) k (L .first) (λ i. absurd (e i)) }
 
+    with-earlier : (k b : ℕ) → (b ≢ nobody → b < k) → earlier released b k < suc k
+    with-earlier k b h = go (ℕ-discrete b nobody)
+      where
+        go : Dec (b ≡ nobody) → earlier released b k < suc k
+        go (yes z) = rw (z, earlier-nobody released k) (omega arith)
+        go (no n) = ⊎-elim
+            (λ (q : released k < released b). rw (earlier-later released b k n q) (omega arith))
+            (λ (q : released b ≤ released k). rw (earlier-sooner released b k n q) (omega (arith, h n)))
+            (lt-or-le (released k) (released b))
+
     earliest-is : (n : ℕ) → n ≤ nobody → Lead g n (earliest released key g n) ⊎ ((earliest released key g n ≡ nobody) × None g n)
     unfolding earliest
     earliest-is zero h = inr (refl, λ x l. absurd (not-suc-le-zero l))
@@ -64,6 +75,14 @@ module _ (released key : ℕ → ℕ) where
         (λ t. let e : key k ≢ g = eqb-false (key k) g t in
         rw (if-false (eqb (key k) g) (earlier released (earliest released key g k) k) (earliest released key g k) t)
         (⊎-elim (λ L. inl (passed-by k (earliest released key g k) e L)) (λ (q, none). inr (q, below (λ x. key x ≡ g → ⊥) k none e)) (earliest-is k (omega arith))))
+
+    -- whoever leads is one of the first n
+    pub earliest-within : (n : ℕ) → earliest released key g n ≢ nobody → earliest released key g n < n
+    unfolding earliest
+    earliest-within zero h = absurd (h refl)
+    earliest-within (suc k) h = by-test (eqb (key k) g)
+        (λ t. let e : earliest released key g (suc k) ≡ earlier released (earliest released key g k) k = if-true (eqb (key k) g) _ _ t in rw e (with-earlier k (earliest released key g k) (earliest-within k)))
+        (λ t. let e : earliest released key g (suc k) ≡ earliest released key g k = if-false (eqb (key k) g) _ _ t in rw e (omega (arith, earliest-within k (λ z. h (e ∙ z)))))
 
   module _ (n : ℕ) (few : n ≤ nobody) where
     pub elected-none : greatest key n ≡ 0 → elected released key n ≡ nobody

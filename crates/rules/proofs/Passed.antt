@@ -14,7 +14,7 @@ use Rattle.rules.specs.Refusal.{firstTrue}
 use Rattle.rules.specs.Row.{newest}
 use Rattle.rules.specs.Plan.{declares}
 use Rattle.rules.specs.Figures.{Figures, holds}
-use Rattle.rules.specs.Tests.{elsewhere, notNewest, pastLimit, testsOf, refusalOf}
+use Rattle.rules.specs.Tests.{elsewhere, notNewest, pastLimit, testsOf, releaseOrder, acquireOrder, unlockOrder, workOrder, finishOrder, refusalOf}
 use Rattle.rules.specs.declared.plan.Plan.{Plan}
 use Rattle.rules.specs.declared.answer.Tested.{Tested}
 use Rattle.rules.specs.declared.event.Event.{Event}
@@ -84,7 +84,7 @@ Allowed p f r Tick = Unit {0}
 
 module _ (p : Plan) (f : Figures) (r : ℕ) where
   allowed-by : (e : Event) → Clear (testsOf p f r e) → Allowed p f r e
-  unfolding testsOf Clear notNewest
+  unfolding testsOf releaseOrder acquireOrder unlockOrder workOrder finishOrder Clear notNewest
   allowed-by (Release t) (a, (b, _)) = record { known = leb-false (p .tasks) t a; resting = omega (arith, ltb-false 0 (at (f .released) t) b) }
   allowed-by (Acquire l) (a, (b, (c, (d, (g, (h, _)))))) = record {
     runs = eqb-false r nobody a;
@@ -106,7 +106,7 @@ module _ (p : Plan) (f : Figures) (r : ℕ) where
   allowed-by Tick _ = tt
 
   clear-by : (e : Event) → Allowed p f r e → Clear (testsOf p f r e)
-  unfolding testsOf Clear notNewest
+  unfolding testsOf releaseOrder acquireOrder unlockOrder workOrder finishOrder Clear notNewest
   clear-by (Release t) o = (lt-leb (p .tasks) t (o .known), (le-ltb 0 (at (f .released) t) (omega (arith, o .resting)), tt))
   clear-by (Acquire l) o = (
     ne-eqb r nobody (o .runs),

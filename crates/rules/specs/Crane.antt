@@ -17,7 +17,7 @@ use Rattle.rules.specs.State.{freshOf}
 use Rattle.rules.specs.Row.{has, priority, saves}
 use Rattle.rules.specs.Figures.{holds, priorityOf, rankOf}
 use Rattle.rules.specs.Elect.{earlier, earliest, elected}
-use Rattle.rules.specs.Tests.{elsewhere, notNewest, pastLimit, testsOf, refusalOf}
+use Rattle.rules.specs.Tests.{elsewhere, notNewest, pastLimit, testsOf, releaseOrder, acquireOrder, unlockOrder, workOrder, finishOrder, refusalOf}
 use Rattle.rules.specs.Move.{eagerCalls, charged, delayed, movedOf}
 use Rattle.rules.specs.Eager.{runningOf, settle, eagerTest, eagerStep}
 use Rattle.rules.specs.Lazy.{callsFor, runsOn, switched, waits, arrives, takes, gives, returns, wordsAfter, lazyCall}
@@ -159,7 +159,7 @@ table : T (all cases)
 unfolding crane book endOf rowOf rowsOf same sames agree right all cases
     if_then_else_ every any count greatest firstFrom from renewed zeros numberOf firstTrue found firstFault testedNumber verdictNumber eventFault eventOf hasBit withBit
     most countFault taskFault lockFault declares users usersBase ceilingFault taskFaultAt lockFaultAt countFaultOf useFault masksOf planOf recordChecks loadChecks sizeOf bodyAt layoutFault contentsChecks eventChecks checkOf
-    has priority saves holds priorityOf rankOf earlier earliest elected elsewhere notNewest pastLimit testsOf refusalOf eagerCalls charged delayed movedOf runningOf settle eagerTest eagerStep
+    has priority saves holds priorityOf rankOf earlier earliest elected elsewhere notNewest pastLimit testsOf releaseOrder acquireOrder unlockOrder workOrder finishOrder refusalOf eagerCalls charged delayed movedOf runningOf settle eagerTest eagerStep
     callsFor runsOn switched waits arrives takes gives returns wordsAfter lazyCall keptOf savedOf ownerOf
     taskObeys lockObeys spareObeys obeys rowTest numberTest ownTest taskTest lockTest headTest spareTest soundTest
     afterOf answered actOf stepOf withRow onward runFrom replayAs replayOf eagerAt lazyAt lowerAt lowerUser mayBlock limitIf longestLimit

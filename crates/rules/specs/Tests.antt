@@ -29,33 +29,31 @@ notNewest f r l = eqb (at (f .held) r) 0 || not (eqb (newest (at (f .locks) r)) 
 unfoldable pub pastLimit : Plan → Figures → ℕ → ℕ → Bool
 pastLimit p f r a = any (λ l. holds f r l && ltb (at (p .limit) l) (at (f .units) l + a)) (p .locks)
 
+-- the order of each event's tests; a test is given by whether it holds
+unfoldable pub releaseOrder : (unknown out : Bool) → List (Bool × Refusal)
+releaseOrder unknown out = (unknown, Unknown) ∷ (out, AlreadyReleased) ∷ []
+
+unfoldable pub acquireOrder : (idle unknown undeclared mine other full : Bool) → List (Bool × Refusal)
+acquireOrder idle unknown undeclared mine other full =
+    (idle, NobodyRuns) ∷ (unknown, Unknown) ∷ (undeclared, NotDeclared) ∷ (mine, AlreadyOpen) ∷ (other, OpenElsewhere) ∷ (full, RowFull) ∷ []
+
+unfoldable pub unlockOrder : (idle unknown older : Bool) → List (Bool × Refusal)
+unlockOrder idle unknown older = (idle, NobodyRuns) ∷ (unknown, Unknown) ∷ (older, NotNewest) ∷ []
+
+unfoldable pub workOrder : (none idle past : Bool) → List (Bool × Refusal)
+workOrder none idle past = (none, NoWork) ∷ (idle, NobodyRuns) ∷ (past, PastLimit) ∷ []
+
+unfoldable pub finishOrder : (idle still : Bool) → List (Bool × Refusal)
+finishOrder idle still = (idle, NobodyRuns) ∷ (still, StillOpen) ∷ []
+
+-- the tests themselves
 unfoldable pub testsOf : Plan → Figures → ℕ → Event → List (Bool × Refusal)
-testsOf p f r (Release t) =
-    (leb (p .tasks) t, Unknown)
-    ∷ (ltb 0 (at (f .released) t), AlreadyReleased)
-    ∷ []
+testsOf p f r (Release t) = releaseOrder (leb (p .tasks) t) (ltb 0 (at (f .released) t))
 testsOf p f r (Acquire l) =
-    (eqb r nobody, NobodyRuns)
-    ∷ (leb (p .locks) l, Unknown)
-    ∷ (not (declares p r l), NotDeclared)
-    ∷ (holds f r l, AlreadyOpen)
-    ∷ (elsewhere f (p .tasks) r l, OpenElsewhere)
-    ∷ (leb maxOpen (at (f .held) r), RowFull)
-    ∷ []
-testsOf p f r (Unlock l) =
-    (eqb r nobody, NobodyRuns)
-    ∷ (leb (p .locks) l, Unknown)
-    ∷ (notNewest f r l, NotNewest)
-    ∷ []
-testsOf p f r (Work a) =
-    (eqb a 0, NoWork)
-    ∷ (eqb r nobody, NobodyRuns)
-    ∷ (pastLimit p f r a, PastLimit)
-    ∷ []
-testsOf p f r Finish =
-    (eqb r nobody, NobodyRuns)
-    ∷ (ltb 0 (at (f .held) r), StillOpen)
-    ∷ []
+    acquireOrder (eqb r nobody) (leb (p .locks) l) (not (declares p r l)) (holds f r l) (elsewhere f (p .tasks) r l) (leb maxOpen (at (f .held) r))
+testsOf p f r (Unlock l) = unlockOrder (eqb r nobody) (leb (p .locks) l) (notNewest f r l)
+testsOf p f r (Work a) = workOrder (eqb a 0) (eqb r nobody) (pastLimit p f r a)
+testsOf p f r Finish = finishOrder (eqb r nobody) (ltb 0 (at (f .held) r))
 testsOf p f r Tick = []
 
 unfoldable pub refusalOf : Plan → Figures → ℕ → Event → Tested

@@ -1,0 +1,11 @@
+-- `scheduler::switch::keep` meets its contract. A word is kept, or there is nobody to keep one for. Assumes nothing.
+use Rattle.scheduler.proofs.Switched.{kept-past}
+use borrow.Author.Needs.{needs}
+use Rattle.scheduler.proofs.switch.keep.Statement.{statement}
+use Rattle.scheduler.proofs.switch.keep.Tie as tie
+
+pub keep-spec : {M : Type 1} → statement M
+keep-spec =
+    tie.close
+    (tie.spec
+    (λ c. search kept-past) (λ c κs. search needs) (λ c. search needs) (λ c. cc))

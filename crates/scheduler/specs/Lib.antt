@@ -1,0 +1,2 @@
+-- The state as the code lends it, and the tests as the code makes them.
+pub mod Whole

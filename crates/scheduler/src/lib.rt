@@ -1,0 +1,4 @@
+// The step and the replay.
+mod row;
+mod switch;
+mod words;

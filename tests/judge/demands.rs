@@ -1,0 +1,127 @@
+//! What the judge demands of its own two schedulers while it judges: after
+//! every event they agree and the words are as defined, no lock has two
+//! holders, no section exceeds its limit, every delay is at most its bound; and
+//! at the end the counts equal the counts over the history.
+
+use crate::book::Book;
+use crate::eager::Eager;
+use crate::event::Event;
+use crate::lazy::Lazy;
+use crate::plan::Plan;
+
+/// The demands after one accepted event; an error says in words what is wrong.
+pub fn after_event(plan: &Plan, bounds: &[u16], eager: &Eager, lazy: &Lazy) -> Result<(), String> {
+    same_task_and_words(eager, lazy)?;
+    for lock in 0..plan.locks.len() {
+        one_holder(plan, eager, lazy, lock)?;
+    }
+    for (task, bound) in bounds.iter().enumerate() {
+        if eager.release_number(task) != lazy.release_number(task) {
+            return Err(format!("the release numbers of task {task} differ"));
+        }
+        if eager.open_locks(task) != lazy.open_locks(task) {
+            return Err(format!("the open locks of task {task} differ"));
+        }
+        let delay = eager.delays()[task];
+        if delay != lazy.delay(task) {
+            return Err(format!("the delays of task {task} differ"));
+        }
+        if delay > *bound {
+            return Err(format!("the delay {delay} of task {task} passes its bound {bound}"));
+        }
+    }
+    Ok(())
+}
+
+/// "The user word is the running task's priority, 0 with nobody. The next word
+/// is the greatest priority of the other released tasks, 0 without one."
+fn same_task_and_words(eager: &Eager, lazy: &Lazy) -> Result<(), String> {
+    if eager.running() != lazy.running() {
+        let (e, l) = (eager.running(), lazy.running());
+        return Err(format!("the eager scheduler runs {e:?}, the lazy one {l:?}"));
+    }
+    let user = eager.running().map_or(0, |task| eager.priority(task));
+    if lazy.user_word().0 != user {
+        return Err(format!("the user word is {}, not {user}", lazy.user_word().0));
+    }
+    let next = eager.greatest_other_priority();
+    if lazy.next_word().0 != next {
+        return Err(format!("the next word is {}, not {next}", lazy.next_word().0));
+    }
+    Ok(())
+}
+
+fn one_holder(plan: &Plan, eager: &Eager, lazy: &Lazy, lock: usize) -> Result<(), String> {
+    let mut holders = Vec::new();
+    for task in 0..plan.bases.len() {
+        for open in eager.open_locks(task) {
+            if *open == lock {
+                holders.push(task);
+            }
+        }
+    }
+    if holders.len() > 1 {
+        return Err(format!("lock {lock} is open for {holders:?} at once"));
+    }
+    if holders.first().copied() != lazy.holder(lock) {
+        return Err(format!("the holders of lock {lock} differ"));
+    }
+    let units = eager.units(lock);
+    if units != lazy.units(lock) {
+        return Err(format!("the units of lock {lock} differ"));
+    }
+    if units > u32::from(plan.locks[lock].limit) {
+        return Err(format!("the section of lock {lock} has {units} units, past its limit"));
+    }
+    if holders.is_empty() && units != 0 {
+        return Err(format!("lock {lock} is closed and has {units} units"));
+    }
+    Ok(())
+}
+
+/// The counts of the answer against those over the history, which is the list
+/// of accepted events and the rows written for them.
+pub fn after_run(
+    book: &Book,
+    accepted: usize,
+    rows: &[u8],
+    calls: (u32, u32),
+    delays: &[u16],
+) -> Result<(), String> {
+    let history = &book.events[..accepted];
+    let lazy_calls = (0..accepted).filter(|place| rows[4 * place + 3] == 1).count();
+    let is_eager_call = |event: &&Event| matches!(event, Event::Acquire(_) | Event::Unlock(_));
+    let eager_calls = history.iter().filter(is_eager_call).count();
+    if (lazy_calls as u32, eager_calls as u32) != calls {
+        return Err(format!("calls {calls:?}, over the history {lazy_calls} and {eager_calls}"));
+    }
+    for (task, delay) in delays.iter().enumerate() {
+        let counted = delay_over_history(&book.plan, history, rows, task);
+        if counted != u64::from(*delay) {
+            return Err(format!("the delay of task {task} is {delay}, over the history {counted}"));
+        }
+    }
+    Ok(())
+}
+
+/// "The number of units worked, since its latest accepted release and until
+/// that job's finish, by running tasks of strictly lower base." The task that
+/// ran at an event is the one that the row before names.
+fn delay_over_history(plan: &Plan, history: &[Event], rows: &[u8], task: usize) -> u64 {
+    let is_release = |event: &Event| *event == Event::Release(task as u8);
+    let Some(released_at) = history.iter().rposition(is_release) else {
+        return 0;
+    };
+    let mut units = 0;
+    for place in released_at + 1..history.len() {
+        let ran = usize::from(rows[4 * (place - 1)]);
+        match history[place] {
+            Event::Work(amount) if plan.bases[ran] < plan.bases[task] => {
+                units += u64::from(amount);
+            }
+            Event::Finish if ran == task => break,
+            _ => {}
+        }
+    }
+    units
+}

@@ -1,0 +1,108 @@
+//! The replay of a book: the reader's tests 1 to 9, then "events run until the
+//! first refusal". Both schedulers take each event side by side.
+
+use crate::book::{self, Book};
+use crate::demands;
+use crate::eager::Eager;
+use crate::lazy::Lazy;
+use crate::wrong::Wrong;
+
+/// The byte that fills the row space before a replay.
+pub const FILL: u8 = 0xEE;
+
+/// All that a program under judgement has to answer for a book.
+#[derive(Clone, Debug, PartialEq, Eq)]
+pub struct Answer {
+    /// 0 if nothing is refused.
+    pub number: u8,
+    pub place: u32,
+    pub lazy_calls: u32,
+    pub eager_calls: u32,
+    /// Of each task of the plan; none where 1 to 9 refused.
+    pub delays: Vec<u16>,
+    pub bounds: Vec<u16>,
+    /// The whole row space.
+    pub rows: Vec<u8>,
+}
+
+pub struct Outcome {
+    pub answer: Answer,
+    /// How many events were accepted.
+    pub accepted: usize,
+    /// The first of the judge's own demands that did not hold, in words.
+    pub violation: Option<String>,
+}
+
+pub fn replay(bytes: &[u8], row_space: usize, wrong: Wrong) -> Outcome {
+    match book::read(bytes, row_space) {
+        Ok(book) => run(&book, row_space, wrong),
+        // "They return no state and leave the rows untouched."
+        Err(refusal) => Outcome {
+            answer: Answer {
+                number: refusal.number,
+                place: refusal.place,
+                lazy_calls: 0,
+                eager_calls: 0,
+                delays: Vec::new(),
+                bounds: Vec::new(),
+                rows: vec![FILL; row_space],
+            },
+            accepted: 0,
+            violation: None,
+        },
+    }
+}
+
+/// "Then events run until the first refusal: the answer names its number, its
+/// event's place from 0 and the state before it. For each accepted event a row
+/// of four bytes is written ... All other row bytes stay."
+fn run(book: &Book, row_space: usize, wrong: Wrong) -> Outcome {
+    let bounds = book.plan.bounds();
+    let mut eager = Eager::new(&book.plan, wrong);
+    let mut lazy = Lazy::new(&book.plan, wrong);
+    let mut rows = vec![FILL; row_space];
+    let (mut number, mut place, mut accepted) = (0, 0, 0);
+    let mut violation = None;
+    for (at, event) in book.events.iter().enumerate() {
+        let by_eager = eager.step(*event).err().unwrap_or(0);
+        let by_lazy = lazy.step(*event);
+        // In a wrong mode the two may part; then the lazy one's word counts.
+        let refused = by_lazy.err().unwrap_or(by_eager);
+        let mut demand = Ok(());
+        if wrong == Wrong::Nothing && by_eager != by_lazy.err().unwrap_or(0) {
+            demand = Err(format!("the eager scheduler answers {by_eager}, the lazy {by_lazy:?}"));
+        } else if wrong == Wrong::Nothing && refused == 17 {
+            demand = Err("17 occurred from a fresh start".to_string());
+        } else if refused == 0 {
+            rows[4 * at..4 * at + 4].copy_from_slice(&lazy.row(by_lazy == Ok(true)));
+            accepted = at + 1;
+            if wrong == Wrong::Nothing {
+                demand = demands::after_event(&book.plan, &bounds, &eager, &lazy);
+            }
+        }
+        if let (Err(words), None) = (demand, &violation) {
+            violation = Some(format!("at event {at}, {event:?}: {words}"));
+        }
+        if refused != 0 {
+            (number, place) = (refused, at as u32);
+            break;
+        }
+    }
+    if wrong == Wrong::Nothing && violation.is_none() {
+        let calls = (lazy.calls(), eager.calls());
+        violation = demands::after_run(book, accepted, &rows, calls, eager.delays()).err();
+    }
+    Outcome {
+        answer: Answer {
+            number,
+            place,
+            lazy_calls: lazy.calls(),
+            eager_calls: eager.calls(),
+            delays: eager.delays().to_vec(),
+            bounds,
+            rows,
+        },
+        accepted,
+        violation,
+    }
+}

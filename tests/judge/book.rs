@@ -43,7 +43,10 @@ pub fn read(bytes: &[u8], row_space: usize) -> Result<Book, Refusal> {
 }
 
 fn refuse<T>(number: u8, place: usize) -> Result<T, Refusal> {
-    Err(Refusal { number, place: place as u32 })
+    Err(Refusal {
+        number,
+        place: place as u32,
+    })
 }
 
 fn two_bytes(bytes: &[u8], at: usize) -> usize {
@@ -51,7 +54,12 @@ fn two_bytes(bytes: &[u8], at: usize) -> usize {
 }
 
 fn four_bytes(bytes: &[u8], at: usize) -> u64 {
-    u64::from(u32::from_le_bytes([bytes[at], bytes[at + 1], bytes[at + 2], bytes[at + 3]]))
+    u64::from(u32::from_le_bytes([
+        bytes[at],
+        bytes[at + 1],
+        bytes[at + 2],
+        bytes[at + 3],
+    ]))
 }
 
 /// 1: "book under 32 bytes", place 0.
@@ -123,7 +131,10 @@ fn test_4_tasks(body: &[u8]) -> Result<Vec<u8>, Refusal> {
 fn test_5_locks(body: &[u8]) -> Result<Vec<Lock>, Refusal> {
     let mut locks = Vec::new();
     for (place, record) in body.chunks(4).enumerate() {
-        let lock = Lock { ceiling: record[0], limit: u16::from_le_bytes([record[2], record[3]]) };
+        let lock = Lock {
+            ceiling: record[0],
+            limit: u16::from_le_bytes([record[2], record[3]]),
+        };
         if lock.ceiling == 0 || record[1] != 0 || lock.limit == 0 {
             return refuse(5, place);
         }

@@ -15,7 +15,16 @@ use crate::wrong::Wrong;
 pub fn plan() -> Plan {
     Plan {
         bases: vec![1, 3, 5, 7],
-        locks: vec![Lock { ceiling: 5, limit: 4 }, Lock { ceiling: 3, limit: 10 }],
+        locks: vec![
+            Lock {
+                ceiling: 5,
+                limit: 4,
+            },
+            Lock {
+                ceiling: 3,
+                limit: 10,
+            },
+        ],
         uses: vec![(0, 0), (0, 1), (1, 1), (2, 0)],
     }
 }
@@ -23,6 +32,7 @@ pub fn plan() -> Plan {
 /// The twelve runs; P11 speaks of the plan alone and has the empty list. P2,
 /// P3, P4, P5 and P12 go on after the first thing that the document says of
 /// them, so their whole list stands here.
+#[rustfmt::skip]
 pub const RUNS: [(&str, &[Event]); 12] = [
     ("P1", &[Release(0), Acquire(0), Release(1), Work(2), Unlock(0), Finish, Finish]),
     ("P2", &[Release(0), Acquire(1), Acquire(0), Release(1), Unlock(0), Unlock(1)]),
@@ -54,6 +64,7 @@ delayed 0 2 0 0
 
 /// Lock 1 (limit 10) with lock 0 (limit 4) three times inside it: 4, 4 and 3
 /// units. The last work would bring lock 1 to 11.
+#[rustfmt::skip]
 pub const NEST: [Event; 10] = [
     Release(0), Acquire(1), Acquire(0), Work(4), Unlock(0),
     Acquire(0), Work(4), Unlock(0), Acquire(0), Work(3),
@@ -73,7 +84,8 @@ impl Tests {
     fn expect<T: PartialEq + std::fmt::Debug>(&mut self, what: &str, got: T, wanted: T) {
         self.done += 1;
         if got != wanted {
-            self.failed.push(format!("{what}: got {got:?}, wanted {wanted:?}"));
+            self.failed
+                .push(format!("{what}: got {got:?}, wanted {wanted:?}"));
         }
     }
 }
@@ -98,18 +110,29 @@ fn printed(answer: &Answer) -> String {
     let mut text = String::from("event running user next call\n");
     for place in 0..answer.rows.len() / 4 {
         let [running, user, next, call] = row(answer, place);
-        let who = if running == 255 { "-".to_string() } else { running.to_string() };
+        let who = if running == 255 {
+            "-".to_string()
+        } else {
+            running.to_string()
+        };
         text += &format!("{} {who} {user} {next} {call}\n", place + 1);
     }
     text += &format!("calls {} {}\n", answer.lazy_calls, answer.eager_calls);
-    let delays: Vec<String> = answer.delays.iter().map(|delay| delay.to_string()).collect();
+    let delays: Vec<String> = answer
+        .delays
+        .iter()
+        .map(|delay| delay.to_string())
+        .collect();
     text += &format!("delayed {}\n", delays.join(" "));
     text
 }
 
 /// Runs all tests of this file; the number done and those that failed.
 pub fn test() -> (usize, Vec<String>) {
-    let mut tests = Tests { done: 0, failed: Vec::new() };
+    let mut tests = Tests {
+        done: 0,
+        failed: Vec::new(),
+    };
     runs_p1_to_p4(&mut tests);
     runs_p5_to_p12(&mut tests);
     single_steps(&mut tests);
@@ -125,14 +148,26 @@ fn runs_p1_to_p4(tests: &mut Tests) {
 
     let p2 = run("P2");
     tests.expect("P2: nothing refused", p2.number, 0);
-    tests.expect("P2: restored 3, next 3, no call, 0 runs", row(&p2, 4), [0, 3, 3, 0]);
-    tests.expect("P2: unlock 1: one call, 1 runs", (row(&p2, 5)[0], row(&p2, 5)[3]), (1, 1));
+    tests.expect(
+        "P2: restored 3, next 3, no call, 0 runs",
+        row(&p2, 4),
+        [0, 3, 3, 0],
+    );
+    tests.expect(
+        "P2: unlock 1: one call, 1 runs",
+        (row(&p2, 5)[0], row(&p2, 5)[3]),
+        (1, 1),
+    );
     tests.expect("P2: one call in all", p2.lazy_calls, 1);
 
     let p3 = run("P3");
     tests.expect("P3: nothing refused", p3.number, 0);
     tests.expect("P3: 0 runs, words 5 and 5", row(&p3, 2), [0, 5, 5, 0]);
-    tests.expect("P3: unlock 0: call, 2 runs", (row(&p3, 3)[0], row(&p3, 3)[3]), (2, 1));
+    tests.expect(
+        "P3: unlock 0: call, 2 runs",
+        (row(&p3, 3)[0], row(&p3, 3)[3]),
+        (2, 1),
+    );
 
     let p4 = run("P4");
     tests.expect("P4: nothing refused", p4.number, 0);
@@ -142,7 +177,11 @@ fn runs_p1_to_p4(tests: &mut Tests) {
 
 fn runs_p5_to_p12(tests: &mut Tests) {
     let p5 = run("P5");
-    tests.expect("P5: work 4 accepted, work 1: 21", (p5.number, p5.place), (21, 3));
+    tests.expect(
+        "P5: work 4 accepted, work 1: 21",
+        (p5.number, p5.place),
+        (21, 3),
+    );
     let p6 = run("P6");
     tests.expect("P6: 19", (p6.number, p6.place), (19, 3));
     let p7 = run("P7");
@@ -158,7 +197,11 @@ fn runs_p5_to_p12(tests: &mut Tests) {
     let plan = plan();
     let fresh = Lazy::new(&plan, Wrong::Nothing);
     tests.expect("P10: nobody", fresh.running(), None);
-    tests.expect("P10: words 0 and 0", (fresh.user_word(), fresh.next_word()), (Word(0), Word(0)));
+    tests.expect(
+        "P10: words 0 and 0",
+        (fresh.user_word(), fresh.next_word()),
+        (Word(0), Word(0)),
+    );
 
     tests.expect("P11: bounds", run("P11").bounds, vec![0, 10, 4, 0]);
 
@@ -172,10 +215,26 @@ fn single_steps(tests: &mut Tests) {
     let plan = plan();
     let mut eager = Eager::new(&plan, Wrong::Nothing);
     let mut lazy = Lazy::new(&plan, Wrong::Nothing);
-    tests.expect("eager: work of 0 is 20, before 12", eager.step(Work(0)), Err(20));
-    tests.expect("lazy: work of 0 is 20, before 12", lazy.step(Work(0)), Err(20));
-    tests.expect("eager: work with nobody running is 12", eager.step(Work(1)), Err(12));
-    tests.expect("lazy: work with nobody running is 12", lazy.step(Work(1)), Err(12));
+    tests.expect(
+        "eager: work of 0 is 20, before 12",
+        eager.step(Work(0)),
+        Err(20),
+    );
+    tests.expect(
+        "lazy: work of 0 is 20, before 12",
+        lazy.step(Work(0)),
+        Err(20),
+    );
+    tests.expect(
+        "eager: work with nobody running is 12",
+        eager.step(Work(1)),
+        Err(12),
+    );
+    tests.expect(
+        "lazy: work with nobody running is 12",
+        lazy.step(Work(1)),
+        Err(12),
+    );
     let mut accepted = 0;
     while eager.step(Tick).is_ok() && lazy.step(Tick).is_ok() {
         accepted += 1;
@@ -197,7 +256,11 @@ fn wrong_ways(tests: &mut Tests) {
     p4_and_acquire.push(Acquire(0));
     let tail = answer(&p4_and_acquire, Wrong::Tail);
     tests.expect("tail: P4's finish lets 2 run", row(&tail, 4)[0], 2);
-    tests.expect("tail: lock 0 is open for another", (tail.number, tail.place), (17, 5));
+    tests.expect(
+        "tail: lock 0 is open for another",
+        (tail.number, tail.place),
+        (17, 5),
+    );
 
     // "P2 then calls one time too many."
     let at_or_above = answer(p2, Wrong::AtOrAbove);
@@ -209,7 +272,11 @@ fn wrong_ways(tests: &mut Tests) {
 
     // "Lock 1's limit in a nest is then passed."
     let nest = answer(&NEST, Wrong::Nothing);
-    tests.expect("nest: 21 at its last work", (nest.number, nest.place), (21, 9));
+    tests.expect(
+        "nest: 21 at its last work",
+        (nest.number, nest.place),
+        (21, 9),
+    );
     let newest = answer(&NEST, Wrong::Newest);
     tests.expect("newest: the nest's last work is accepted", newest.number, 0);
 }

@@ -12,9 +12,7 @@ use crate::plan::Plan;
 /// The demands after one accepted event; an error says in words what is wrong.
 pub fn after_event(plan: &Plan, bounds: &[u16], eager: &Eager, lazy: &Lazy) -> Result<(), String> {
     same_task_and_words(eager, lazy)?;
-    for lock in 0..plan.locks.len() {
-        one_holder(plan, eager, lazy, lock)?;
-    }
+    holders_and_sections(plan, eager, lazy)?;
     for (task, bound) in bounds.iter().enumerate() {
         if eager.release_number(task) != lazy.release_number(task) {
             return Err(format!("the release numbers of task {task} differ"));
@@ -27,7 +25,9 @@ pub fn after_event(plan: &Plan, bounds: &[u16], eager: &Eager, lazy: &Lazy) -> R
             return Err(format!("the delays of task {task} differ"));
         }
         if delay > *bound {
-            return Err(format!("the delay {delay} of task {task} passes its bound {bound}"));
+            return Err(format!(
+                "the delay {delay} of task {task} passes its bound {bound}"
+            ));
         }
     }
     Ok(())
@@ -38,43 +38,55 @@ pub fn after_event(plan: &Plan, bounds: &[u16], eager: &Eager, lazy: &Lazy) -> R
 fn same_task_and_words(eager: &Eager, lazy: &Lazy) -> Result<(), String> {
     if eager.running() != lazy.running() {
         let (e, l) = (eager.running(), lazy.running());
-        return Err(format!("the eager scheduler runs {e:?}, the lazy one {l:?}"));
+        return Err(format!(
+            "the eager scheduler runs {e:?}, the lazy one {l:?}"
+        ));
     }
     let user = eager.running().map_or(0, |task| eager.priority(task));
     if lazy.user_word().0 != user {
-        return Err(format!("the user word is {}, not {user}", lazy.user_word().0));
+        return Err(format!(
+            "the user word is {}, not {user}",
+            lazy.user_word().0
+        ));
     }
     let next = eager.greatest_other_priority();
     if lazy.next_word().0 != next {
-        return Err(format!("the next word is {}, not {next}", lazy.next_word().0));
+        return Err(format!(
+            "the next word is {}, not {next}",
+            lazy.next_word().0
+        ));
     }
     Ok(())
 }
 
-fn one_holder(plan: &Plan, eager: &Eager, lazy: &Lazy, lock: usize) -> Result<(), String> {
-    let mut holders = Vec::new();
+/// No lock has two holders, and no section exceeds its limit.
+fn holders_and_sections(plan: &Plan, eager: &Eager, lazy: &Lazy) -> Result<(), String> {
+    let mut holders: Vec<Option<usize>> = vec![None; plan.locks.len()];
     for task in 0..plan.bases.len() {
-        for open in eager.open_locks(task) {
-            if *open == lock {
-                holders.push(task);
+        for lock in eager.open_locks(task) {
+            if let Some(other) = holders[*lock].replace(task) {
+                return Err(format!(
+                    "lock {lock} is open for {other} and {task} at once"
+                ));
             }
         }
     }
-    if holders.len() > 1 {
-        return Err(format!("lock {lock} is open for {holders:?} at once"));
-    }
-    if holders.first().copied() != lazy.holder(lock) {
-        return Err(format!("the holders of lock {lock} differ"));
-    }
-    let units = eager.units(lock);
-    if units != lazy.units(lock) {
-        return Err(format!("the units of lock {lock} differ"));
-    }
-    if units > u32::from(plan.locks[lock].limit) {
-        return Err(format!("the section of lock {lock} has {units} units, past its limit"));
-    }
-    if holders.is_empty() && units != 0 {
-        return Err(format!("lock {lock} is closed and has {units} units"));
+    for (lock, holder) in holders.iter().enumerate() {
+        if *holder != lazy.holder(lock) {
+            return Err(format!("the holders of lock {lock} differ"));
+        }
+        let units = eager.units(lock);
+        if units != lazy.units(lock) {
+            return Err(format!("the units of lock {lock} differ"));
+        }
+        if units > u32::from(plan.locks[lock].limit) {
+            return Err(format!(
+                "lock {lock}'s section has {units} units, past its limit"
+            ));
+        }
+        if holder.is_none() && units != 0 {
+            return Err(format!("lock {lock} is closed and has {units} units"));
+        }
     }
     Ok(())
 }
@@ -89,16 +101,22 @@ pub fn after_run(
     delays: &[u16],
 ) -> Result<(), String> {
     let history = &book.events[..accepted];
-    let lazy_calls = (0..accepted).filter(|place| rows[4 * place + 3] == 1).count();
+    let lazy_calls = (0..accepted)
+        .filter(|place| rows[4 * place + 3] == 1)
+        .count();
     let is_eager_call = |event: &&Event| matches!(event, Event::Acquire(_) | Event::Unlock(_));
     let eager_calls = history.iter().filter(is_eager_call).count();
     if (lazy_calls as u32, eager_calls as u32) != calls {
-        return Err(format!("calls {calls:?}, over the history {lazy_calls} and {eager_calls}"));
+        return Err(format!(
+            "calls {calls:?}, over the history {lazy_calls} and {eager_calls}"
+        ));
     }
     for (task, delay) in delays.iter().enumerate() {
         let counted = delay_over_history(&book.plan, history, rows, task);
         if counted != u64::from(*delay) {
-            return Err(format!("the delay of task {task} is {delay}, over the history {counted}"));
+            return Err(format!(
+                "the delay of task {task} is {delay}, over the history {counted}"
+            ));
         }
     }
     Ok(())

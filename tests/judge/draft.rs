@@ -24,7 +24,11 @@ impl Draft {
                     [lock.ceiling, 0, limit[0], limit[1]]
                 })
                 .collect(),
-            uses: plan.uses.iter().map(|(task, lock)| [*task, *lock]).collect(),
+            uses: plan
+                .uses
+                .iter()
+                .map(|(task, lock)| [*task, *lock])
+                .collect(),
             events: events.iter().map(|event| event.record()).collect(),
         }
     }

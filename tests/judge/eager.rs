@@ -79,7 +79,10 @@ impl<'p> Eager<'p> {
     /// "A released task's priority is the greatest of its base and the ceilings
     /// of its open locks (003, rule b)." Only asked for released tasks.
     pub fn priority(&self, task: usize) -> u8 {
-        let ceilings = self.open_locks(task).iter().map(|lock| self.plan.locks[*lock].ceiling);
+        let ceilings = self
+            .open_locks(task)
+            .iter()
+            .map(|lock| self.plan.locks[*lock].ceiling);
         ceilings.fold(self.plan.bases[task], u8::max)
     }
 
@@ -128,10 +131,20 @@ impl<'p> Eager<'p> {
                     let limit = u32::from(self.plan.locks[*lock].limit);
                     self.units[*lock] + u32::from(amount) > limit
                 };
-                if self.charged(task).iter().any(passes) { 21 } else { 0 }
+                if self.charged(task).iter().any(passes) {
+                    21
+                } else {
+                    0
+                }
             }
             // "Finish with a lock open."
-            (Event::Finish, Some(task)) => if self.open_locks(task).is_empty() { 0 } else { 22 },
+            (Event::Finish, Some(task)) => {
+                if self.open_locks(task).is_empty() {
+                    0
+                } else {
+                    22
+                }
+            }
         }
     }
 
@@ -190,7 +203,10 @@ impl<'p> Eager<'p> {
         match (event, self.running) {
             (Event::Release(task), _) => {
                 let task = usize::from(task);
-                self.jobs[task] = Some(Job { release_number: self.accepted, open: Vec::new() });
+                self.jobs[task] = Some(Job {
+                    release_number: self.accepted,
+                    open: Vec::new(),
+                });
                 // The delay counts "since its latest accepted release"; "it is
                 // reset by the next release".
                 self.delays[task] = 0;
@@ -224,7 +240,10 @@ impl<'p> Eager<'p> {
     }
 
     fn open_of(&mut self, task: usize) -> &mut Vec<usize> {
-        &mut self.jobs[task].as_mut().expect("only a released task runs").open
+        &mut self.jobs[task]
+            .as_mut()
+            .expect("only a released task runs")
+            .open
     }
 
     /// "A task's delay is the number of units worked, since its latest accepted

@@ -57,7 +57,12 @@ pub struct Lazy<'p> {
 impl<'p> Lazy<'p> {
     /// The fresh start.
     pub fn new(plan: &'p Plan, wrong: Wrong) -> Lazy<'p> {
-        let figures = Figures { release_number: 0, kept: Kept(0), open: Vec::new(), delay: 0 };
+        let figures = Figures {
+            release_number: 0,
+            kept: Kept(0),
+            open: Vec::new(),
+            delay: 0,
+        };
         Lazy {
             plan,
             wrong,
@@ -66,7 +71,13 @@ impl<'p> Lazy<'p> {
             user_word: Word(0),
             next_word: Word(0),
             tasks: vec![figures; plan.bases.len()],
-            sections: vec![Section { holder: None, units: 0 }; plan.locks.len()],
+            sections: vec![
+                Section {
+                    holder: None,
+                    units: 0
+                };
+                plan.locks.len()
+            ],
             calls: 0,
         }
     }
@@ -111,7 +122,12 @@ impl<'p> Lazy<'p> {
     /// (255 for nobody), user word, next word, 1 for a lazy call or else 0."
     pub fn row(&self, lazy_call: bool) -> [u8; 4] {
         let running = self.running.map_or(255, |task| task as u8);
-        [running, self.user_word.0, self.next_word.0, u8::from(lazy_call)]
+        [
+            running,
+            self.user_word.0,
+            self.next_word.0,
+            u8::from(lazy_call),
+        ]
     }
 
     /// One event: whether it was a lazy call, or its refusal number and nothing
@@ -187,7 +203,10 @@ impl<'p> Lazy<'p> {
         self.tasks[task].open.push(OpenLock { lock, saved });
         self.user_word = saved.max(Word(self.plan.locks[lock].ceiling));
         // "A section starts at 0 units."
-        self.sections[lock] = Section { holder: Some(task), units: 0 };
+        self.sections[lock] = Section {
+            holder: Some(task),
+            units: 0,
+        };
         Ok(false)
     }
 
@@ -203,7 +222,10 @@ impl<'p> Lazy<'p> {
         };
         self.tasks[task].open.pop();
         // "Its count goes back to 0 when it ends."
-        self.sections[lock] = Section { holder: None, units: 0 };
+        self.sections[lock] = Section {
+            holder: None,
+            units: 0,
+        };
         // "Unlock puts the saved one back;"
         self.user_word = match self.wrong {
             Wrong::Base => Word(self.plan.bases[task]),
@@ -286,7 +308,11 @@ impl<'p> Lazy<'p> {
                     let wins = figures.kept > rival.kept
                         || (figures.kept == rival.kept
                             && figures.release_number < rival.release_number);
-                    if wins { Some(task) } else { Some(other) }
+                    if wins {
+                        Some(task)
+                    } else {
+                        Some(other)
+                    }
                 }
                 None => Some(task),
             };

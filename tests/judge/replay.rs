@@ -70,7 +70,9 @@ fn run(book: &Book, row_space: usize, wrong: Wrong) -> Outcome {
         let refused = by_lazy.err().unwrap_or(by_eager);
         let mut demand = Ok(());
         if wrong == Wrong::Nothing && by_eager != by_lazy.err().unwrap_or(0) {
-            demand = Err(format!("the eager scheduler answers {by_eager}, the lazy {by_lazy:?}"));
+            demand = Err(format!(
+                "the eager scheduler answers {by_eager}, the lazy {by_lazy:?}"
+            ));
         } else if wrong == Wrong::Nothing && refused == 17 {
             demand = Err("17 occurred from a fresh start".to_string());
         } else if refused == 0 {

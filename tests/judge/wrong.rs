@@ -25,5 +25,8 @@ pub const WRONG_WAYS: [(&str, Wrong); 4] = [
 ];
 
 pub fn from_name(name: &str) -> Option<Wrong> {
-    WRONG_WAYS.iter().find(|(known, _)| *known == name).map(|(_, wrong)| *wrong)
+    WRONG_WAYS
+        .iter()
+        .find(|(known, _)| *known == name)
+        .map(|(_, wrong)| *wrong)
 }

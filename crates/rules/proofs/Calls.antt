@@ -18,7 +18,7 @@ use Rattle.rules.specs.Tests.{refusalOf}
 use Rattle.rules.specs.Move.{eagerCalls, movedOf}
 use Rattle.rules.specs.Eager.{runningOf, settle, eagerTest, eagerStep}
 use Rattle.rules.specs.Lazy.{Words, wordsOf, callsFor, backOf, runsOn, switched, waits, arrives, takes, gives, returns, wordsAfter, lazyCall}
-use Rattle.rules.specs.Sound.{keptOf, Worded}
+use Rattle.rules.specs.Sound.{keptOf, Worded, Steady}
 use Rattle.rules.specs.Step.{afterOf, answered, actOf, stepOf}
 use Rattle.rules.specs.Answer.{testedNumber, answerNumber, answerCalls}
 use Rattle.rules.specs.History.{eventAt, eagerAt, lazyAt, acceptedAt, outranked, callsDue, lazyCount, eagerCount}
@@ -37,7 +37,7 @@ use Rattle.rules.proofs.Passed.{Givable, passed-room, allowed, refused-
 use Rattle.rules.proofs.Figured.{inside, calls-moved}
 use Rattle.rules.proofs.Worded as Worded
 use Rattle.rules.proofs.Rules.{call-below, no-call, below-call, rank-out, rank-in, kept-own, kept-other}
-use Rattle.rules.proofs.SoundKept.{Steady, scene, step-act}
+use Rattle.rules.proofs.SoundKept.{scene, step-act}
 use Rattle.rules.proofs.EagerRuled.{Ruled}
 use Rattle.rules.proofs.Follow.{Follows, follows, next-above}
 

@@ -19,7 +19,7 @@ use Rattle.rules.specs.Tests.{elsewhere, notNewest, pastLimit, testsOf, 
 use Rattle.rules.specs.Move.{movedOf}
 use Rattle.rules.specs.Eager.{runningOf, eagerTest}
 use Rattle.rules.specs.Lazy.{wordsOf, callsFor, backOf, lazyCall}
-use Rattle.rules.specs.Sound.{keptOf, savedOf}
+use Rattle.rules.specs.Sound.{keptOf, savedOf, Steady}
 use Rattle.rules.specs.Step.{afterOf, answered, actOf, stepOf}
 use Rattle.rules.specs.Answer.{testedNumber, answerNumber, answerCalls}
 use Rattle.rules.specs.History.{eventAt, eagerAt, lazyAt, runnerAt, acceptedAt, lazyCount, eagerCount}
@@ -36,7 +36,7 @@ use Rattle.rules.proofs.Choice.{if-true, if-false, by-test, either, or-
 use Rattle.rules.proofs.Place.{greatest-least}
 use Rattle.rules.proofs.Passed.{passed-room, allowed}
 use Rattle.rules.proofs.Rules.{rank-out, rank-in, kept-own, kept-other}
-use Rattle.rules.proofs.SoundKept.{Steady, step-act}
+use Rattle.rules.proofs.SoundKept.{step-act}
 use Rattle.rules.proofs.EagerRuled.{Ruled, runs-best, some-runs, not-elsewhere}
 use Rattle.rules.proofs.Follow.{Follows, follows, next-above}
 use Rattle.rules.proofs.Calls.{refusal-number, answered-number, zero-passed, call-some, some-call, counts}

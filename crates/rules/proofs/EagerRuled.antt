@@ -19,7 +19,7 @@ use Rattle.rules.specs.Tests.{elsewhere, refusalOf}
 use Rattle.rules.specs.Move.{movedOf}
 use Rattle.rules.specs.Eager.{runningOf, settle, eagerTest, eagerStep}
 use Rattle.rules.specs.State.{freshOf}
-use Rattle.rules.specs.Sound.{Figured}
+use Rattle.rules.specs.Sound.{Figured, Steady}
 use Rattle.rules.specs.declared.plan.Plan.{Plan}
 use Rattle.rules.specs.declared.answer.Tested.{Tested}
 use Rattle.rules.specs.declared.event.Event.{Event}
@@ -34,7 +34,7 @@ use Rattle.rules.proofs.Figured as Figured
 use Rattle.rules.proofs.Figured.{Stage, inside, holder-out, sized-moved, figured-kept}
 use Rattle.rules.proofs.Worded.{Same, same-priority, cleared}
 use Rattle.rules.proofs.Rules.{rank-out, rank-in, base-priority, plain-priority}
-use Rattle.rules.proofs.SoundKept.{Steady, fresh-steady}
+use Rattle.rules.proofs.SoundKept.{fresh-steady}
 use Rattle.rules.proofs.Urgency as Urgency
 use Rattle.rules.proofs.Urgency.{Standing, Alike, Best, Own, Early, Good}
 

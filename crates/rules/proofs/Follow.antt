@@ -19,7 +19,7 @@ use Rattle.rules.specs.Tests.{refusalOf}
 use Rattle.rules.specs.Move.{movedOf}
 use Rattle.rules.specs.Eager.{runningOf, settle, eagerTest, eagerStep}
 use Rattle.rules.specs.Lazy.{Words, wordsOf, callsFor, backOf, runsOn, switched, waits, arrives, takes, gives, returns, wordsAfter, lazyCall}
-use Rattle.rules.specs.Sound.{keptOf, Sound, Figured, Worded}
+use Rattle.rules.specs.Sound.{keptOf, Sound, Figured, Worded, Steady}
 use Rattle.rules.specs.Step.{afterOf, answered, actOf, stepOf}
 use Rattle.rules.specs.History.{eventAt, eagerAt, lazyAt}
 use Rattle.rules.specs.declared.plan.Plan.{Plan}
@@ -37,7 +37,7 @@ use Rattle.rules.proofs.Figured as Figured
 use Rattle.rules.proofs.Worded as Worded
 use Rattle.rules.proofs.Worded.{Same, same-rank}
 use Rattle.rules.proofs.Rules.{no-call, rank-out, rank-in, kept-other, base-priority}
-use Rattle.rules.proofs.SoundKept.{Steady, scene, after-steady, step-act, fresh-steady}
+use Rattle.rules.proofs.SoundKept.{scene, after-steady, step-act, fresh-steady}
 use Rattle.rules.proofs.Urgency as Urgency
 use Rattle.rules.proofs.Urgency.{Best}
 use Rattle.rules.proofs.EagerRuled.{standing, same-alike, Ruled, good, stage, runs-best, best-runs, ruled-kept, ruled-fresh}

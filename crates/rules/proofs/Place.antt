@@ -13,7 +13,7 @@ use lib.Seq.{getD-set-same, getD-set-other, getD-take, length-take-le, ext-getD}
 use borrow.Author.Tests.{eqb-true, eq-eqb}
 use Rattle.rules.specs.Choice.{if_then_else_}
 use Rattle.rules.specs.Place.{at, every, any, count, greatest, firstFrom, from, tabulate, renewed, zeros}
-use Rattle.rules.proofs.Choice.{if-true, if-false, by-test, untrue, and-true, or-false, lt-or-le}
+use Rattle.rules.proofs.Choice.{if-true, if-false, by-test, untrue, and-true, or-false, at-or, lt-or-le}
 
 -- below n + 1: n itself, or below n
 pub below : (P : ℕ → Type 0) (n : ℕ) → ((y : ℕ) → y < n → P y) → P n → (y : ℕ) → y < suc n → P y
@@ -238,6 +238,23 @@ pub greatest-ext : (f g : ℕ → ℕ) (n : ℕ) → ((x : ℕ) → x < n → f 
 unfolding greatest
 greatest-ext f g zero h = refl
 greatest-ext f g (suc k) h = ap₂ max (greatest-ext f g k (λ x l. h x (omega arith))) (h k (omega arith))
+
+-- a place that held 0 is given a value
+pub greatest-set : (xs : List ℕ) (n t v : ℕ) → at xs t ≡ 0 → t < n → t < length xs → greatest (at (set xs t v)) n ≡ max (greatest (at xs) n) v
+greatest-set xs n t v z l b = le-antisymm
+    (greatest-least (at (set xs t v)) (max (greatest (at xs) n) v) n
+    (at-or (λ x. x < n → at (set xs t v) x ≤ max (greatest (at xs) n) v) t
+    (λ q. omega (arith, getD-set-same xs t v 0 b))
+    (λ x q k. omega (arith, getD-set-other xs t x v 0 q, greatest-all (at xs) n x k))))
+    (max-least (greatest (at xs) n) v (greatest (at (set xs t v)) n)
+    (greatest-least (at xs) (greatest (at (set xs t v)) n) n
+    (at-or (λ x. x < n → at xs x ≤ greatest (at (set xs t v)) n) t
+    (λ q. omega arith)
+    (λ x q k. omega (arith, getD-set-other xs t x v 0 q, greatest-all (at (set xs t v)) n x k))))
+    (omega (arith, getD-set-same xs t v 0 b, greatest-all (at (set xs t v)) n t l)))
+  where
+    max-least : (a b c : ℕ) → a ≤ c → b ≤ c → max a b ≤ c
+    max-least a b c h g = omega arith
 
 -- ---- tables
 

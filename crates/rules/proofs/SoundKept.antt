@@ -17,7 +17,7 @@ use Rattle.rules.specs.Tests.{refusalOf}
 use Rattle.rules.specs.Move.{movedOf}
 use Rattle.rules.specs.Lazy.{Words, WordsSized, wordsOf, callsFor, backOf, runsOn, switched, waits, arrives, takes, gives, returns, wordsAfter}
 use Rattle.rules.specs.State.{freshOf}
-use Rattle.rules.specs.Sound.{distinct, Figured, keptOf, savedOf, ownerOf, Worded, Sound}
+use Rattle.rules.specs.Sound.{distinct, Figured, keptOf, savedOf, ownerOf, Worded, Sound, Steady}
 use Rattle.rules.specs.SoundTest.{soundTest}
 use Rattle.rules.specs.Step.{afterOf, answered, actOf, stepOf, refusedWith}
 use Rattle.rules.specs.declared.plan.Plan.{Plan}
@@ -69,12 +69,6 @@ words-sized p released w (Unlock l) Y =
 words-sized p released w (Work a) Y = Y
 words-sized p released w Finish Y = switched-sized (p .tasks) released (set (w .kept) (w .running) 0) w Y (set-length (w .kept) (w .running) 0 maxTasks (Y .kept))
 words-sized p released w Tick Y = Y
-
--- what the types say of a state, and soundness
-pub record Steady (p : Plan) (s : State) : Type 0 where
-  pub figuresSized : Sized (figuresOf s)
-  pub wordsSized : WordsSized (wordsOf s)
-  pub sound : Sound p s
 
 pub scene : {p : Plan} {s : State} → Steady p s → s .head .accepted < maxAccepted → Scene p (figuresOf s) (wordsOf s)
 scene S room = record {

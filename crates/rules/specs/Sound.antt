@@ -9,8 +9,8 @@ use Rattle.rules.specs.Choice.{if_then_else_}
 use Rattle.rules.specs.Place.{at, greatest}
 use Rattle.rules.specs.Row.{newest, under, has, saves}
 use Rattle.rules.specs.Plan.{Obeys, declares}
-use Rattle.rules.specs.Figures.{Figures, figuresOf, holds, rankOf}
-use Rattle.rules.specs.Lazy.{Words, wordsOf}
+use Rattle.rules.specs.Figures.{Figures, Sized, figuresOf, holds, rankOf}
+use Rattle.rules.specs.Lazy.{Words, WordsSized, wordsOf}
 use Rattle.rules.specs.declared.plan.Plan.{Plan}
 use Rattle.rules.specs.declared.state.State.{State}
 
@@ -75,3 +75,9 @@ pub record Sound (p : Plan) (s : State) : Type 0 where
   pub plan : Obeys p
   pub figures : Figured p (figuresOf s)
   pub words : Worded p (figuresOf s) (wordsOf s)
+
+-- a sound state, with a place for every task and every lock that a plan may have, as its types say
+pub record Steady (p : Plan) (s : State) : Type 0 where
+  pub figuresSized : Sized (figuresOf s)
+  pub wordsSized : WordsSized (wordsOf s)
+  pub sound : Sound p s

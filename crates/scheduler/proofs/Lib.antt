@@ -1,2 +1,10 @@
 -- The laws behind the proofs of this crate.
 mod Switched
+mod Released
+mod Taken
+mod Worked
+mod Ordered
+mod Quick
+mod Readied
+mod Answers
+mod Acts

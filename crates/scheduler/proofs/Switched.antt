@@ -65,7 +65,7 @@ unfolding runsOn
 runs n q kept w t a b c = rw (a, b, c)
 
 -- a place past the end keeps nothing
-set-past : (xs : List ℕ) (i v : ℕ) → length xs ≤ i → set xs i v ≡ xs
+pub set-past : (xs : List ℕ) (i v : ℕ) → length xs ≤ i → set xs i v ≡ xs
 set-past [] i v h = refl
 set-past (x ∷ xs) zero v h = absurd (omega arith)
 set-past (x ∷ xs) (suc i) v h = ap (λ ys. x ∷ ys) (set-past xs i v (omega arith))

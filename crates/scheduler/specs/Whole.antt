@@ -1,11 +1,20 @@
 -- The plan, the state and the words of the arrays that the code lends. Assumes nothing.
+use mathlib.Core.Bool.{false}
 use mathlib.Core.List.{List}
-use Prim.Native.Nat.{ℕ}
+use Prim.Native.Nat.{ℕ, _+_}
 use Rattle.rules.specs.Capacity.{nobody}
-use Rattle.rules.specs.Lazy.{Words}
+use Rattle.rules.specs.Figures.{Figures}
+use Rattle.rules.specs.Lazy.{Words, wordsOf, lazyCall}
+use Rattle.rules.specs.Step.{afterOf, answered}
 use Rattle.rules.specs.declared.plan.Plan.{Plan}
 use Rattle.rules.specs.declared.state.Head.{Head}
 use Rattle.rules.specs.declared.state.State.{State}
+use Rattle.rules.specs.declared.event.Event.{Event}
+use Rattle.rules.specs.declared.refusal.Refusal.{Refusal}
+use Rattle.rules.specs.declared.answer.Tested.{Tested}
+use Rattle.rules.specs.declared.answer.Answer.{Answer}
+use Rattle.rules.specs.declared.answer.Stepped.{Stepped}
+use Rattle.scheduler.specs.declared.acted.Acted.{Acted}
 use Rattle.scheduler.specs.declared.switch.Turn.{Turn}
 
 abbrev pub planWith : ℕ → ℕ → List ℕ → List ℕ → List ℕ → List ℕ → Plan
@@ -24,6 +33,42 @@ stateWith h released kept delay held locks saved units owner =
       units = units;
       owner = owner;
     }
+
+abbrev pub figuresWith : Head → List ℕ → List ℕ → List ℕ → List ℕ → List ℕ → Figures
+figuresWith h released delay held locks units =
+    record {
+      accepted = h .accepted;
+      calls = h .eager;
+      released = released;
+      delay = delay;
+      held = held;
+      locks = locks;
+      units = units;
+    }
+
+-- an answer and a head beside the arrays
+abbrev pub steppedAs : Acted → List ℕ → List ℕ → List ℕ → List ℕ → List ℕ → List ℕ → List ℕ → List ℕ → Stepped
+steppedAs r released kept delay held locks saved units owner =
+    record { answer = r .answer; state = stateWith (r .head) released kept delay held locks saved units owner }
+
+-- the act of an event that is refused, and of a tick
+abbrev pub refusedAs : Head → Refusal → Acted
+refusedAs h why = record { answer = Answer.Refused why; head = h }
+
+abbrev pub tickedAs : Head → Acted
+tickedAs h =
+    record {
+      answer = Answer.Accepted false;
+      head = record { accepted = h .accepted + 1; running = h .running; user = h .user; next = h .next; lazy = h .lazy; eager = h .eager };
+    }
+
+-- what an event makes of a state by what its tests say
+abbrev pub answeredAs : Tested → Plan → State → Event → Stepped
+answeredAs t p s e = answered t s (afterOf p s e) (lazyCall (wordsOf s) e)
+
+-- and where it passes them
+abbrev pub acceptedAs : Plan → State → Event → Stepped
+acceptedAs p s e = record { answer = Answer.Accepted (lazyCall (wordsOf s) e); state = afterOf p s e }
 
 -- the words after a switch: who runs, the two words and the kept priorities are its own, the rest is as it was
 abbrev pub turned : Turn → List ℕ → Words → Words

@@ -1,11 +1,11 @@
 // A task's row, newest first: a number in base 256, with room for eight.
 use rules::capacity::MAX_TASKS;
 ghost use mathlib.Core.Path.{_≡_};
-ghost use Prim.Native.Nat.{_<_, _^_};
+ghost use Prim.Native.Nat.{_^_, _<_};
 ghost use lib.ListN.{set};
 ghost use Rattle.rules.specs.Capacity.{maxTasks};
 ghost use Rattle.rules.specs.Place.{at};
-ghost use Rattle.rules.specs.Row.{newest, under, pushed};
+ghost use Rattle.rules.specs.Row.{newest, pushed, under};
 
 pub fn newest_of(row: u64) -> u8
     ensures { λ r. ⌜ r ≡ newest row ⌝ }

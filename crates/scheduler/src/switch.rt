@@ -7,13 +7,14 @@ use rules::capacity::NOBODY;
 use rules::priority::KernelPriority;
 use rules::priority::UserPriority;
 ghost use mathlib.Core.Path.{_≡_};
-ghost use Prim.Native.Nat.{_≤_, _<_, _+_};
+ghost use Prim.Native.Nat.{_+_, _≤_, _<_};
 ghost use lib.ListN.{length, set};
 ghost use Rattle.rules.specs.Capacity.{maxTasks};
 ghost use Rattle.rules.specs.Place.{at, greatest};
+ghost use Rattle.rules.specs.Book.{word};
 ghost use Rattle.rules.specs.Elect.{earliest};
 ghost use Rattle.rules.specs.Lazy.{Words, runsOn, switched};
-ghost use Rattle.scheduler.specs.Whole.{turned, idleTurn};
+ghost use Rattle.scheduler.specs.Whole.{idleTurn, turned};
 
 // Who runs after a switch, and the two words.
 pub struct Turn {
@@ -39,7 +40,13 @@ pub fn greatest_kept(n: usize, kept: &[u8; MAX_TASKS]) -> KernelPriority
 
 // Of the first i + 1 tasks of kept priority g the one released earliest, where `who` is that of the
 // first i.
-fn with_next(kept: &[u8; MAX_TASKS], released: &[u32; MAX_TASKS], g: u8, who: usize, i: usize) -> usize
+fn with_next(
+    kept: &[u8; MAX_TASKS],
+    released: &[u32; MAX_TASKS],
+    g: u8,
+    who: usize,
+    i: usize,
+) -> usize
     requires { ⌜ (i < maxTasks) × (who ≡ earliest (at (now released)) (at (now kept)) g i) ⌝ }
     ensures { λ r. ⌜ r ≡ earliest (at (now (released .entry))) (at (now (kept .entry))) g (i + 1) ⌝ }
 {
@@ -109,7 +116,7 @@ pub fn switch(n: usize, released: &[u32; MAX_TASKS], kept: &mut [u8; MAX_TASKS])
 // The kernel keeps the word of a task that leaves; of nobody it keeps none.
 pub fn keep(kept: &mut [u8; MAX_TASKS], r: u8, word: UserPriority)
     requires { ⌜ length (now kept) ≡ maxTasks ⌝ }
-    ensures { λ _. ⌜ now (kept .exit) ≡ set (now (kept .entry)) r (word .0) ⌝ }
+    ensures { λ _. ⌜ (now (kept .exit) ≡ set (now (kept .entry)) r (word .0)) × (length (now (kept .exit)) ≡ maxTasks) ⌝ }
 {
     let x = r as usize;
     if x >= MAX_TASKS {

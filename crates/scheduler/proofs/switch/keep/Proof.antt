@@ -8,4 +8,5 @@ pub keep-spec : {M : Type 1} → statement M
 keep-spec =
     tie.close
     (tie.spec
-    (λ c. search kept-past) (λ c κs. search needs) (λ c. search needs) (λ c. cc))
+    (λ c. (search kept-past, search needs)) (λ c κs. search needs) (λ c. search needs)
+    (λ c. (cc, search needs)))

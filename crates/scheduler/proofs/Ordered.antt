@@ -1,0 +1,99 @@
+-- The ways through the tests of an event: the first that holds refuses. Assumes nothing.
+use mathlib.Core.Path.{_≡_, refl, sym, _∙_, ap}
+use mathlib.Core.Bool.{Bool, true, false, not, _||_}
+use mathlib.Core.List.{List, [], _∷_}
+use Prim.Native.Nat.{ℕ, zero, suc, _+_, _-_, _≤_, _<_}
+use native.Mathlib.Nat.{not-suc-le-zero}
+use native.Mathlib.Omega.{arith}
+use lib.Dec.{eqb, ltb}
+use lib.ListN.{length, List·getD-eq-default}
+use borrow.Author.Tests.{eq-eqb, ne-eqb, lt-ltb, le-ltb}
+use Rattle.rules.specs.Capacity.{maxLocks}
+use Rattle.rules.specs.Choice.{if_then_else_}
+use Rattle.rules.specs.Place.{at}
+use Rattle.rules.specs.Row.{newest, under}
+use Rattle.rules.specs.Refusal.{firstTrue}
+use Rattle.rules.specs.Tests.{acquireOrder}
+use Rattle.rules.specs.declared.answer.Tested.{Tested}
+use Rattle.rules.specs.declared.refusal.Refusal.{Refusal}
+use Rattle.rules.specs.declared.refusal.Refusal.the-variants.{AlreadyOpen, OpenElsewhere, RowFull}
+use Rattle.rules.proofs.Choice.{if-true, if-false, flags}
+use Rattle.scheduler.specs.Along.{pastRow}
+
+pub true-here : (t : Bool) (why : Refusal) (ts : List (Bool × Refusal)) → t ≡ true → Tested.Refused why ≡ firstTrue ((t, why) ∷ ts)
+unfolding firstTrue
+true-here t why ts e = sym (if-true t (Tested.Refused why) (firstTrue ts) e)
+
+pub true-later : (t : Bool) (why : Refusal) (ts : List (Bool × Refusal)) (r : Tested) → t ≡ false → r ≡ firstTrue ts → r ≡ firstTrue ((t, why) ∷ ts)
+unfolding firstTrue
+true-later t why ts r e h = h ∙ sym (if-false t (Tested.Refused why) (firstTrue ts) e)
+
+pub true-none : Tested.Passed ≡ firstTrue []
+unfolding firstTrue
+true-none = refl
+
+-- what a test's opposite says
+pub not-true : (t : Bool) → t ≡ true → not t ≡ false
+not-true t e = ap not e
+
+pub not-false : (t : Bool) → t ≡ false → not t ≡ true
+not-false t e = ap not e
+
+pub ruleset order = (true-here, true-later, true-none, not-true, not-false, flags)
+
+-- ---- the newest of a row
+
+pub older-none : (k row l : ℕ) → k ≡ 0 → true ≡ (eqb k 0 || not (eqb (newest row) l))
+older-none k row l e = rw (eq-eqb k 0 e)
+
+pub older-some : (k row l x : ℕ) → (k ≡ 0 → ⊥) → x ≡ newest row → not (eqb x l) ≡ (eqb k 0 || not (eqb (newest row) l))
+older-some k row l x n e = rw (ne-eqb k 0 n, e)
+
+-- ---- along the row
+
+pub none-past : (xs : List ℕ) (l : ℕ) → length xs ≡ maxLocks → maxLocks ≤ l → 0 ≡ at xs l
+none-past xs l e h = sym (List·getD-eq-default xs 0 (omega arith))
+
+module _ (limit units : List ℕ) (a row k : ℕ) where
+  abbrev pub WithinSoFar : ℕ → ℕ → Type 0
+  WithinSoFar left c = pastRow limit units a left c ≡ pastRow limit units a row k
+
+  pub within-next : (left c l x y more : ℕ) → WithinSoFar left c → 0 < c → l ≡ newest left → x ≡ at limit l → y ≡ at units l → more ≡ a → y + more ≤ x → WithinSoFar (under left) (c - 1)
+  unfolding pastRow
+  within-next left zero l x y more e h g i j q b = absurd (not-suc-le-zero h)
+  within-next left (suc c) l x y more e h g i j q b =
+      let o : suc c - 1 ≡ c = omega arith in
+      let t : ltb (at limit (newest left)) (at units (newest left) + a) ≡ false = rw (← g, ← i, ← j, ← q) (le-ltb x (y + more) b) in
+      ap (pastRow limit units a (under left)) o ∙ sym (ap (λ v. v || pastRow limit units a (under left) c) t) ∙ e
+
+  pub within-fails : (left c l x y more : ℕ) → WithinSoFar left c → 0 < c → l ≡ newest left → x ≡ at limit l → y ≡ at units l → more ≡ a → x < y + more → true ≡ pastRow limit units a row k
+  unfolding pastRow
+  within-fails left zero l x y more e h g i j q b = absurd (not-suc-le-zero h)
+  within-fails left (suc c) l x y more e h g i j q b =
+      let t : ltb (at limit (newest left)) (at units (newest left) + a) ≡ true = rw (← g, ← i, ← j, ← q) (lt-ltb x (y + more) b) in
+      sym (ap (λ v. v || pastRow limit units a (under left) c) t) ∙ e
+
+  pub within-ends : (left c : ℕ) → WithinSoFar left c → c ≤ 0 → false ≡ pastRow limit units a row k
+  unfolding pastRow
+  within-ends left zero e h = e
+  within-ends left (suc c) e h = absurd (not-suc-le-zero h)
+
+-- ---- a lock is open for its owner alone; o is the owner's place, plus one, and who is what the code read
+
+module _ (idle unknown undeclared full : Bool) (o who x : ℕ) (read : who ≡ o) (a : idle ≡ false) (b : unknown ≡ false) (c : undeclared ≡ false) where
+  pub owned : who ≡ x + 1 → Tested.Refused AlreadyOpen ≡ firstTrue (acquireOrder idle unknown undeclared (eqb o (x + 1)) (not (eqb o 0)) full)
+  unfolding acquireOrder firstTrue if_then_else_
+  owned e = rw (a, b, c, ← read, eq-eqb who (x + 1) e)
+
+  module _ (n : who ≡ x + 1 → ⊥) where
+    pub owned-elsewhere : (who ≡ 0 → ⊥) → Tested.Refused OpenElsewhere ≡ firstTrue (acquireOrder idle unknown undeclared (eqb o (x + 1)) (not (eqb o 0)) full)
+    unfolding acquireOrder firstTrue if_then_else_
+    owned-elsewhere e = rw (a, b, c, ← read, ne-eqb who (x + 1) n, ne-eqb who 0 e)
+
+    pub unowned-full : who ≡ 0 → full ≡ true → Tested.Refused RowFull ≡ firstTrue (acquireOrder idle unknown undeclared (eqb o (x + 1)) (not (eqb o 0)) full)
+    unfolding acquireOrder firstTrue if_then_else_
+    unowned-full e t = rw (a, b, c, ← read, ne-eqb who (x + 1) n, eq-eqb who 0 e, t)
+
+    pub unowned : who ≡ 0 → full ≡ false → Tested.Passed ≡ firstTrue (acquireOrder idle unknown undeclared (eqb o (x + 1)) (not (eqb o 0)) full)
+    unfolding acquireOrder firstTrue if_then_else_
+    unowned e t = rw (a, b, c, ← read, ne-eqb who (x + 1) n, eq-eqb who 0 e, t)

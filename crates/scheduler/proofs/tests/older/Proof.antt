@@ -1,0 +1,11 @@
+-- `scheduler::tests::older` meets its contract. One law for each way. Assumes nothing.
+use Rattle.scheduler.proofs.Ordered.{older-none, older-some}
+use borrow.Author.Needs.{needs}
+use Rattle.scheduler.proofs.tests.older.Statement.{statement}
+use Rattle.scheduler.proofs.tests.older.Tie as tie
+
+pub older-spec : {M : Type 1} → statement M
+older-spec =
+    tie.close
+    (tie.spec
+    (λ c. search older-none) (λ c κs. search needs) (λ c. search older-some))

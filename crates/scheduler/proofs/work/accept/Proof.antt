@@ -1,0 +1,12 @@
+-- `scheduler::work::accept` meets its contract. The delays and the sections are the definition's. Assumes nothing.
+use Rattle.scheduler.proofs.Worked.{works}
+use borrow.Author.Needs.{needs}
+use Rattle.scheduler.proofs.work.accept.Statement.{statement}
+use Rattle.scheduler.proofs.work.accept.Tie as tie
+
+pub accept-spec : {M : Type 1} → statement M
+accept-spec =
+    tie.close
+    (tie.spec
+    (λ c. search needs) (λ c. search needs) (λ c κs. search needs) (λ c. search needs) (λ c. search needs)
+    (λ c. search needs) (λ c κs. search needs) (λ c. search needs) (λ c. search works))

@@ -1,0 +1,301 @@
+//! Set pieces: books at the edges of the rules, each with the number and place
+//! that the document (and the project's readings of it) give. They test the
+//! judge itself, and they are the first books that a program is sent.
+
+use crate::crane;
+use crate::draft::Draft;
+use crate::event::Event::{self, Acquire, Finish, Release, Tick, Unlock, Work};
+use crate::generate::Case;
+use crate::plan::{Lock, Plan};
+
+pub struct SetPiece {
+    pub case: Case,
+    pub number: u8,
+    pub place: u32,
+}
+
+struct Shelf {
+    pieces: Vec<SetPiece>,
+}
+
+impl Shelf {
+    fn bytes(&mut self, name: &str, book: Vec<u8>, row_space: usize, number: u8, place: u32) {
+        let case = Case { name: format!("set piece \"{name}\""), book, row_space };
+        self.pieces.push(SetPiece { case, number, place });
+    }
+
+    fn draft(&mut self, name: &str, draft: &Draft, number: u8, place: u32) {
+        self.bytes(name, draft.bytes(), 4 * draft.events.len(), number, place);
+    }
+
+    fn events(&mut self, name: &str, plan: &Plan, events: &[Event], number: u8, place: u32) {
+        self.draft(name, &Draft::of(plan, events), number, place);
+    }
+}
+
+/// Tasks of base 1 to 3 in turn; every lock used by every task.
+fn full_plan(tasks: usize, locks: usize) -> Plan {
+    let bases: Vec<u8> = (0..tasks).map(|task| (task % 3) as u8 + 1).collect();
+    let ceiling = bases.iter().copied().max().unwrap_or(1);
+    let mut uses = Vec::new();
+    for task in 0..tasks {
+        for lock in 0..locks {
+            uses.push((task as u8, lock as u8));
+        }
+    }
+    Plan { bases, locks: vec![Lock { ceiling, limit: 65_535 }; locks], uses }
+}
+
+pub fn set_pieces() -> Vec<SetPiece> {
+    let mut shelf = Shelf { pieces: Vec::new() };
+    runs_of_the_crane(&mut shelf);
+    sizes(&mut shelf);
+    contents(&mut shelf);
+    records(&mut shelf);
+    event_records_and_row_space(&mut shelf);
+    steps(&mut shelf);
+    nests(&mut shelf);
+    shelf.pieces
+}
+
+fn runs_of_the_crane(shelf: &mut Shelf) {
+    let answers = [
+        (0, 0), (0, 0), (0, 0), (0, 0), (21, 3), (19, 3),
+        (22, 2), (14, 1), (15, 1), (0, 0), (0, 0), (21, 4),
+    ];
+    for ((name, events), (number, place)) in crane::RUNS.iter().zip(answers) {
+        shelf.events(name, &crane::plan(), events, number, place);
+    }
+    shelf.events("nest", &crane::plan(), &crane::NEST, 21, 9);
+}
+
+/// "Run too: 96 and 97 tasks, 32 and 33 locks, 12,000 and 12,001 events, a book
+/// of 31 bytes, one spare byte at the end". "The largest book is 54,496 bytes."
+fn sizes(shelf: &mut Shelf) {
+    shelf.events("96 tasks", &full_plan(96, 0), &[Release(95)], 0, 0);
+    shelf.events("97 tasks", &full_plan(97, 0), &[Release(96)], 2, 1);
+    shelf.events("no task", &full_plan(0, 0), &[Tick], 2, 1);
+    shelf.events("32 locks", &full_plan(1, 32), &[Release(0), Acquire(31)], 0, 0);
+    shelf.events("33 locks", &full_plan(1, 33), &[Release(0), Acquire(32)], 2, 2);
+    shelf.events("3,072 uses", &full_plan(96, 32), &[Release(95), Acquire(31)], 0, 0);
+    let mut draft = Draft::of(&full_plan(96, 32), &[Tick]);
+    draft.uses.push([95, 31]);
+    shelf.draft("3,073 uses", &draft, 2, 3);
+    shelf.events("12,000 events", &crane::plan(), &[Tick; 12_000], 0, 0);
+    shelf.events("12,001 events", &crane::plan(), &[Tick; 12_001], 2, 4);
+
+    let largest = Draft::of(&full_plan(96, 32), &[Tick; 12_000]).bytes();
+    assert_eq!(largest.len(), 54_496);
+    shelf.bytes("the largest book", largest.clone(), 48_000, 0, 0);
+    shelf.bytes("the largest book, row space 65,536", largest.clone(), 65_536, 0, 0);
+    let mut longer = largest;
+    longer.resize(65_536, 0);
+    shelf.bytes("65,536 bytes", longer, 48_000, 3, 5);
+
+    let p1 = crane::book(crane::RUNS[0].1);
+    shelf.bytes("an empty book", Vec::new(), 0, 1, 0);
+    shelf.bytes("a book of 31 bytes", p1[..31].to_vec(), 28, 1, 0);
+    shelf.bytes("a book of 32 bytes", p1[..32].to_vec(), 28, 3, 5);
+    shelf.bytes("32 zero bytes", vec![0; 32], 28, 2, 1);
+    shelf.bytes("one byte missing", p1[..83].to_vec(), 28, 3, 5);
+    shelf.bytes("one spare byte", [&p1[..], &[0]].concat(), 28, 3, 5);
+}
+
+/// 2 before 3, the lowest entry of 3, and what a legal but wrong count does.
+fn contents(shelf: &mut Shelf) {
+    let p1 = crane::book(crane::RUNS[0].1);
+    let changed = |changes: &[(usize, u8)]| {
+        let mut book = p1.clone();
+        for (at, byte) in changes {
+            book[*at] = *byte;
+        }
+        book
+    };
+    // Entry e starts at 8 (e - 1): kind at +0, count at +2, offset at +4.
+    shelf.bytes("count 4 before kind 1", changed(&[(0, 9), (27, 255)]), 28, 2, 4);
+    shelf.bytes("range by position", changed(&[(0, 4), (2, 97)]), 28, 2, 1);
+    shelf.bytes("kind 1 in entry 4, 100 events", changed(&[(24, 1), (26, 100)]), 28, 3, 4);
+    shelf.bytes("kinds 2 and 3 wrong", changed(&[(8, 3), (16, 2)]), 28, 3, 2);
+    shelf.bytes("kind 257", changed(&[(1, 1)]), 28, 3, 1);
+    shelf.bytes("first offset 33", changed(&[(4, 33)]), 28, 3, 1);
+    shelf.bytes("high byte of an offset", changed(&[(31, 128)]), 28, 3, 4);
+    shelf.bytes("one task more counted", changed(&[(2, 5)]), 28, 3, 2);
+    shelf.bytes("one lock fewer counted", changed(&[(10, 1)]), 28, 3, 3);
+    shelf.bytes("one use more counted", changed(&[(18, 5)]), 28, 3, 4);
+    shelf.bytes("one event more counted", changed(&[(26, 8)]), 32, 3, 5);
+    let mut empty = Draft::of(&full_plan(2, 0), &[Tick]).bytes();
+    empty[12] = 0;
+    shelf.bytes("offset 0 for an empty body", empty, 4, 3, 2);
+}
+
+/// 4 to 7: their order, and the first offender of each.
+fn records(shelf: &mut Shelf) {
+    let right = Draft::of(&crane::plan(), crane::RUNS[0].1);
+    let mut damaged = |name: &str, damage: &dyn Fn(&mut Draft), number: u8, place: u32| {
+        let mut draft = right.clone();
+        damage(&mut draft);
+        shelf.draft(name, &draft, number, place);
+    };
+    damaged("base 0", &|draft| draft.tasks[3][0] = 0, 4, 3);
+    damaged("second byte of a task", &|draft| draft.tasks[1][1] = 1, 4, 1);
+    damaged("ceiling 0", &|draft| draft.locks[0][0] = 0, 5, 0);
+    damaged("second byte of a lock", &|draft| draft.locks[1][1] = 255, 5, 1);
+    damaged("limit 0", &|draft| draft.locks[1][2] = 0, 5, 1);
+    damaged("limit 256", &|draft| (draft.locks[1][2], draft.locks[1][3]) = (0, 1), 0, 0);
+    damaged("unknown task in a use", &|draft| draft.uses[3] = [4, 0], 6, 3);
+    damaged("unknown lock in a use", &|draft| draft.uses[1] = [0, 2], 6, 1);
+    damaged("equal uses", &|draft| draft.uses[1] = [0, 0], 6, 1);
+    damaged("uses out of order", &|draft| draft.uses.swap(2, 3), 6, 3);
+    damaged("order by task first", &|draft| draft.uses.swap(1, 2), 6, 2);
+    damaged("no user left", &|draft| draft.uses.clear(), 7, 0);
+    damaged("lock 1 without users", &|draft| draft.uses.retain(|pair| pair[1] == 0), 7, 1);
+    damaged("ceiling too low", &|draft| draft.locks[1][0] = 1, 7, 1);
+    damaged("ceiling too high", &|draft| draft.locks[0][0] = 7, 7, 0);
+    damaged("greatest user gone", &|draft| draft.uses.truncate(3), 7, 0);
+    damaged(
+        "5 at lock 1 before 7 at lock 0",
+        &|draft| (draft.locks[0][0], draft.locks[1][1]) = (7, 1),
+        5, 1,
+    );
+    damaged(
+        "4 before 5 before 6",
+        &|draft| (draft.tasks[3][1], draft.locks[0][0], draft.uses[0]) = (1, 0, [9, 9]),
+        4, 3,
+    );
+    damaged(
+        "6 at the last use before 7 at lock 0",
+        &|draft| (draft.locks[0][0], draft.uses[3]) = (7, [2, 2]),
+        6, 3,
+    );
+    damaged(
+        "7 before 8",
+        &|draft| (draft.locks[1][0], draft.events[0]) = (5, [0; 4]),
+        7, 1,
+    );
+}
+
+/// 8 before 9 before any event's own refusal.
+fn event_records_and_row_space(shelf: &mut Shelf) {
+    let bad_records: [(&str, [u8; 4]); 15] = [
+        ("kind 0", [0, 0, 0, 0]),
+        ("kind 7", [7, 0, 0, 0]),
+        ("kind 255", [255, 0, 0, 0]),
+        ("amount in a release", [1, 1, 1, 0]),
+        ("high amount in a release", [1, 1, 0, 1]),
+        ("amount in an acquire", [2, 0, 1, 0]),
+        ("amount in an unlock", [3, 0, 0, 128]),
+        ("id in a work", [4, 1, 1, 0]),
+        ("work of 0", [4, 0, 0, 0]),
+        ("work of 0 with an id", [4, 1, 0, 0]),
+        ("id in a finish", [5, 1, 0, 0]),
+        ("amount in a finish", [5, 0, 1, 0]),
+        ("id in a tick", [6, 255, 0, 0]),
+        ("amount in a tick", [6, 0, 255, 0]),
+        ("high amount in a tick", [6, 0, 0, 1]),
+    ];
+    for (name, record) in bad_records {
+        let mut draft = Draft::of(&crane::plan(), crane::RUNS[0].1);
+        draft.events[3] = record;
+        draft.events[6] = [0; 4];
+        shelf.draft(name, &draft, 8, 3);
+    }
+    let mut draft = Draft::of(&crane::plan(), &[Release(4), Tick, Tick, Tick, Tick, Tick]);
+    shelf.bytes("13 at event 0", draft.bytes(), 24, 13, 0);
+    shelf.bytes("9 before 13 at event 0", draft.bytes(), 23, 9, 0);
+    draft.events[5][0] = 7;
+    shelf.bytes("8 at event 5 before 13 at event 0", draft.bytes(), 24, 8, 5);
+    shelf.bytes("8 before 9", draft.bytes(), 0, 8, 5);
+
+    let p1 = crane::book(crane::RUNS[0].1);
+    shelf.bytes("row space one byte short", p1.clone(), 27, 9, 0);
+    shelf.bytes("row space 0", p1.clone(), 0, 9, 0);
+    shelf.bytes("row space with one byte more", p1.clone(), 29, 0, 0);
+    shelf.bytes("row space with a row more", p1, 32, 0, 0);
+    shelf.bytes("no events, row space 0", crane::book(&[]), 0, 0, 0);
+    shelf.bytes("no events, row space 3", crane::book(&[]), 3, 0, 0);
+}
+
+/// "Order for an event", and what is accepted with nobody running.
+fn steps(shelf: &mut Shelf) {
+    let crane = &crane::plan();
+    shelf.events("tick with nobody", crane, &[Tick, Tick], 0, 0);
+    shelf.events("acquire with nobody", crane, &[Tick, Acquire(0)], 12, 1);
+    shelf.events("12 before 13 in acquire", crane, &[Acquire(2)], 12, 0);
+    shelf.events("unlock with nobody", crane, &[Unlock(0)], 12, 0);
+    shelf.events("12 before 13 in unlock", crane, &[Unlock(255)], 12, 0);
+    shelf.events("work with nobody", crane, &[Release(3), Finish, Work(1)], 12, 2);
+    shelf.events("finish with nobody", crane, &[Finish], 12, 0);
+    shelf.events("release of task 4", crane, &[Release(3), Release(4)], 13, 1);
+    shelf.events("release of task 255", crane, &[Release(255)], 13, 0);
+    shelf.events("release of task 96", &full_plan(96, 0), &[Release(95), Release(96)], 13, 1);
+    shelf.events("acquire of lock 2", crane, &[Release(0), Acquire(2)], 13, 1);
+    shelf.events("unlock of lock 2", crane, &[Release(0), Unlock(2)], 13, 1);
+    shelf.events("acquire of lock 32", &full_plan(1, 32), &[Release(0), Acquire(32)], 13, 1);
+    shelf.events("release of the running", crane, &[Release(3), Release(3)], 14, 1);
+    shelf.events("release of a waiting", crane, &[Release(3), Release(0), Release(0)], 14, 2);
+    shelf.events("release after finish", crane, &[Release(0), Finish, Release(0)], 0, 0);
+    shelf.events("unlock with none open", crane, &[Release(0), Unlock(0)], 19, 1);
+    let others_unlock = [Release(0), Acquire(0), Release(3), Unlock(0)];
+    shelf.events("unlock of another's lock", crane, &others_unlock, 19, 3);
+    let others_acquire = [Release(0), Acquire(0), Release(3), Acquire(0)];
+    shelf.events("15 before 17 for another's lock", crane, &others_acquire, 15, 3);
+    let p4_and_acquire = [Release(0), Acquire(0), Release(2), Release(3), Finish, Acquire(0)];
+    shelf.events("P4, then acquire 0", crane, &p4_and_acquire, 16, 5);
+    let delay_reset = [
+        Release(0), Acquire(0), Release(1), Work(2), Unlock(0), Finish, Finish, Release(1),
+    ];
+    shelf.events("P1, then release 1", crane, &delay_reset, 0, 0);
+
+    let full = full_plan(3, 2);
+    let to_the_limit = [Release(0), Acquire(0), Release(1), Work(65_535), Work(1)];
+    shelf.events("limit 65,535", &full, &to_the_limit, 21, 4);
+    let no_section = [Release(0), Work(65_535), Work(65_535), Work(65_535)];
+    shelf.events("work without a section", &full, &no_section, 0, 0);
+    let tie = full_plan(4, 0); // tasks 0 and 3 have base 1
+    shelf.events("a tie", &tie, &[Release(3), Release(0), Tick, Finish, Finish], 0, 0);
+}
+
+/// "Eight and nine open locks", and the order of 15, 16 and 18 there.
+fn nests(shelf: &mut Shelf) {
+    let mut plan = full_plan(2, 10);
+    plan.uses.retain(|pair| *pair != (0, 9));
+    let mut events = vec![Release(0)];
+    for lock in 0..8 {
+        events.push(Acquire(lock));
+    }
+    shelf.events("eight open locks", &plan, &events, 0, 0);
+    for (name, last, number) in [
+        ("nine open locks", Acquire(8), 18),
+        ("15 before 18", Acquire(9), 15),
+        ("16 before 18", Acquire(3), 16),
+        ("13 before 18", Acquire(10), 13),
+        ("19 with eight open", Unlock(0), 19),
+        ("22 with eight open", Finish, 22),
+        ("unlock with eight open", Unlock(7), 0),
+    ] {
+        let mut longer = events.clone();
+        longer.push(last);
+        shelf.events(name, &plan, &longer, number, if number == 0 { 0 } else { 9 });
+    }
+    let mut again = events.clone();
+    again.extend([Unlock(7), Acquire(8), Acquire(7)]);
+    shelf.events("an eighth again, then a ninth", &plan, &again, 18, 11);
+}
+
+/// The judge's own answers against the expected ones; those that differ.
+pub fn test() -> (usize, Vec<String>) {
+    let pieces = set_pieces();
+    let mut failed = Vec::new();
+    for piece in &pieces {
+        let outcome = piece.case.replay(crate::wrong::Wrong::Nothing);
+        let got = (outcome.answer.number, outcome.answer.place);
+        if got != (piece.number, piece.place) {
+            let wanted = (piece.number, piece.place);
+            failed.push(format!("{}: got {got:?}, wanted {wanted:?}", piece.case.name));
+        }
+        if let Some(words) = outcome.violation {
+            failed.push(format!("{}: {words}", piece.case.name));
+        }
+    }
+    (pieces.len(), failed)
+}

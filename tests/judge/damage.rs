@@ -1,0 +1,337 @@
+//! Damaged books: for each of the refusals 1 to 9 the ways in which a record, a
+//! contents entry, the length or the row space can be wrong, at several places
+//! and also several at once, so that the order of the tests matters.
+
+use crate::draft::Draft;
+use crate::plan::{MOST_EVENTS, MOST_LOCKS, MOST_TASKS, MOST_USES};
+use crate::random::Random;
+
+/// Applies the damages of these refusal numbers to a book that would be
+/// accepted. The answer need not be the least of them: one damage can hide or
+/// mend another. The bytes and the row space come back.
+pub fn damaged(random: &mut Random, mut draft: Draft, numbers: &[u8]) -> (Vec<u8>, usize) {
+    for number in numbers {
+        match number {
+            2 if random.one_in(2) => grow_a_body(random, &mut draft),
+            4 => damage_task(random, &mut draft),
+            5 => damage_lock(random, &mut draft),
+            6 => damage_use(random, &mut draft),
+            7 => damage_ceiling(random, &mut draft),
+            8 => damage_event(random, &mut draft),
+            _ => {}
+        }
+    }
+    let row_space = if numbers.contains(&9) {
+        too_small(random, 4 * draft.events.len())
+    } else {
+        row_space(random, 4 * draft.events.len())
+    };
+    let mut bytes = draft.bytes();
+    let grown = draft.tasks.is_empty()
+        || draft.tasks.len() > MOST_TASKS
+        || draft.locks.len() > MOST_LOCKS
+        || draft.uses.len() > MOST_USES
+        || draft.events.len() > MOST_EVENTS;
+    for number in numbers {
+        match number {
+            2 if !grown => count_out_of_range(random, &mut bytes),
+            3 => damage_contents(random, &mut bytes),
+            _ => {}
+        }
+    }
+    if numbers.contains(&1) {
+        bytes.truncate(random.pick(&[0, 1, 7, 8, 16, 24, 30, 31]));
+    }
+    bytes.truncate(65_536);
+    (bytes, row_space)
+}
+
+/// A row space that is enough for rows of `needed` bytes: mostly exactly so.
+pub fn row_space(random: &mut Random, needed: usize) -> usize {
+    match random.below(40) {
+        0..=29 => needed,
+        30..=33 => needed + random.between(1, 3),
+        34..=38 => needed + random.between(4, 60),
+        _ => random.between(needed, 65_536),
+    }
+}
+
+/// A row space under what is needed, where that can be.
+fn too_small(random: &mut Random, needed: usize) -> usize {
+    match random.below(4) {
+        0 => 0,
+        1 => needed.saturating_sub(random.between(1, 4)),
+        2 => random.below(needed + 1).min(needed.saturating_sub(1)),
+        _ => needed.saturating_sub(1),
+    }
+}
+
+/// The first, the last or any place of a row of records; 0 for an empty one.
+fn some_place(random: &mut Random, count: usize) -> usize {
+    match random.below(3) {
+        0 => 0,
+        1 => count.saturating_sub(1),
+        _ => random.below(count.max(1)),
+    }
+}
+
+/// 2, with bodies of matching size.
+fn grow_a_body(random: &mut Random, draft: &mut Draft) {
+    match random.below(16) {
+        0..=2 => draft.tasks.clear(),
+        3..=6 => draft
+            .tasks
+            .resize(random.pick(&[97, 97, 98, 255, 256]), [1, 0]),
+        7..=10 => draft
+            .locks
+            .resize(random.pick(&[33, 33, 34, 256]), [1, 0, 1, 0]),
+        11..=14 => draft
+            .uses
+            .resize(random.pick(&[3_073, 3_073, 3_074]), [95, 31]),
+        _ => draft
+            .events
+            .resize(random.pick(&[12_001, 12_001, 12_002]), [6, 0, 0, 0]),
+    }
+}
+
+/// 2, in the contents alone.
+fn count_out_of_range(random: &mut Random, bytes: &mut [u8]) {
+    let entry = random.between(1, 4);
+    let least = [MOST_TASKS, MOST_LOCKS, MOST_USES, MOST_EVENTS][entry - 1] + 1;
+    let count = match random.below(4) {
+        0 if entry == 1 => 0,
+        0 | 1 => least,
+        2 => 65_535,
+        _ => random.between(least, 65_535),
+    };
+    write_count(bytes, entry, count);
+}
+
+fn write_count(bytes: &mut [u8], entry: usize, count: usize) {
+    let at = 8 * (entry - 1) + 2;
+    bytes[at..at + 2].copy_from_slice(&(count as u16).to_le_bytes());
+}
+
+/// 3: kind, offset, a legal but wrong count, or the end.
+fn damage_contents(random: &mut Random, bytes: &mut Vec<u8>) {
+    let entry = random.between(1, 4);
+    let at = 8 * (entry - 1);
+    match random.below(8) {
+        0 => bytes[at] = random.below(6) as u8,
+        1 => bytes[at + 1] = random.between(1, 255) as u8,
+        2 => bytes[at + 4] = bytes[at + 4].wrapping_add(random.pick(&[1, 255, 2, 254])),
+        3 => bytes[at + random.between(4, 7)] = random.byte(),
+        4 => {
+            let count = u16::from_le_bytes([bytes[at + 2], bytes[at + 3]]);
+            let changed = if random.one_in(2) {
+                count.wrapping_add(1)
+            } else {
+                count.max(1) - 1
+            };
+            write_count(bytes, entry, usize::from(changed));
+        }
+        5 => {
+            let first = random.between(1, 4);
+            for byte in 0..8 {
+                bytes.swap(at + byte, 8 * (first - 1) + byte);
+            }
+        }
+        6 => {
+            let shorter = match random.below(3) {
+                0 => 32,
+                1 => random.between(32, bytes.len()),
+                _ => bytes.len() - 1,
+            };
+            bytes.truncate(shorter.max(32));
+        }
+        _ => {
+            let spare = random.pick(&[1, 1, 2, 4, 32]);
+            let fill = random.byte();
+            bytes.resize(bytes.len() + spare, fill);
+        }
+    }
+}
+
+/// 4: "a task with base 0 or second byte not 0".
+fn damage_task(random: &mut Random, draft: &mut Draft) {
+    let place = some_place(random, draft.tasks.len());
+    if let Some(task) = draft.tasks.get_mut(place) {
+        if random.one_in(2) {
+            task[0] = 0;
+        } else {
+            task[1] = random.between(1, 255) as u8;
+        }
+    }
+}
+
+/// 5: "a lock with ceiling 0, second byte not 0, or limit 0".
+fn damage_lock(random: &mut Random, draft: &mut Draft) {
+    if draft.locks.is_empty() {
+        draft.locks.push([1, 0, 1, 0]);
+    }
+    let place = some_place(random, draft.locks.len());
+    let lock = &mut draft.locks[place];
+    match random.below(3) {
+        0 => lock[0] = 0,
+        1 => lock[1] = random.between(1, 255) as u8,
+        _ => (lock[2], lock[3]) = (0, 0),
+    }
+}
+
+/// 6: "a use with an unknown id, or out of order".
+fn damage_use(random: &mut Random, draft: &mut Draft) {
+    if draft.uses.is_empty() {
+        draft.uses.push([0, 0]);
+    }
+    let (tasks, locks) = (draft.tasks.len(), draft.locks.len());
+    let place = some_place(random, draft.uses.len());
+    match random.below(6) {
+        0 => draft.uses[place][0] = tasks.min(255) as u8,
+        1 => draft.uses[place][1] = locks.min(255) as u8,
+        2 => draft.uses[place] = [random.byte(), random.byte()],
+        3 => {
+            let doubled = draft.uses[place];
+            draft.uses.insert(place, doubled);
+        }
+        4 => {
+            let other = some_place(random, draft.uses.len());
+            draft.uses.swap(place, other);
+        }
+        _ => {
+            let next = (place + 1).min(draft.uses.len() - 1);
+            draft.uses.swap(place, next);
+        }
+    }
+}
+
+/// 7: "a lock without users, or its ceiling isn't the greatest base".
+fn damage_ceiling(random: &mut Random, draft: &mut Draft) {
+    if draft.locks.is_empty() || (random.one_in(8) && draft.locks.len() < MOST_LOCKS) {
+        draft.locks.push([1, 0, 1, 0]);
+        return;
+    }
+    let place = some_place(random, draft.locks.len());
+    match random.below(5) {
+        0 => draft.uses.retain(|pair| usize::from(pair[1]) != place),
+        1 => draft.locks[place][0] = draft.locks[place][0].max(2) - 1,
+        2 => draft.locks[place][0] = draft.locks[place][0].saturating_add(1),
+        3 => draft.locks[place][0] = random.between(1, 255) as u8,
+        _ => {
+            // A base rises above the ceilings of its locks.
+            let task = some_place(random, draft.tasks.len());
+            if let Some(record) = draft.tasks.get_mut(task) {
+                record[0] = record[0].saturating_add(1);
+            }
+        }
+    }
+}
+
+/// 8: "an event of kind outside 1 to 6, unused field not 0, or work of 0".
+fn damage_event(random: &mut Random, draft: &mut Draft) {
+    if draft.events.is_empty() {
+        draft.events.push([6, 0, 0, 0]);
+    }
+    let place = some_place(random, draft.events.len());
+    let event = &mut draft.events[place];
+    let id_is_used = (1..=3).contains(&event[0]);
+    match random.below(6) {
+        0 => event[0] = random.pick(&[0, 7, 255]),
+        1 => event[0] = random.between(7, 255) as u8,
+        2 => *event = [4, 0, 0, 0],
+        3 if !id_is_used => event[1] = random.between(1, 255) as u8,
+        4 => {
+            *event = [
+                random.between(5, 6) as u8,
+                random.below(2) as u8,
+                random.byte(),
+                1,
+            ]
+        }
+        _ => {
+            let kind = random.pick(&[1, 2, 3, 5, 6]);
+            *event = [kind, 0, 0, 0];
+            event[random.between(2, 3)] = random.between(1, 255) as u8;
+        }
+    }
+}
+
+/// One byte of the book becomes another.
+pub fn change_one_byte(random: &mut Random, bytes: &mut [u8]) {
+    // Half of the changes fall on the contents and the first records.
+    let end = if random.one_in(2) {
+        bytes.len().min(48)
+    } else {
+        bytes.len()
+    };
+    let at = random.below(end);
+    let before = bytes[at];
+    bytes[at] = match random.below(5) {
+        0 => 0,
+        1 => 255,
+        2 => before.wrapping_add(1),
+        3 => before.wrapping_sub(1),
+        _ => random.byte(),
+    };
+}
+
+/// Bytes that were never a book.
+pub fn random_bytes(random: &mut Random) -> Vec<u8> {
+    let length = random.below(120);
+    let small = random.one_in(2);
+    (0..length)
+        .map(|_| {
+            if small {
+                random.below(5) as u8
+            } else {
+                random.byte()
+            }
+        })
+        .collect()
+}
+
+/// Right contents in front of bodies of random small bytes, so that the tests
+/// 4 to 8 meet records that no other generator makes.
+pub fn random_bodies(random: &mut Random) -> Draft {
+    let mut draft = Draft::default();
+    let mends = random.one_in(2);
+    for _ in 0..random.between(1, 3) {
+        draft
+            .tasks
+            .push([random.between(usize::from(mends), 3) as u8, 0]);
+    }
+    for _ in 0..random.below(3) {
+        let base = random.between(1, 3) as u8;
+        draft
+            .locks
+            .push([base, 0, random.between(0, 6) as u8, random.below(2) as u8]);
+    }
+    for _ in 0..random.below(5) {
+        draft
+            .uses
+            .push([random.below(3) as u8, random.below(2) as u8]);
+    }
+    if mends {
+        draft.uses.sort_unstable();
+        draft.uses.dedup();
+    }
+    for _ in 0..random.below(8) {
+        let amount = if random.one_in(3) {
+            random.between(0, 2) as u8
+        } else {
+            0
+        };
+        draft
+            .events
+            .push([random.below(8) as u8, random.below(3) as u8, amount, 0]);
+    }
+    if mends {
+        for event in &mut draft.events {
+            match event[0] {
+                4 => (event[1], event[2]) = (0, event[2].max(1)),
+                5 | 6 => (event[1], event[2]) = (0, 0),
+                _ => event[2] = 0,
+            }
+        }
+    }
+    draft
+}

@@ -1,0 +1,173 @@
+//! The generated books: which sort of book the n-th one of a seed is. Short
+//! ones of up to 60 events are of all sorts, right and damaged; long ones have
+//! the full 12,000 events.
+
+use crate::damage;
+use crate::draft::Draft;
+use crate::event::Event;
+use crate::plan::{Plan, MOST_EVENTS};
+use crate::plans;
+use crate::random::Random;
+use crate::replay::{replay, Outcome};
+use crate::walk::{self, Style, Wanted};
+use crate::wrong::Wrong;
+
+/// A book and the row space for its replay.
+pub struct Case {
+    pub name: String,
+    pub book: Vec<u8>,
+    pub row_space: usize,
+}
+
+impl Case {
+    pub fn replay(&self, wrong: Wrong) -> Outcome {
+        replay(&self.book, self.row_space, wrong)
+    }
+}
+
+/// The short book of this number.
+pub fn short(seed: u64, number: u64) -> Case {
+    let random = &mut Random::for_book(seed, 1, number);
+    let (sort, book, row_space) = match random.below(100) {
+        0..=54 => {
+            let (plan, events) = short_run(random);
+            let row_space = damage::row_space(random, 4 * events.len());
+            ("walk", Draft::of(&plan, &events).bytes(), row_space)
+        }
+        55..=74 => {
+            let number = random.between(1, 9) as u8;
+            let twice = random.one_in(3);
+            let (plan, events) = short_run(random);
+            let draft = Draft::of(&plan, &events);
+            let numbers = if twice {
+                vec![number, number]
+            } else {
+                vec![number]
+            };
+            let (book, row_space) = damage::damaged(random, draft, &numbers);
+            ("one damage", book, row_space)
+        }
+        75..=84 => {
+            let count = random.between(2, 5);
+            // 1 hides all others, so it is drawn less often than they are.
+            let least = if random.one_in(6) { 1 } else { 2 };
+            let numbers: Vec<u8> = (0..count).map(|_| random.between(least, 9) as u8).collect();
+            let (plan, events) = short_run(random);
+            let (book, row_space) = damage::damaged(random, Draft::of(&plan, &events), &numbers);
+            ("several damages", book, row_space)
+        }
+        85..=93 => {
+            let (plan, events) = short_run(random);
+            let mut book = Draft::of(&plan, &events).bytes();
+            damage::change_one_byte(random, &mut book);
+            (
+                "one byte changed",
+                book,
+                damage::row_space(random, 4 * events.len()),
+            )
+        }
+        94..=97 => {
+            let draft = damage::random_bodies(random);
+            let row_space = damage::row_space(random, 4 * draft.events.len());
+            ("random bodies", draft.bytes(), row_space)
+        }
+        _ => {
+            let book = damage::random_bytes(random);
+            let row_space = random.below(64);
+            ("random bytes", book, row_space)
+        }
+    };
+    Case {
+        name: format!("short book {number} ({sort})"),
+        book,
+        row_space,
+    }
+}
+
+/// A plan and a short list of events, which may end in a wanted refusal.
+fn short_run(random: &mut Random) -> (Plan, Vec<Event>) {
+    let length = if random.one_in(12) {
+        random.below(4)
+    } else {
+        random.between(4, 60)
+    };
+    let number = random.pick(&walk::WANTED);
+    // The ninth lock itself, or some other refusal with eight locks open.
+    let with_eight_open = number == 18 || (number != 12 && random.one_in(6));
+    let wanted = if random.one_in(2) {
+        Some(Wanted {
+            number,
+            from: random.below(length + 1),
+            with_eight_open,
+        })
+    } else {
+        None
+    };
+    let wants_eight = wanted.is_some_and(|wanted| wanted.with_eight_open);
+    let wants_nest = wanted.is_some_and(|wanted| wanted.number == 21) && random.one_in(2);
+    let plan = if wants_eight || wants_nest || random.one_in(8) {
+        plans::deep(random)
+    } else {
+        plans::any(random)
+    };
+    let style: &Style = if wants_eight || random.one_in(8) {
+        &walk::DEEP
+    } else {
+        random.pick(&[&walk::MIXED, &walk::CONTENDED])
+    };
+    let events = walk::walk(random, &plan, style, length, wanted);
+    (plan, events)
+}
+
+/// The long book of this number: 12,000 events.
+pub fn long(seed: u64, number: u64) -> Case {
+    let random = &mut Random::for_book(seed, 2, number);
+    let (plan, style, sort) = match number % 4 {
+        0 => (plans::contended(random), &walk::CONTENDED, "contended"),
+        1 => (plans::any(random), &walk::MIXED, "mixed"),
+        2 => (plans::deep(random), &walk::DEEP, "deep"),
+        _ => (plans::plain(random), &walk::PLAIN, "plain"),
+    };
+    let wanted = if random.one_in(3) {
+        let number = random.pick(&walk::WANTED);
+        let from = random.between(MOST_EVENTS / 2, MOST_EVENTS);
+        Some(Wanted {
+            number,
+            from,
+            with_eight_open: false,
+        })
+    } else {
+        None
+    };
+    let events = walk::walk(random, &plan, style, MOST_EVENTS, wanted);
+    let mut draft = Draft::of(&plan, &events);
+    let mut row_space = damage::row_space(random, 4 * MOST_EVENTS);
+    match random.below(12) {
+        0 => row_space = 4 * MOST_EVENTS - 1,
+        1 => draft.events[MOST_EVENTS - 1][0] = 7,
+        _ => {}
+    }
+    Case {
+        name: format!("long book {number} ({sort})"),
+        book: draft.bytes(),
+        row_space,
+    }
+}
+
+/// A full-length book, all of it accepted, of kind `contended` or `plain`, from
+/// a fixed seed; nothing for another kind.
+pub fn full_length(kind: &str) -> Option<Case> {
+    let random = &mut Random::new(2001);
+    let (plan, style) = match kind {
+        "contended" => (plans::contended(random), &walk::CONTENDED),
+        "plain" => (plans::plain(random), &walk::PLAIN),
+        _ => return None,
+    };
+    let events = walk::walk(random, &plan, style, MOST_EVENTS, None);
+    let book = Draft::of(&plan, &events).bytes();
+    Some(Case {
+        name: format!("full-length {kind} book"),
+        book,
+        row_space: 4 * MOST_EVENTS,
+    })
+}

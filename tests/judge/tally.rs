@@ -1,0 +1,90 @@
+//! Counting what the generated books reached: how often each number was the
+//! answer, and whether the rules that are easy to miss were met at all.
+
+use crate::refusals::{FROM_BOOKS, WORDS};
+use crate::replay::Outcome;
+
+#[derive(Default)]
+pub struct Tally {
+    pub books: usize,
+    accepted_events: usize,
+    lazy_calls: u64,
+    eager_calls: u64,
+    answers: [usize; 23],
+    /// The least and the greatest place of each number.
+    places: [Option<(u32, u32)>; 23],
+    /// Tasks whose delay isn't 0, and those whose delay equals their bound.
+    delayed: usize,
+    at_bound: usize,
+}
+
+impl Tally {
+    pub fn count(&mut self, outcome: &Outcome) {
+        let answer = &outcome.answer;
+        self.books += 1;
+        self.accepted_events += outcome.accepted;
+        self.lazy_calls += u64::from(answer.lazy_calls);
+        self.eager_calls += u64::from(answer.eager_calls);
+        let number = usize::from(answer.number);
+        self.answers[number] += 1;
+        let (least, most) = self.places[number].unwrap_or((answer.place, answer.place));
+        self.places[number] = Some((least.min(answer.place), most.max(answer.place)));
+        for (delay, bound) in answer.delays.iter().zip(&answer.bounds) {
+            self.delayed += usize::from(*delay > 0);
+            self.at_bound += usize::from(*delay > 0 && delay == bound);
+        }
+    }
+
+    /// The numbers that a book can be answered with and none was.
+    pub fn missing(&self) -> Vec<u8> {
+        FROM_BOOKS
+            .iter()
+            .copied()
+            .filter(|n| self.answers[usize::from(*n)] == 0)
+            .collect()
+    }
+
+    /// What besides the numbers has to be met for the comparison to mean much.
+    pub fn never_met(&self) -> Vec<&'static str> {
+        let met = [
+            ("a lazy call", self.lazy_calls > 0),
+            ("a delay", self.delayed > 0),
+            ("a delay that reaches its bound", self.at_bound > 0),
+        ];
+        met.iter()
+            .filter(|(_, met)| !met)
+            .map(|(what, _)| *what)
+            .collect()
+    }
+
+    pub fn print_table(&self) {
+        println!("answers of the generated books:");
+        println!("  no.   times  places        given when");
+        for (number, words) in WORDS.iter().enumerate() {
+            let times = self.answers[number];
+            let places = match self.places[number] {
+                Some((least, most)) => format!("{least} to {most}"),
+                None => "-".to_string(),
+            };
+            let note = if FROM_BOOKS.contains(&(number as u8)) {
+                ""
+            } else {
+                " [not from a book]"
+            };
+            println!("  {number:>3} {times:>7}  {places:<12}  {words}{note}");
+        }
+    }
+
+    pub fn summary(&self) -> String {
+        format!(
+            "{} generated books, {} events accepted, {} lazy and {} eager calls, \
+             {} delays ({} at their bound)",
+            self.books,
+            self.accepted_events,
+            self.lazy_calls,
+            self.eager_calls,
+            self.delayed,
+            self.at_bound,
+        )
+    }
+}

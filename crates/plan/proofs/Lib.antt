@@ -4,3 +4,4 @@ mod Bits
 mod Limits
 mod Order
 mod Masks
+mod Ruled

@@ -78,7 +78,8 @@ fn users_base(p: Plan, l: u8) -> u8
     top
 }
 
-fn ceiling_fault(p: Plan, l: usize) -> bool
+// 7, of lock l.
+pub fn ceiling_fault(p: Plan, l: usize) -> bool
     requires { ⌜ (p .tasks ≤ maxTasks) × (l < maxLocks) ⌝ }
     ensures { λ r. ⌜ r ≡ ceilingFault p l ⌝ }
 {

@@ -5,7 +5,9 @@ pub mod count;
 mod faults;
 mod lower;
 pub mod mask;
+mod obey;
 mod record;
+pub mod spare;
 
 use rules::answer::Loaded;
 use rules::answer::Verdict;
@@ -14,6 +16,7 @@ use rules::refusal::Refusal;
 ghost use mathlib.Core.Path.{_≡_};
 ghost use Rattle.rules.specs.Load.{loadOf};
 ghost use Rattle.rules.specs.Bound.{boundOf};
+ghost use Rattle.rules.specs.SoundTest as SoundTest;
 
 // One number for a record, little-endian: a task's two bytes, a lock's four, a use's two. The answer
 // is the plan, or the first offender of 2 and 4 to 7.
@@ -40,4 +43,23 @@ pub fn bound(p: Plan, t: usize) -> u16
 {
     let b = lower::base_of(p, t);
     lower::longest(p, b)
+}
+
+// Whether a plan that is handed in obeys the rules, test by test.
+pub fn obeys(p: Plan) -> bool
+    ensures { λ r. ⌜ r ≡ SoundTest.obeys p ⌝ }
+{
+    if count::count_fault(0, p.tasks) {
+        return false;
+    }
+    if count::count_fault(1, p.locks) {
+        return false;
+    }
+    if !obey::tasks_obey(p) {
+        return false;
+    }
+    if !obey::locks_obey(p) {
+        return false;
+    }
+    obey::spare_obeys(p)
 }

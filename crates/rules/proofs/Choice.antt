@@ -2,12 +2,13 @@
 use mathlib.Core.Path.{_≡_, refl, sym, _∙_, ap, subst}
 use mathlib.Core.Logic.{_⊎_, inl, inr, ⊎-elim}
 use mathlib.Core.Bool.{Bool, true, false, not, _&&_, _||_}
+use mathlib.Core.List.{List, [], _∷_}
 use Prim.Native.Nat.{ℕ, _≤_, _<_}
 use native.Mathlib.Decide.{ℕ-discrete, decLt}
 use native.Mathlib.Omega.{arith}
 use lib.Dec.{T}
 use borrow.Author.Tests.{lt-ltb, le-ltb, le-leb, lt-leb, eq-eqb, ne-eqb, not-true, not-false}
-use Rattle.rules.specs.Choice.{if_then_else_}
+use Rattle.rules.specs.Choice.{if_then_else_, allTrue}
 -- every proof rests on this file, so the paper's own runs are checked before them all: a wrong rule that they show is refused there first
 use Rattle.rules.specs.Crane
 
@@ -91,7 +92,54 @@ said-not-true r t e h = sym e ∙ not-true r h
 pub said-not-false : (r t : Bool) → r ≡ t → not r ≡ false → t ≡ true
 said-not-false r t e h = sym e ∙ not-false r h
 
+pub not-of-true : (t : Bool) → t ≡ true → not t ≡ false
+not-of-true t e = ap not e
+
+pub not-of-false : (t : Bool) → t ≡ false → not t ≡ true
+not-of-false t e = ap not e
+
+-- ---- tests that must all hold
+
+unfoldable pub Each : List Bool → Type 0
+Each [] = Unit {0}
+Each (t ∷ ts) = (t ≡ true) × Each ts
+
+pub all-so : (ts : List Bool) → allTrue ts ≡ true → Each ts
+unfolding Each allTrue
+all-so [] e = tt
+all-so (t ∷ ts) e = by-test t
+    (λ q. (q, all-so ts (sym (if-true t (allTrue ts) false q) ∙ e)))
+    (λ q. untrue (sym e ∙ if-false t (allTrue ts) false q))
+
+pub so-all : (ts : List Bool) → Each ts → allTrue ts ≡ true
+unfolding Each allTrue
+so-all [] h = refl
+so-all (t ∷ ts) h = if-true t (allTrue ts) false (h .0) ∙ so-all ts (h .1)
+
+-- along the code's own tests: one fails, one holds, none is left
+pub all-fails : (t : Bool) (ts : List Bool) → t ≡ false → false ≡ allTrue (t ∷ ts)
+unfolding allTrue
+all-fails t ts e = sym (if-false t (allTrue ts) false e)
+
+pub all-next : (t r : Bool) (ts : List Bool) → t ≡ true → r ≡ allTrue ts → r ≡ allTrue (t ∷ ts)
+unfolding allTrue
+all-next t r ts e h = h ∙ sym (if-true t (allTrue ts) false e)
+
+pub all-last : (t r : Bool) → r ≡ t → r ≡ allTrue (t ∷ [])
+unfolding allTrue if_then_else_
+all-last true r e = e
+all-last false r e = e
+
+pub all-done : true ≡ allTrue []
+unfolding allTrue
+all-done = refl
+
 -- for `search`: tests of numbers and of flags that are variables; with flags that a call gave
 pub ruleset tests = (lt-ltb, le-ltb, le-leb, lt-leb, eq-eqb, ne-eqb, if-true, if-false)
+
+pub ruleset alls = (all-fails, all-next, all-last, all-done)
+
+-- of a test's opposite
+pub ruleset nots = (not-of-true, not-of-false)
 
 pub ruleset flags = (tests, said-true, said-false, said-not-true, said-not-false)

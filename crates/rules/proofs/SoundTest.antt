@@ -2,25 +2,27 @@
 use mathlib.Core.Path.{_≡_, refl, sym, _∙_, ap, ap₂, subst}
 use mathlib.Core.Logic.{_≢_, _⊎_, inl, inr, ⊎-elim, _↔_}
 use mathlib.Core.Bool.{Bool, true, false, not, _&&_}
+use mathlib.Core.List.{List, [], _∷_}
 use Prim.Native.Nat.{ℕ, zero, suc, _+_, _≤_, _<_, _^_}
 use native.Mathlib.Decide.{ℕ-discrete}
 use native.Mathlib.Nat.{eq-zero-or-pos}
+use native.Mathlib.Numerals.{add-one}
 use native.Mathlib.Omega.{arith}
 use lib.Dec.{eqb, leb, ltb}
 use lib.ListN.{drop}
 use borrow.Author.Tests.{eqb-true, eqb-false, leb-true, ltb-true, eq-eqb, ne-eqb, le-leb, lt-ltb, not-true}
 use Rattle.rules.specs.Capacity.{maxOpen, maxAccepted, maxDelay, nobody}
-use Rattle.rules.specs.Choice.{if_then_else_}
+use Rattle.rules.specs.Choice.{if_then_else_, allTrue}
 use Rattle.rules.specs.Place.{at, every, greatest, zeros}
 use Rattle.rules.specs.Row.{newest, under, has, saves}
 use Rattle.rules.specs.Plan.{countFault, taskFault, lockFault, ceilingFault, declares, Obeys}
 use Rattle.rules.specs.Figures.{Figures, figuresOf, holds, rankOf}
 use Rattle.rules.specs.Lazy.{Words, wordsOf}
 use Rattle.rules.specs.Sound.{distinct, Figured, keptOf, savedOf, ownerOf, Worded, Sound}
-use Rattle.rules.specs.SoundTest.{taskObeys, lockObeys, spareObeys, obeys, rowTest, numberTest, ownTest, taskTest, lockTest, headTest, spareTest, soundTest}
+use Rattle.rules.specs.SoundTest.{taskObeys, lockObeys, spareObeys, obeys, rowTest, ownTest, numberNew, numberTest, taskTest, lockTest, runsTest, headTest, spareTest, soundTest}
 use Rattle.rules.specs.declared.plan.Plan.{Plan}
 use Rattle.rules.specs.declared.state.State.{State}
-use Rattle.rules.proofs.Choice.{if-true, if-false, by-test, untrue, not-so, and-true, true-and, at-or, lt-or-le}
+use Rattle.rules.proofs.Choice.{if-true, if-false, by-test, untrue, not-so, and-true, true-and, at-or, lt-or-le, Each, all-so, so-all}
 use Rattle.rules.proofs.Place.{every-true, true-every, spare-at, at-spare}
 use Rattle.rules.proofs.Row.{has-none, has-newest, has-under, has-cases, places-under, saves-none}
 use Rattle.rules.proofs.Figured.{inside, holder-out}
@@ -33,16 +35,20 @@ false-not t e = ap not e
 -- ---- the plan
 
 module _ (p : Plan) where
+  task-parts : (t : ℕ) → taskObeys p t ≡ true → (not (taskFault (at (p .base) t) 0) ≡ true) × (ltb (at (p .base) t) (2 ^ 8) ≡ true) × (ltb (at (p .uses) t) (2 ^ p .locks) ≡ true)
+  unfolding taskObeys Each
+  task-parts t e = let (a, (b, (c, _))) = all-so _ e in (a, b, c)
+
+  lock-parts : (l : ℕ) → lockObeys p l ≡ true
+      → (not (lockFault (at (p .ceiling) l) 0 (at (p .limit) l)) ≡ true) × (ltb (at (p .ceiling) l) (2 ^ 8) ≡ true) × (ltb (at (p .limit) l) (2 ^ 16) ≡ true) × (not (ceilingFault p l) ≡ true)
+  unfolding lockObeys Each
+  lock-parts l e = let (a, (b, (c, (d, _)))) = all-so _ e in (a, b, c, d)
+
   pub obeys-so : obeys p ≡ true → Obeys p
-  unfolding obeys taskObeys lockObeys spareObeys
+  unfolding obeys spareObeys Each
   obeys-so e =
-      let (e4, spare) = and-true _ (spareObeys p) e in
-      let (e3, locks) = and-true _ (every (lockObeys p) (p .locks)) e4 in
-      let (e2, tasks) = and-true _ (every (taskObeys p) (p .tasks)) e3 in
-      let (a, b) = and-true (not (countFault 0 (p .tasks))) (not (countFault 1 (p .locks))) e2 in
-      let (s3, noLimit) = and-true _ (zeros (drop (p .locks) (p .limit))) spare in
-      let (s2, noCeiling) = and-true _ (zeros (drop (p .locks) (p .ceiling))) s3 in
-      let (noBase, noUses) = and-true (zeros (drop (p .tasks) (p .base))) (zeros (drop (p .tasks) (p .uses))) s2 in
+      let (a, (b, (tasks, (locks, (spare, _))))) = all-so _ e in
+      let (noBase, (noUses, (noCeiling, (noLimit, _)))) = all-so _ spare in
       record {
         tasks = not-true (countFault 0 (p .tasks)) a;
         locks = not-true (countFault 1 (p .locks)) b;
@@ -59,38 +65,36 @@ module _ (p : Plan) where
     where
       task : every (taskObeys p) (p .tasks) ≡ true → (t : ℕ) → t < p .tasks
           → (not (taskFault (at (p .base) t) 0) ≡ true) × (ltb (at (p .base) t) (2 ^ 8) ≡ true) × (ltb (at (p .uses) t) (2 ^ p .locks) ≡ true)
-      task e t h =
-          let (ab, c) = and-true _ (ltb (at (p .uses) t) (2 ^ p .locks)) (every-true (taskObeys p) (p .tasks) e t h) in
-          let (a, b) = and-true (not (taskFault (at (p .base) t) 0)) (ltb (at (p .base) t) (2 ^ 8)) ab in (a, b, c)
+      task e t h = task-parts t (every-true (taskObeys p) (p .tasks) e t h)
 
       lock : every (lockObeys p) (p .locks) ≡ true → (l : ℕ) → l < p .locks
           → (not (lockFault (at (p .ceiling) l) 0 (at (p .limit) l)) ≡ true) × (ltb (at (p .ceiling) l) (2 ^ 8) ≡ true) × (ltb (at (p .limit) l) (2 ^ 16) ≡ true) × (not (ceilingFault p l) ≡ true)
-      lock e l h =
-          let (abc, d) = and-true _ (not (ceilingFault p l)) (every-true (lockObeys p) (p .locks) e l h) in
-          let (ab, c) = and-true _ (ltb (at (p .limit) l) (2 ^ 16)) abc in
-          let (a, b) = and-true (not (lockFault (at (p .ceiling) l) 0 (at (p .limit) l))) (ltb (at (p .ceiling) l) (2 ^ 8)) ab in (a, b, c, d)
+      lock e l h = lock-parts l (every-true (lockObeys p) (p .locks) e l h)
 
   pub so-obeys : Obeys p → obeys p ≡ true
-  unfolding obeys taskObeys lockObeys spareObeys
-  so-obeys O =
-      true-and _ (spareObeys p)
-      (true-and _ (every (lockObeys p) (p .locks))
-      (true-and _ (every (taskObeys p) (p .tasks))
-      (true-and (not (countFault 0 (p .tasks))) (not (countFault 1 (p .locks))) (false-not _ (O .tasks)) (false-not _ (O .locks)))
-      (true-every (taskObeys p) (p .tasks) (λ t h. true-and _ (ltb (at (p .uses) t) (2 ^ p .locks))
-      (true-and (not (taskFault (at (p .base) t) 0)) (ltb (at (p .base) t) (2 ^ 8)) (false-not _ (O .bases t h)) (lt-ltb _ _ (O .baseBytes t)))
-      (lt-ltb _ _ (O .uses t h)))))
-      (true-every (lockObeys p) (p .locks) (λ l h. true-and _ (not (ceilingFault p l))
-      (true-and _ (ltb (at (p .limit) l) (2 ^ 16))
-      (true-and (not (lockFault (at (p .ceiling) l) 0 (at (p .limit) l))) (ltb (at (p .ceiling) l) (2 ^ 8)) (false-not _ (O .sections l h)) (lt-ltb _ _ (O .ceilingBytes l)))
-      (lt-ltb _ _ (O .limitBytes l)))
-      (false-not _ (O .ceilings l h)))))
-      (true-and _ (zeros (drop (p .locks) (p .limit)))
-      (true-and _ (zeros (drop (p .locks) (p .ceiling)))
-      (true-and (zeros (drop (p .tasks) (p .base))) (zeros (drop (p .tasks) (p .uses)))
-      (at-spare (p .tasks) (p .base) (λ t h. O .noTask t h .0)) (at-spare (p .tasks) (p .uses) (λ t h. O .noTask t h .1)))
-      (at-spare (p .locks) (p .ceiling) (λ l h. O .noLock l h .0)))
-      (at-spare (p .locks) (p .limit) (λ l h. O .noLock l h .1)))
+  unfolding obeys taskObeys lockObeys spareObeys Each
+  so-obeys O = so-all _ (
+    false-not _ (O .tasks),
+    (
+      false-not _ (O .locks),
+      (
+        true-every (taskObeys p) (p .tasks) (λ t h. so-all _ (false-not _ (O .bases t h), (lt-ltb _ _ (O .baseBytes t), (lt-ltb _ _ (O .uses t h), tt)))),
+        (
+          true-every (lockObeys p) (p .locks) (λ l h. so-all _ (false-not _ (O .sections l h), (lt-ltb _ _ (O .ceilingBytes l), (lt-ltb _ _ (O .limitBytes l), (false-not _ (O .ceilings l h), tt))))),
+          (
+            so-all _ (
+              at-spare (p .tasks) (p .base) (λ t h. O .noTask t h .0),
+              (
+                at-spare (p .tasks) (p .uses) (λ t h. O .noTask t h .1),
+                (at-spare (p .locks) (p .ceiling) (λ l h. O .noLock l h .0), (at-spare (p .locks) (p .limit) (λ l h. O .noLock l h .1), tt)),
+              ),
+            ),
+            tt,
+          ),
+        ),
+      ),
+    ),
+  )
 
 -- ---- a row
 
@@ -101,82 +105,85 @@ module _ (p : Plan) (x : ℕ) where
     pub once : distinct row k ≡ true
     pub places : row < 256 ^ k
 
-  row-so : (row k : ℕ) → rowTest p x row k ≡ true → RowOk row k
-  unfolding rowTest distinct
+  -- the newest is right, and so is the rest
+  row-more : (row k : ℕ) → RowOk (under row) k → newest row < p .locks → declares p x (newest row) ≡ true → not (has (under row) k (newest row)) ≡ true → RowOk row (suc k)
+  unfolding distinct
+  row-more row k R a b c = record {
+    known = λ l h. ⊎-elim (λ q. omega (arith, a)) (λ q. R .known l q) (has-cases row k l h);
+    declared = λ l h. ⊎-elim (λ q. subst (λ l. declares p x l ≡ true) q b) (λ q. R .declared l q) (has-cases row k l h);
+    once = true-and (not (has (under row) k (newest row))) (distinct (under row) k) c (R .once);
+    places = omega (arith, R .places);
+  }
+
+  row-so : (row k : ℕ) → rowTest (p .locks) (at (p .uses) x) row k ≡ true → RowOk row k
+  unfolding rowTest distinct declares Each
   row-so row zero e = record {
     known = λ l h. untrue (sym h ∙ has-none row l);
     declared = λ l h. untrue (sym h ∙ has-none row l);
     once = refl;
     places = omega (arith, eqb-true row 0 e);
   }
-  row-so row (suc k) e =
-      let (abc, d) = and-true _ (rowTest p x (under row) k) e in
-      let (ab, c) = and-true _ (not (has (under row) k (newest row))) abc in
-      let (a, b) = and-true (ltb (newest row) (p .locks)) (declares p x (newest row)) ab in
-      go (row-so (under row) k d) (ltb-true _ _ a) b c
-    where
-      go : RowOk (under row) k → newest row < p .locks → declares p x (newest row) ≡ true → not (has (under row) k (newest row)) ≡ true → RowOk row (suc k)
-      go R a b c = record {
-        known = λ l h. ⊎-elim (λ q. omega (arith, a)) (λ q. R .known l q) (has-cases row k l h);
-        declared = λ l h. ⊎-elim (λ q. subst (λ l. declares p x l ≡ true) q b) (λ q. R .declared l q) (has-cases row k l h);
-        once = true-and (not (has (under row) k (newest row))) (distinct (under row) k) c (R .once);
-        places = omega (arith, R .places);
-      }
+  row-so row (suc k) e = let (a, (b, (c, (d, _)))) = all-so _ e in row-more row k (row-so (under row) k d) (ltb-true _ _ a) b c
 
-  so-row : (row k : ℕ) → RowOk row k → rowTest p x row k ≡ true
-  unfolding rowTest distinct
+  so-row : (row k : ℕ) → RowOk row k → rowTest (p .locks) (at (p .uses) x) row k ≡ true
+  unfolding rowTest distinct declares Each
   so-row row zero R = eq-eqb row 0 (omega (arith, R .places))
   so-row row (suc k) R =
       let (c, d) = and-true (not (has (under row) k (newest row))) (distinct (under row) k) (R .once) in
-      true-and _ (rowTest p x (under row) k)
-      (true-and _ (not (has (under row) k (newest row)))
-      (true-and (ltb (newest row) (p .locks)) (declares p x (newest row)) (lt-ltb _ _ (R .known (newest row) (has-newest row k))) (R .declared (newest row) (has-newest row k)))
-      c)
-      (so-row (under row) k (record {
-        known = λ l h. R .known l (has-under row k l h);
-        declared = λ l h. R .declared l (has-under row k l h);
-        once = d;
-        places = places-under row k (R .places);
-      }))
+      so-all _ (
+        lt-ltb _ _ (R .known (newest row) (has-newest row k)),
+        (
+          R .declared (newest row) (has-newest row k),
+          (
+            c,
+            (
+              so-row (under row) k (record {
+                known = λ l h. R .known l (has-under row k l h);
+                declared = λ l h. R .declared l (has-under row k l h);
+                once = d;
+                places = places-under row k (R .places);
+              }),
+              tt,
+            ),
+          ),
+        ),
+      )
 
-module _ (w : Words) (x : ℕ) where
-  own-so : (row k : ℕ) → ownTest w x row k ≡ true → (l : ℕ) → has row k l ≡ true → at (w .owner) l ≡ suc x
-  unfolding ownTest
+module _ (owner : List ℕ) (x : ℕ) where
+  own-so : (row k : ℕ) → ownTest owner x row k ≡ true → (l : ℕ) → has row k l ≡ true → at owner l ≡ suc x
+  unfolding ownTest Each
   own-so row zero e l h = untrue (sym h ∙ has-none row l)
   own-so row (suc k) e l h =
-      let (a, b) = and-true (eqb (at (w .owner) (newest row)) (suc x)) (ownTest w x (under row) k) e in
-      ⊎-elim (λ q. subst (λ l. at (w .owner) l ≡ suc x) q (eqb-true _ _ a)) (λ q. own-so (under row) k b l q) (has-cases row k l h)
+      let (a, (b, _)) = all-so _ e in
+      ⊎-elim (λ q. subst (λ l. at owner l ≡ suc x) q (eqb-true _ _ a ∙ add-one x)) (λ q. own-so (under row) k b l q) (has-cases row k l h)
 
-  so-own : (row k : ℕ) → ((l : ℕ) → has row k l ≡ true → at (w .owner) l ≡ suc x) → ownTest w x row k ≡ true
-  unfolding ownTest
+  so-own : (row k : ℕ) → ((l : ℕ) → has row k l ≡ true → at owner l ≡ suc x) → ownTest owner x row k ≡ true
+  unfolding ownTest Each
   so-own row zero h = refl
-  so-own row (suc k) h =
-      true-and (eqb (at (w .owner) (newest row)) (suc x)) (ownTest w x (under row) k)
-      (eq-eqb _ _ (h (newest row) (has-newest row k))) (so-own (under row) k (λ l q. h l (has-under row k l q)))
+  so-own row (suc k) h = so-all _ (eq-eqb _ _ (h (newest row) (has-newest row k) ∙ sym (add-one x)), (so-own (under row) k (λ l q. h l (has-under row k l q)), tt))
 
 -- ---- release numbers
 
-module _ (f : Figures) (x : ℕ) where
-  number-so : numberTest f x ≡ true
-      → (at (f .released) x ≡ 0 → at (f .held) x ≡ 0) × (at (f .released) x ≤ f .accepted) × ((y : ℕ) → y < x → 0 < at (f .released) x → at (f .released) y ≢ at (f .released) x)
-  unfolding numberTest
-  number-so e = by-test (eqb (at (f .released) x) 0)
-      (λ t. let z : at (f .released) x ≡ 0 = eqb-true _ 0 t in
-      ((λ _. eqb-true _ 0 (sym (if-true (eqb (at (f .released) x) 0) _ _ t) ∙ e)), omega arith, λ y l o. absurd (omega arith)))
-      (λ t. let (a, b) = and-true (leb (at (f .released) x) (f .accepted)) _ (sym (if-false (eqb (at (f .released) x) 0) _ _ t) ∙ e) in (
+module _ (accepted : ℕ) (released : List ℕ) (held x : ℕ) where
+  number-so : numberTest accepted released held x ≡ true
+      → (at released x ≡ 0 → held ≡ 0) × (at released x ≤ accepted) × ((y : ℕ) → y < x → 0 < at released x → at released y ≢ at released x)
+  unfolding numberTest numberNew Each
+  number-so e = by-test (eqb (at released x) 0)
+      (λ t. let z : at released x ≡ 0 = eqb-true _ 0 t in
+      ((λ _. eqb-true _ 0 (sym (if-true (eqb (at released x) 0) _ _ t) ∙ e)), omega arith, λ y l o. absurd (omega arith)))
+      (λ t. let (a, (b, _)) = all-so _ (sym (if-false (eqb (at released x) 0) _ _ t) ∙ e) in (
         (λ z. absurd (eqb-false _ 0 t z)),
         leb-true _ _ a,
-        λ y l o. eqb-false _ _ (not-true _ (every-true (λ y. not (eqb (at (f .released) y) (at (f .released) x))) x b y l)),
+        λ y l o. eqb-false _ _ (not-true _ (every-true (λ z. not (eqb (at released z) (at released x))) x b y l)),
       ))
 
-  so-number : (at (f .released) x ≡ 0 → at (f .held) x ≡ 0) → at (f .released) x ≤ f .accepted → ((y : ℕ) → y < x → 0 < at (f .released) x → at (f .released) y ≢ at (f .released) x)
-      → numberTest f x ≡ true
-  unfolding numberTest
-  so-number a b c = by-test (eqb (at (f .released) x) 0)
-      (λ t. if-true (eqb (at (f .released) x) 0) _ _ t ∙ eq-eqb _ 0 (a (eqb-true _ 0 t)))
-      (λ t. if-false (eqb (at (f .released) x) 0) _ _ t
-      ∙ true-and (leb (at (f .released) x) (f .accepted)) _ (le-leb _ _ b)
-      (true-every (λ y. not (eqb (at (f .released) y) (at (f .released) x))) x (λ y l. false-not _ (ne-eqb _ _ (c y l (omega (arith, eqb-false (at (f .released) x) 0 t)))))))
+  so-number : (at released x ≡ 0 → held ≡ 0) → at released x ≤ accepted → ((y : ℕ) → y < x → 0 < at released x → at released y ≢ at released x)
+      → numberTest accepted released held x ≡ true
+  unfolding numberTest numberNew Each
+  so-number a b c = by-test (eqb (at released x) 0)
+      (λ t. if-true (eqb (at released x) 0) _ _ t ∙ eq-eqb _ 0 (a (eqb-true _ 0 t)))
+      (λ t. if-false (eqb (at released x) 0) _ _ t
+      ∙ so-all _ (le-leb _ _ b, (true-every (λ z. not (eqb (at released z) (at released x))) x (λ y l. false-not _ (ne-eqb _ _ (c y l (omega (arith, eqb-false (at released x) 0 t))))), tt)))
 
 -- ---- a task, a lock and the head, by name
 
@@ -193,19 +200,14 @@ module _ (p : Plan) (f : Figures) (w : Words) where
     saved : at (w .saved) x ≡ savedOf p f x
 
   task-so : (x : ℕ) → taskTest p f w x ≡ true → TaskOk x
-  unfolding taskTest holds
+  unfolding taskTest holds Each
   task-so x e =
-      let (e5, s) = and-true _ (eqb (at (w .saved) x) (savedOf p f x)) e in
-      let (e4, k) = and-true _ (eqb (at (w .kept) x) (keptOf p f (w .running) x)) e5 in
-      let (e3, d) = and-true _ (leb (at (f .delay) x) maxDelay) e4 in
-      let (e2, n) = and-true _ (numberTest f x) e3 in
-      let (e1, o) = and-true _ (ownTest w x (at (f .locks) x) (at (f .held) x)) e2 in
-      let (h, r) = and-true (leb (at (f .held) x) maxOpen) (rowTest p x (at (f .locks) x) (at (f .held) x)) e1 in
-      let (n0, n1, n2) = number-so f x n in
+      let (h, (r, (o, (n, (d, (k, (s, _))))))) = all-so _ e in
+      let (n0, n1, n2) = number-so (f .accepted) (f .released) (at (f .held) x) x n in
       record {
         depth = leb-true _ _ h;
         row = row-so p x _ _ r;
-        own = own-so w x _ _ o;
+        own = own-so (w .owner) x _ _ o;
         resting = n0;
         number = n1;
         differ = n2;
@@ -215,34 +217,43 @@ module _ (p : Plan) (f : Figures) (w : Words) where
       }
 
   so-task : (x : ℕ) → TaskOk x → taskTest p f w x ≡ true
-  unfolding taskTest holds
-  so-task x T =
-      true-and _ (eqb (at (w .saved) x) (savedOf p f x))
-      (true-and _ (eqb (at (w .kept) x) (keptOf p f (w .running) x))
-      (true-and _ (leb (at (f .delay) x) maxDelay)
-      (true-and _ (numberTest f x)
-      (true-and _ (ownTest w x (at (f .locks) x) (at (f .held) x))
-      (true-and (leb (at (f .held) x) maxOpen) (rowTest p x (at (f .locks) x) (at (f .held) x)) (le-leb _ _ (T .depth)) (so-row p x _ _ (T .row)))
-      (so-own w x _ _ (T .own)))
-      (so-number f x (T .resting) (T .number) (T .differ)))
-      (le-leb _ _ (T .delay)))
-      (eq-eqb _ _ (T .kept)))
-      (eq-eqb _ _ (T .saved))
+  unfolding taskTest holds Each
+  so-task x T = so-all _ (
+    le-leb _ _ (T .depth),
+    (
+      so-row p x _ _ (T .row),
+      (
+        so-own (w .owner) x _ _ (T .own),
+        (
+          so-number (f .accepted) (f .released) (at (f .held) x) x (T .resting) (T .number) (T .differ),
+          (
+            le-leb _ _ (T .delay),
+            (
+              eq-eqb _ _ (T .kept),
+              (eq-eqb _ _ (T .saved), tt),
+            ),
+          ),
+        ),
+      ),
+    ),
+  )
 
   lock-so : (l : ℕ) → lockTest p f w l ≡ true
       → (at (w .owner) l ≡ ownerOf f (p .tasks) l) × (at (f .units) l ≤ at (p .limit) l) × (at (w .owner) l ≡ 0 → at (f .units) l ≡ 0)
-  unfolding lockTest
+  unfolding lockTest Each
   lock-so l e =
-      let (ab, c) = and-true _ (if eqb (at (w .owner) l) 0 then eqb (at (f .units) l) 0 else true) e in
-      let (a, b) = and-true (eqb (at (w .owner) l) (ownerOf f (p .tasks) l)) (leb (at (f .units) l) (at (p .limit) l)) ab in
+      let (a, (b, (c, _))) = all-so _ e in
       (eqb-true _ _ a, leb-true _ _ b, λ z. eqb-true _ 0 (sym (if-true (eqb (at (w .owner) l) 0) _ _ (eq-eqb _ 0 z)) ∙ c))
 
   so-lock : (l : ℕ) → at (w .owner) l ≡ ownerOf f (p .tasks) l → at (f .units) l ≤ at (p .limit) l → (at (w .owner) l ≡ 0 → at (f .units) l ≡ 0) → lockTest p f w l ≡ true
-  unfolding lockTest
-  so-lock l a b c =
-      true-and _ (if eqb (at (w .owner) l) 0 then eqb (at (f .units) l) 0 else true)
-      (true-and (eqb (at (w .owner) l) (ownerOf f (p .tasks) l)) (leb (at (f .units) l) (at (p .limit) l)) (eq-eqb _ _ a) (le-leb _ _ b))
-      (by-test (eqb (at (w .owner) l) 0) (λ t. if-true (eqb (at (w .owner) l) 0) _ _ t ∙ eq-eqb _ 0 (c (eqb-true _ 0 t))) (λ t. if-false (eqb (at (w .owner) l) 0) _ _ t))
+  unfolding lockTest Each
+  so-lock l a b c = so-all _ (
+    eq-eqb _ _ a,
+    (
+      le-leb _ _ b,
+      (by-test (eqb (at (w .owner) l) 0) (λ t. if-true (eqb (at (w .owner) l) 0) _ _ t ∙ eq-eqb _ 0 (c (eqb-true _ 0 t))) (λ t. if-false (eqb (at (w .owner) l) 0) _ _ t), tt),
+    ),
+  )
 
   record HeadOk : Type 0 where
     events : f .accepted ≤ maxAccepted
@@ -254,38 +265,39 @@ module _ (p : Plan) (f : Figures) (w : Words) where
     next : w .next ≡ greatest (keptOf p f (w .running)) (p .tasks)
 
   head-so : headTest p f w ≡ true → HeadOk
-  unfolding headTest
+  unfolding headTest runsTest Each
   head-so e =
-      let (e4, n) = and-true _ (eqb (w .next) (greatest (keptOf p f (w .running)) (p .tasks))) e in
-      let (e3, u) = and-true _ (eqb (w .user) (rankOf p f (w .running))) e4 in
-      let (e2, r) = and-true _ (if eqb (w .running) nobody then every (λ x. eqb (at (f .released) x) 0) (p .tasks) else ltb (w .running) (p .tasks) && ltb 0 (at (f .released) (w .running))) e3 in
-      let (e1, l) = and-true _ (leb (w .lazy) (f .accepted)) e2 in
-      let (a, g) = and-true (leb (f .accepted) maxAccepted) (leb (f .calls) (f .accepted)) e1 in
+      let (a, (g, (l, (r, (u, (n, _)))))) = all-so _ e in
       record {
         events = leb-true _ _ a;
         eager = leb-true _ _ g;
         lazy = leb-true _ _ l;
         idle = λ z x h. eqb-true _ 0 (every-true (λ x. eqb (at (f .released) x) 0) (p .tasks) (sym (if-true (eqb (w .running) nobody) _ _ (eq-eqb _ _ z)) ∙ r) x h);
-        runs = λ z. let (i, o) = and-true (ltb (w .running) (p .tasks)) (ltb 0 (at (f .released) (w .running))) (sym (if-false (eqb (w .running) nobody) _ _ (ne-eqb _ _ z)) ∙ r) in (ltb-true _ _ i, ltb-true 0 _ o);
+        runs = λ z. let (i, (o, _)) = all-so _ (sym (if-false (eqb (w .running) nobody) _ _ (ne-eqb _ _ z)) ∙ r) in (ltb-true _ _ i, ltb-true 0 _ o);
         user = eqb-true _ _ u;
         next = eqb-true _ _ n;
       }
 
   so-head : HeadOk → headTest p f w ≡ true
-  unfolding headTest
-  so-head H =
-      true-and _ (eqb (w .next) (greatest (keptOf p f (w .running)) (p .tasks)))
-      (true-and _ (eqb (w .user) (rankOf p f (w .running)))
-      (true-and _ (if eqb (w .running) nobody then every (λ x. eqb (at (f .released) x) 0) (p .tasks) else ltb (w .running) (p .tasks) && ltb 0 (at (f .released) (w .running)))
-      (true-and _ (leb (w .lazy) (f .accepted))
-      (true-and (leb (f .accepted) maxAccepted) (leb (f .calls) (f .accepted)) (le-leb _ _ (H .events)) (le-leb _ _ (H .eager)))
-      (le-leb _ _ (H .lazy)))
-      (by-test (eqb (w .running) nobody)
-      (λ t. if-true (eqb (w .running) nobody) _ _ t ∙ true-every (λ x. eqb (at (f .released) x) 0) (p .tasks) (λ x h. eq-eqb _ 0 (H .idle (eqb-true _ _ t) x h)))
-      (λ t. let (i, o) = H .runs (eqb-false _ _ t) in
-      if-false (eqb (w .running) nobody) _ _ t ∙ true-and (ltb (w .running) (p .tasks)) (ltb 0 (at (f .released) (w .running))) (lt-ltb _ _ i) (lt-ltb 0 _ o))))
-      (eq-eqb _ _ (H .user)))
-      (eq-eqb _ _ (H .next))
+  unfolding headTest runsTest Each
+  so-head H = so-all _ (
+    le-leb _ _ (H .events),
+    (
+      le-leb _ _ (H .eager),
+      (
+        le-leb _ _ (H .lazy),
+        (
+          by-test (eqb (w .running) nobody)
+              (λ t. if-true (eqb (w .running) nobody) _ _ t ∙ true-every (λ x. eqb (at (f .released) x) 0) (p .tasks) (λ x h. eq-eqb _ 0 (H .idle (eqb-true _ _ t) x h)))
+              (λ t. let (i, o) = H .runs (eqb-false _ _ t) in if-false (eqb (w .running) nobody) _ _ t ∙ so-all _ (lt-ltb _ _ i, (lt-ltb 0 _ o, tt))),
+          (
+            eq-eqb _ _ (H .user),
+            (eq-eqb _ _ (H .next), tt),
+          ),
+        ),
+      ),
+    ),
+  )
 
 -- ---- places past the last task and the last lock
 
@@ -301,15 +313,9 @@ record SpareOk (p : Plan) (s : State) : Type 0 where
 
 module _ (p : Plan) (s : State) where
   spare-so : spareTest p s ≡ true → SpareOk p s
-  unfolding spareTest
+  unfolding spareTest Each
   spare-so e =
-      let (e6, o) = and-true _ (zeros (drop (p .locks) (s .owner))) e in
-      let (e5, u) = and-true _ (zeros (drop (p .locks) (s .units))) e6 in
-      let (e4, v) = and-true _ (zeros (drop (p .tasks) (s .saved))) e5 in
-      let (e3, l) = and-true _ (zeros (drop (p .tasks) (s .locks))) e4 in
-      let (e2, h) = and-true _ (zeros (drop (p .tasks) (s .held))) e3 in
-      let (e1, d) = and-true _ (zeros (drop (p .tasks) (s .delay))) e2 in
-      let (r, k) = and-true (zeros (drop (p .tasks) (s .released))) (zeros (drop (p .tasks) (s .kept))) e1 in
+      let (r, (k, (d, (h, (l, (v, (u, (o, _)))))))) = all-so _ e in
       record {
         released = spare-at (p .tasks) (s .released) r;
         kept = spare-at (p .tasks) (s .kept) k;
@@ -322,21 +328,29 @@ module _ (p : Plan) (s : State) where
       }
 
   so-spare : SpareOk p s → spareTest p s ≡ true
-  unfolding spareTest
-  so-spare S =
-      true-and _ (zeros (drop (p .locks) (s .owner)))
-      (true-and _ (zeros (drop (p .locks) (s .units)))
-      (true-and _ (zeros (drop (p .tasks) (s .saved)))
-      (true-and _ (zeros (drop (p .tasks) (s .locks)))
-      (true-and _ (zeros (drop (p .tasks) (s .held)))
-      (true-and _ (zeros (drop (p .tasks) (s .delay)))
-      (true-and (zeros (drop (p .tasks) (s .released))) (zeros (drop (p .tasks) (s .kept))) (at-spare _ _ (S .released)) (at-spare _ _ (S .kept)))
-      (at-spare _ _ (S .delay)))
-      (at-spare _ _ (S .held)))
-      (at-spare _ _ (S .locks)))
-      (at-spare _ _ (S .saved)))
-      (at-spare _ _ (S .units)))
-      (at-spare _ _ (S .owner))
+  unfolding spareTest Each
+  so-spare S = so-all _ (
+    at-spare _ _ (S .released),
+    (
+      at-spare _ _ (S .kept),
+      (
+        at-spare _ _ (S .delay),
+        (
+          at-spare _ _ (S .held),
+          (
+            at-spare _ _ (S .locks),
+            (
+              at-spare _ _ (S .saved),
+              (
+                at-spare _ _ (S .units),
+                (at-spare _ _ (S .owner), tt),
+              ),
+            ),
+          ),
+        ),
+      ),
+    ),
+  )
 
 -- without open locks nothing is saved
 pub unsaved-by : (p : Plan) (f : Figures) (x : ℕ) → at (f .held) x ≡ 0 → savedOf p f x ≡ 0
@@ -417,12 +431,9 @@ module _ (p : Plan) (s : State) where
     }
 
   sound-so : soundTest p s ≡ true → Sound p s
-  unfolding soundTest
+  unfolding soundTest Each
   sound-so e =
-      let (e3, sp) = and-true _ (spareTest p s) e in
-      let (e2, lo) = and-true _ (every (lockTest p f w) (p .locks)) e3 in
-      let (e1, ta) = and-true _ (every (taskTest p f w) n) e2 in
-      let (ob, he) = and-true (obeys p) (headTest p f w) e1 in
+      let (ob, (he, (ta, (lo, (sp, _))))) = all-so _ e in
       let H : HeadOk p f w = head-so p f w he in
       let T : (x : ℕ) → x < n → TaskOk p f w x = λ x h. task-so p f w x (every-true (taskTest p f w) n ta x h) in
       let L : (l : ℕ) → l < p .locks → (at (w .owner) l ≡ ownerOf f n l) × (at (f .units) l ≤ at (p .limit) l) × (at (w .owner) l ≡ 0 → at (f .units) l ≡ 0) =
@@ -470,12 +481,11 @@ module _ (p : Plan) (s : State) where
         far l h x = not-so (holds f x l) (λ k. omega (arith, X .figures .known x l k))
 
     so-sound : soundTest p s ≡ true
-    unfolding soundTest
-    so-sound =
-        true-and _ (spareTest p s)
-        (true-and _ (every (lockTest p f w) (p .locks))
-        (true-and _ (every (taskTest p f w) n)
-        (true-and (obeys p) (headTest p f w) (so-obeys p (X .plan)) (so-head p f w (record {
+    unfolding soundTest Each
+    so-sound = so-all _ (
+      so-obeys p (X .plan),
+      (
+        so-head p f w (record {
           events = X .figures .events;
           eager = X .figures .eager;
           lazy = X .words .lazy;
@@ -483,10 +493,16 @@ module _ (p : Plan) (s : State) where
           runs = λ e. (inside (X .figures) (w .running) (X .words .runs e), X .words .runs e);
           user = X .words .user;
           next = X .words .next;
-        })))
-        (true-every (taskTest p f w) n (λ x h. so-task p f w x (so-tasks x h))))
-        (true-every (lockTest p f w) (p .locks) (λ l h. so-lock p f w l (X .words .owner l) (X .figures .limits l) (λ z. X .figures .closed l (unowned l z)))))
-        (so-spare p s so-spares)
+        }),
+        (
+          true-every (taskTest p f w) n (λ x h. so-task p f w x (so-tasks x h)),
+          (
+            true-every (lockTest p f w) (p .locks) (λ l h. so-lock p f w l (X .words .owner l) (X .figures .limits l) (λ z. X .figures .closed l (unowned l z))),
+            (so-spare p s so-spares, tt),
+          ),
+        ),
+      ),
+    )
 
 -- the test decides soundness
 pub sound-is : (p : Plan) (s : State) → (soundTest p s ≡ true) ↔ Sound p s

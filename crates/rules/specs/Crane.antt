@@ -4,7 +4,7 @@ use mathlib.Core.List.{List, [], _∷_}
 use Prim.Native.Nat.{ℕ, suc}
 use lib.Dec.{T, eqb}
 use lib.ListN.{length, replicate, take}
-use Rattle.rules.specs.Choice.{if_then_else_}
+use Rattle.rules.specs.Choice.{if_then_else_, allTrue}
 use Rattle.rules.specs.Place.{every, any, count, greatest, firstFrom, from, tabulate, renewed, zeros}
 use Rattle.rules.specs.Refusal.{numberOf, firstTrue, found, firstFault}
 use Rattle.rules.specs.Answer.{testedNumber, verdictNumber}
@@ -22,7 +22,7 @@ use Rattle.rules.specs.Move.{eagerCalls, charged, delayed, movedOf}
 use Rattle.rules.specs.Eager.{runningOf, settle, eagerTest, eagerStep}
 use Rattle.rules.specs.Lazy.{callsFor, runsOn, switched, waits, arrives, takes, gives, returns, wordsAfter, lazyCall}
 use Rattle.rules.specs.Sound.{distinct, keptOf, savedOf, ownerOf}
-use Rattle.rules.specs.SoundTest.{taskObeys, lockObeys, spareObeys, obeys, rowTest, numberTest, ownTest, taskTest, lockTest, headTest, spareTest, soundTest}
+use Rattle.rules.specs.SoundTest.{taskObeys, lockObeys, spareObeys, obeys, rowTest, ownTest, numberNew, numberTest, taskTest, lockTest, runsTest, headTest, spareTest, soundTest}
 use Rattle.rules.specs.Step.{afterOf, answered, actOf, stepOf}
 use Rattle.rules.specs.Run.{withRow, Ran, onward, runFrom}
 use Rattle.rules.specs.Replay.{replayAs, replayOf}
@@ -157,10 +157,10 @@ cases =
 
 table : T (all cases)
 unfolding crane book endOf rowOf rowsOf same sames agree right all cases
-    if_then_else_ every any count greatest firstFrom from renewed zeros numberOf firstTrue found firstFault testedNumber verdictNumber eventFault eventOf hasBit withBit
+    if_then_else_ allTrue every any count greatest firstFrom from renewed zeros numberOf firstTrue found firstFault testedNumber verdictNumber eventFault eventOf hasBit withBit
     most countFault taskFault lockFault declares users usersBase ceilingFault taskFaultAt lockFaultAt countFaultOf useFault masksOf planOf recordChecks loadChecks sizeOf bodyAt layoutFault contentsChecks eventChecks checkOf
     has priority saves holds priorityOf rankOf earlier earliest elected elsewhere notNewest pastLimit testsOf releaseOrder acquireOrder unlockOrder workOrder finishOrder refusalOf eagerCalls charged delayed movedOf runningOf settle eagerTest eagerStep
     callsFor runsOn switched waits arrives takes gives returns wordsAfter lazyCall keptOf savedOf ownerOf
-    taskObeys lockObeys spareObeys obeys rowTest numberTest ownTest taskTest lockTest headTest spareTest soundTest
+    taskObeys lockObeys spareObeys obeys rowTest ownTest numberNew numberTest taskTest lockTest runsTest headTest spareTest soundTest
     afterOf answered actOf stepOf withRow onward runFrom replayAs replayOf eagerAt lazyAt lowerAt lowerUser mayBlock limitIf longestLimit
 table = tt

@@ -12,6 +12,7 @@ pub mod Book
 pub mod State
 pub mod Row
 pub mod Figures
+pub mod Whole
 pub mod Elect
 pub mod Tests
 pub mod Move

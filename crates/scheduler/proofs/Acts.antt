@@ -28,7 +28,8 @@ use Rattle.rules.specs.declared.answer.Stepped.{Stepped}
 use Rattle.rules.specs.declared.refusal.Refusal.the-variants.{Exhausted}
 use Rattle.rules.proofs.Choice.{if-true, if-false}
 use Rattle.rules.proofs.Obeyed.{few-locks}
-use Rattle.scheduler.specs.Whole.{planWith, stateWith, steppedAs, refusedAs, tickedAs, answeredAs}
+use Rattle.rules.specs.Whole.{planWith, stateWith}
+use Rattle.scheduler.specs.Whole.{steppedAs, refusedAs, tickedAs, answeredAs}
 use Rattle.scheduler.specs.Along.{pastRow, Laden}
 use Rattle.scheduler.specs.Ready.{ReleaseReady, AcquireReady, UnlockReady, WorkReady, FinishReady}
 use Rattle.scheduler.specs.declared.acted.Acted.{Acted}

@@ -15,7 +15,8 @@ use Rattle.rules.specs.declared.event.Event.{Event}
 use Rattle.rules.specs.declared.answer.Tested.{Tested}
 use Rattle.rules.specs.declared.answer.Stepped.{Stepped}
 use Rattle.rules.specs.declared.refusal.Refusal.{Refusal}
-use Rattle.scheduler.specs.Whole.{planWith, stateWith, steppedAs, refusedAs, acceptedAs, answeredAs}
+use Rattle.rules.specs.Whole.{planWith, stateWith}
+use Rattle.scheduler.specs.Whole.{steppedAs, refusedAs, acceptedAs, answeredAs}
 use Rattle.scheduler.specs.Along.{pastRow, Laden}
 use Rattle.scheduler.specs.declared.acted.Acted.{Acted}
 

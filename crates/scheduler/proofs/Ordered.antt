@@ -17,7 +17,7 @@ use Rattle.rules.specs.Tests.{acquireOrder}
 use Rattle.rules.specs.declared.answer.Tested.{Tested}
 use Rattle.rules.specs.declared.refusal.Refusal.{Refusal}
 use Rattle.rules.specs.declared.refusal.Refusal.the-variants.{AlreadyOpen, OpenElsewhere, RowFull}
-use Rattle.rules.proofs.Choice.{if-true, if-false, flags}
+use Rattle.rules.proofs.Choice.{if-true, if-false, nots, flags}
 use Rattle.scheduler.specs.Along.{pastRow}
 
 pub true-here : (t : Bool) (why : Refusal) (ts : List (Bool × Refusal)) → t ≡ true → Tested.Refused why ≡ firstTrue ((t, why) ∷ ts)
@@ -32,14 +32,7 @@ pub true-none : Tested.Passed ≡ firstTrue []
 unfolding firstTrue
 true-none = refl
 
--- what a test's opposite says
-pub not-true : (t : Bool) → t ≡ true → not t ≡ false
-not-true t e = ap not e
-
-pub not-false : (t : Bool) → t ≡ false → not t ≡ true
-not-false t e = ap not e
-
-pub ruleset order = (true-here, true-later, true-none, not-true, not-false, flags)
+pub ruleset order = (true-here, true-later, true-none, nots, flags)
 
 -- ---- the newest of a row
 

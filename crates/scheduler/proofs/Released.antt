@@ -23,7 +23,8 @@ use Rattle.rules.specs.declared.answer.Stepped.{Stepped}
 use Rattle.rules.specs.declared.priority.KernelPriority.{KernelPriority}
 use Rattle.rules.proofs.Choice.{if-true, if-false}
 use Rattle.rules.proofs.Place.{greatest-set}
-use Rattle.scheduler.specs.Whole.{planWith, stateWith, steppedAs, acceptedAs, turned}
+use Rattle.rules.specs.Whole.{planWith, stateWith}
+use Rattle.scheduler.specs.Whole.{steppedAs, acceptedAs, turned}
 use Rattle.scheduler.specs.declared.switch.Turn.{Turn}
 
 module _ (n t : ℕ) (h : Head) (base released kept delay : List ℕ) (r : Bool) (said : r ≡ ltb (h .user .0) (at base t)) where

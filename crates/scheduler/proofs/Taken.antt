@@ -21,7 +21,8 @@ use Rattle.rules.specs.declared.answer.Answer.{Answer}
 use Rattle.rules.specs.declared.answer.Stepped.{Stepped}
 use Rattle.rules.specs.declared.priority.UserPriority.{UserPriority}
 use Rattle.rules.proofs.Choice.{if-true, if-false}
-use Rattle.scheduler.specs.Whole.{planWith, stateWith, steppedAs, acceptedAs, turned}
+use Rattle.rules.specs.Whole.{planWith, stateWith}
+use Rattle.scheduler.specs.Whole.{steppedAs, acceptedAs, turned}
 use Rattle.scheduler.specs.declared.switch.Turn.{Turn}
 
 -- the user word is saved and raised

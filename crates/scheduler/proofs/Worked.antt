@@ -28,7 +28,8 @@ use native.Mathlib.Decide.{ℕ-discrete}
 use Rattle.rules.proofs.Choice.{if-true, if-false, by-test, untrue, not-so, at-or, lt-or-le}
 use Rattle.rules.proofs.Place.{RenewedSoFar, renewed-next, renewed-rest, renewed-at, length-renewed}
 use Rattle.rules.proofs.Row.{has-none, has-suc, has-newest, has-under, distinct-under}
-use Rattle.scheduler.specs.Whole.{planWith, stateWith, steppedAs, acceptedAs}
+use Rattle.rules.specs.Whole.{planWith, stateWith}
+use Rattle.scheduler.specs.Whole.{steppedAs, acceptedAs}
 use Rattle.scheduler.proofs.Switched.{set-past}
 use Rattle.scheduler.specs.Along.{waitedBy, waited, chargedRow, Laden}
 

@@ -1,9 +1,9 @@
--- The plan, the state and the words of the arrays that the code lends. Assumes nothing.
+-- What the code answers beside the arrays that it lends. Assumes nothing.
 use mathlib.Core.Bool.{false}
 use mathlib.Core.List.{List}
 use Prim.Native.Nat.{ℕ, _+_}
 use Rattle.rules.specs.Capacity.{nobody}
-use Rattle.rules.specs.Figures.{Figures}
+use Rattle.rules.specs.Whole.{stateWith}
 use Rattle.rules.specs.Lazy.{Words, wordsOf, lazyCall}
 use Rattle.rules.specs.Step.{afterOf, answered}
 use Rattle.rules.specs.declared.plan.Plan.{Plan}
@@ -16,35 +16,6 @@ use Rattle.rules.specs.declared.answer.Answer.{Answer}
 use Rattle.rules.specs.declared.answer.Stepped.{Stepped}
 use Rattle.scheduler.specs.declared.acted.Acted.{Acted}
 use Rattle.scheduler.specs.declared.switch.Turn.{Turn}
-
-abbrev pub planWith : ℕ → ℕ → List ℕ → List ℕ → List ℕ → List ℕ → Plan
-planWith n m base ceiling limit uses = record { tasks = n; locks = m; base = base; ceiling = ceiling; limit = limit; uses = uses }
-
-abbrev pub stateWith : Head → List ℕ → List ℕ → List ℕ → List ℕ → List ℕ → List ℕ → List ℕ → List ℕ → State
-stateWith h released kept delay held locks saved units owner =
-    record {
-      head = h;
-      released = released;
-      kept = kept;
-      delay = delay;
-      held = held;
-      locks = locks;
-      saved = saved;
-      units = units;
-      owner = owner;
-    }
-
-abbrev pub figuresWith : Head → List ℕ → List ℕ → List ℕ → List ℕ → List ℕ → Figures
-figuresWith h released delay held locks units =
-    record {
-      accepted = h .accepted;
-      calls = h .eager;
-      released = released;
-      delay = delay;
-      held = held;
-      locks = locks;
-      units = units;
-    }
 
 -- an answer and a head beside the arrays
 abbrev pub steppedAs : Acted → List ℕ → List ℕ → List ℕ → List ℕ → List ℕ → List ℕ → List ℕ → List ℕ → Stepped

@@ -19,9 +19,10 @@ ghost use Rattle.rules.specs.Capacity.{maxAccepted, maxLocks, maxOpen, maxTasks
 ghost use Rattle.rules.specs.Place.{at};
 ghost use Rattle.rules.specs.Refusal.{firstTrue};
 ghost use Rattle.rules.specs.Mask.{hasBit};
+ghost use Rattle.rules.specs.Whole.{planWith, stateWith};
 ghost use Rattle.rules.specs.Tests.{acquireOrder};
 ghost use Rattle.rules.specs.declared.event.Event.{Event};
-ghost use Rattle.scheduler.specs.Whole.{acceptedAs, answeredAs, planWith, stateWith, steppedAs};
+ghost use Rattle.scheduler.specs.Whole.{acceptedAs, answeredAs, steppedAs};
 ghost use Rattle.scheduler.specs.Ready.{AcquireReady};
 
 // The running task saves the user word, raises it to the ceiling, and has lock l open.

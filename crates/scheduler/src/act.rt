@@ -18,9 +18,10 @@ ghost use mathlib.Core.Path.{_≡_};
 ghost use Prim.Native.Nat.{_<_};
 ghost use lib.ListN.{length};
 ghost use Rattle.rules.specs.Capacity.{maxAccepted, maxLocks};
+ghost use Rattle.rules.specs.Whole.{planWith, stateWith};
 ghost use Rattle.rules.specs.Sound.{Steady};
 ghost use Rattle.rules.specs.Step.{actOf};
-ghost use Rattle.scheduler.specs.Whole.{planWith, stateWith, steppedAs, tickedAs};
+ghost use Rattle.scheduler.specs.Whole.{steppedAs, tickedAs};
 
 // Tick changes nothing but the event number.
 fn tick(h: Head) -> Acted

@@ -15,9 +15,10 @@ ghost use lib.ListN.{length};
 ghost use Rattle.rules.specs.Capacity.{maxAccepted, maxTasks};
 ghost use Rattle.rules.specs.Place.{at};
 ghost use Rattle.rules.specs.Refusal.{firstTrue};
+ghost use Rattle.rules.specs.Whole.{planWith, stateWith};
 ghost use Rattle.rules.specs.Tests.{finishOrder};
 ghost use Rattle.rules.specs.declared.event.Event.{Event};
-ghost use Rattle.scheduler.specs.Whole.{acceptedAs, answeredAs, planWith, stateWith, steppedAs};
+ghost use Rattle.scheduler.specs.Whole.{acceptedAs, answeredAs, steppedAs};
 ghost use Rattle.scheduler.specs.Ready.{FinishReady};
 
 // The kernel switches, and keeps no priority for the finished task, whose figures are cleared.

@@ -19,9 +19,10 @@ ghost use lib.ListN.{length};
 ghost use Rattle.rules.specs.Capacity.{maxAccepted, maxTasks};
 ghost use Rattle.rules.specs.Place.{at, greatest};
 ghost use Rattle.rules.specs.Refusal.{firstTrue};
+ghost use Rattle.rules.specs.Whole.{planWith, stateWith};
 ghost use Rattle.rules.specs.Tests.{releaseOrder};
 ghost use Rattle.rules.specs.declared.event.Event.{Event};
-ghost use Rattle.scheduler.specs.Whole.{acceptedAs, answeredAs, planWith, stateWith, steppedAs};
+ghost use Rattle.scheduler.specs.Whole.{acceptedAs, answeredAs, steppedAs};
 ghost use Rattle.scheduler.specs.Ready.{ReleaseReady};
 
 // The newcomer t has a release number, no delay, and its base kept. The kernel switches only where

@@ -22,9 +22,10 @@ ghost use Rattle.rules.specs.Capacity.{maxAccepted, maxLocks, maxTasks};
 ghost use Rattle.rules.specs.Place.{at};
 ghost use Rattle.rules.specs.Refusal.{firstTrue};
 ghost use Rattle.rules.specs.Row.{newest};
+ghost use Rattle.rules.specs.Whole.{planWith, stateWith};
 ghost use Rattle.rules.specs.Tests.{unlockOrder};
 ghost use Rattle.rules.specs.declared.event.Event.{Event};
-ghost use Rattle.scheduler.specs.Whole.{acceptedAs, answeredAs, planWith, stateWith, steppedAs};
+ghost use Rattle.scheduler.specs.Whole.{acceptedAs, answeredAs, steppedAs};
 ghost use Rattle.scheduler.specs.Ready.{UnlockReady};
 
 // Lock l, the running task's newest, is closed, and the saved word is back. If it is strictly below

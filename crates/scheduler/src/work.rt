@@ -18,9 +18,10 @@ ghost use lib.ListN.{length, set};
 ghost use Rattle.rules.specs.Capacity.{maxAccepted, maxDelay, maxLocks, maxTasks};
 ghost use Rattle.rules.specs.Place.{at, renewed};
 ghost use Rattle.rules.specs.Refusal.{firstTrue};
+ghost use Rattle.rules.specs.Whole.{planWith, stateWith};
 ghost use Rattle.rules.specs.Tests.{workOrder};
 ghost use Rattle.rules.specs.declared.event.Event.{Event};
-ghost use Rattle.scheduler.specs.Whole.{acceptedAs, answeredAs, planWith, stateWith, steppedAs};
+ghost use Rattle.scheduler.specs.Whole.{acceptedAs, answeredAs, steppedAs};
 ghost use Rattle.scheduler.specs.Along.{Laden, chargedRow, pastRow, waited, waitedBy};
 ghost use Rattle.scheduler.specs.Ready.{WorkReady};
 

@@ -13,9 +13,8 @@ use Rattle.rules.specs.Bound.{lowerAt, lowerUser, mayBlock, limitIf, longestLim
 use Rattle.rules.specs.declared.plan.Plan.{Plan}
 use Rattle.rules.proofs.Choice.{either}
 use Rattle.rules.proofs.Mask.{bit-none}
-use Rattle.rules.proofs.Place.{NoneSoFar, GreatestSoFar, any-clamped, greatest-clamped, any-found, any-ends, greatest-ends}
+use Rattle.rules.proofs.Place.{NoneSoFar, GreatestSoFar, any-clamped, greatest-clamped, any-found, any-ends, greatest-ends, none-past}
 use borrow.Author.Tests.{le-leb, lt-leb}
-use Rattle.plan.proofs.Ways.{none-past}
 
 low-past : (p : Plan) (b l x : ℕ) → length (p .uses) ≤ x → lowerAt p b l x ≡ false
 unfolding lowerAt declares

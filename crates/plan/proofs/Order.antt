@@ -15,11 +15,10 @@ use Rattle.rules.specs.declared.answer.Verdict.{Verdict}
 use Rattle.rules.specs.declared.answer.Loaded.{Loaded}
 use Rattle.rules.specs.declared.refusal.Refusal.{Refusal}
 use Rattle.rules.specs.declared.refusal.Refusal.the-variants.{WrongCount, WrongTask, WrongLock, WrongUse, WrongCeiling}
-use Rattle.rules.proofs.Place.{renewed-table}
+use Rattle.rules.proofs.Place.{renewed-table, none-past}
 use Rattle.rules.proofs.Checks.{AllClean, clean, check-left, check-right, check-none, check-finds, check-passes}
 use Rattle.rules.proofs.Loaded.{tasks-fit, locks-fit, use-known}
 use Rattle.plan.specs.Placed.{Placed}
-use Rattle.plan.proofs.Ways.{none-past}
 
 -- ---- the tables of the plan
 

@@ -83,12 +83,6 @@ pub count-said : (n m u e c : ℕ) (r : Bool) → c ≡ (if eqb e 0 then n else 
 unfolding countFaultOf
 count-said n m u e c r g h = rw (← g) h
 
--- an array of n places has nothing past them
-pub none-past : (xs : List ℕ) (n i : ℕ) → length xs ≡ n → n ≤ i → 0 ≡ at xs i
-none-past [] n i e h = refl
-none-past (x ∷ xs) n zero e h = absurd (omega arith)
-none-past (x ∷ xs) n (suc i) e h = none-past xs (length xs) i refl (omega arith)
-
 -- 7
 module _ (p : Plan) (l u c g : ℕ) (counted : u ≡ users p l) where
   pub ceiling-none : u ≡ 0 → true ≡ ceilingFault p l

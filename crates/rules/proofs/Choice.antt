@@ -20,6 +20,13 @@ pub if-false : {A : Type 0} (t : Bool) (a b : A) → t ≡ false → (if t then 
 unfolding if_then_else_
 if-false t a b e = rw e
 
+-- what the code answers is what the test chooses
+pub if-yes : {A : Type 0} (t : Bool) (a b r : A) → t ≡ true → r ≡ a → r ≡ (if t then a else b)
+if-yes t a b r e h = h ∙ sym (if-true t a b e)
+
+pub if-no : {A : Type 0} (t : Bool) (a b r : A) → t ≡ false → r ≡ b → r ≡ (if t then a else b)
+if-no t a b r e h = h ∙ sym (if-false t a b e)
+
 -- a proof by cases on a test
 pub by-test : {P : Type 0} (t : Bool) → (t ≡ true → P) → (t ≡ false → P) → P
 by-test true f g = f refl
@@ -138,6 +145,8 @@ all-done = refl
 pub ruleset tests = (lt-ltb, le-ltb, le-leb, lt-leb, eq-eqb, ne-eqb, if-true, if-false)
 
 pub ruleset alls = (all-fails, all-next, all-last, all-done)
+
+pub ruleset picks = (if-yes, if-no)
 
 -- of a test's opposite
 pub ruleset nots = (not-of-true, not-of-false)

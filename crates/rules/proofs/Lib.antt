@@ -23,3 +23,9 @@ pub mod Late
 pub mod OneEvent
 pub mod Jobs
 pub mod WorstCase
+pub mod RowBytes
+pub mod OneStep
+pub mod Running
+pub mod WithEvents
+pub mod WorstRun
+pub mod Replayed

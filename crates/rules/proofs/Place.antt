@@ -385,3 +385,9 @@ renewed-front xs f n h = ext-getD 0 (take n (renewed xs f n)) (tabulate n f)
   where
     long : length (take n (renewed xs f n)) ≡ n
     long = length-take-le n (renewed xs f n) (omega (arith, length-renewed xs f n))
+
+-- past the end of a table there is 0
+pub none-past : (xs : List ℕ) (n i : ℕ) → length xs ≡ n → n ≤ i → 0 ≡ at xs i
+none-past [] n i e h = refl
+none-past (x ∷ xs) n zero e h = absurd (omega arith)
+none-past (x ∷ xs) n (suc i) e h = none-past xs (length xs) i refl (omega arith)

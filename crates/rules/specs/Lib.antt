@@ -29,3 +29,4 @@ pub mod Crane
 pub mod Job
 pub mod Demand2
 pub mod Demand3
+pub mod Replayed

@@ -44,9 +44,6 @@ older-some k row l x n e = rw (ne-eqb k 0 n, e)
 
 -- ---- along the row
 
-pub none-past : (xs : List ℕ) (l : ℕ) → length xs ≡ maxLocks → maxLocks ≤ l → 0 ≡ at xs l
-none-past xs l e h = sym (List·getD-eq-default xs 0 (omega arith))
-
 module _ (limit units : List ℕ) (a row k : ℕ) where
   abbrev pub WithinSoFar : ℕ → ℕ → Type 0
   WithinSoFar left c = pastRow limit units a left c ≡ pastRow limit units a row k

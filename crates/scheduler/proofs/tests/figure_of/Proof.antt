@@ -1,5 +1,5 @@
 -- `scheduler::tests::figure_of` meets its contract. Past the last place there is 0. Assumes nothing.
-use Rattle.scheduler.proofs.Ordered.{none-past}
+use Rattle.rules.proofs.Place.{none-past}
 use borrow.Author.Needs.{needs}
 use Rattle.scheduler.proofs.tests.figure_of.Statement.{statement}
 use Rattle.scheduler.proofs.tests.figure_of.Tie as tie

@@ -1,0 +1,4 @@
+-- The ways through the test of soundness.
+mod Rows
+mod Holders
+mod Parts

@@ -1,0 +1,11 @@
+-- `sound::lock::owner_after` meets its contract. The test is the definition's. Assumes nothing.
+use Rattle.rules.proofs.Choice.{flags}
+use borrow.Author.Needs.{needs}
+use Rattle.sound.proofs.lock.owner_after.Statement.{statement}
+use Rattle.sound.proofs.lock.owner_after.Tie as tie
+
+pub owner-after-spec : {M : Type 1} → statement M
+owner-after-spec =
+    tie.close
+    (tie.spec
+    (λ c. search needs) (λ c. search flags) (λ c. search flags))

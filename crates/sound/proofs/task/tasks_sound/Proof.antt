@@ -1,0 +1,23 @@
+-- `sound::task::tasks_sound` meets its contract. Each turn passes one task by. Assumes nothing.
+use Prim.Native.Nat.{_-_}
+use Rattle.rules.proofs.Place.{AllSoFar, every-start, every-next, every-fails, every-ends}
+use Rattle.rules.proofs.Choice.{flags}
+use Rattle.rules.specs.Figures.{figuresOf}
+use Rattle.rules.specs.Lazy.{wordsOf}
+use Rattle.rules.specs.SoundTest.{taskTest}
+use borrow.Author.Needs.{needs}
+use Rattle.sound.proofs.task.tasks_sound.Statement.{statement}
+use Rattle.sound.proofs.task.tasks_sound.Tie as tie
+
+abbrev Inv-loop : tie.InvT-loop
+Inv-loop p s n x₀ x = AllSoFar (taskTest p (figuresOf s) (wordsOf s)) n x
+
+abbrev μ-loop : tie.MeasureT-loop
+μ-loop p s n x₀ x = n - x
+
+pub tasks-sound-spec : {M : Type 1} → statement M
+tasks-sound-spec =
+    tie.close
+    (tie.spec
+    Inv-loop μ-loop (λ c. search every-start) (λ c κs. search needs) (λ c. search (every-fails, flags))
+    (λ c. search needs) (λ c. search needs) (λ c. search (every-next, flags)) (λ c. search every-ends))

@@ -1,0 +1,2 @@
+-- What the code of this crate tells its own callers.
+pub mod Placed

@@ -8,3 +8,4 @@ mod Quick
 mod Readied
 mod Answers
 mod Acts
+mod Stepped

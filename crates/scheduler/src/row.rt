@@ -1,17 +1,12 @@
 // A task's row, newest first: a number in base 256, with room for eight.
 use rules::capacity::MAX_TASKS;
+use sound::row::newest_of;
 ghost use mathlib.Core.Path.{_≡_};
 ghost use Prim.Native.Nat.{_^_, _<_};
 ghost use lib.ListN.{set};
 ghost use Rattle.rules.specs.Capacity.{maxTasks};
 ghost use Rattle.rules.specs.Place.{at};
 ghost use Rattle.rules.specs.Row.{newest, pushed, under};
-
-pub fn newest_of(row: u64) -> u8
-    ensures { λ r. ⌜ r ≡ newest row ⌝ }
-{
-    (row % 256) as u8
-}
 
 pub fn push(rows: &mut [u64; MAX_TASKS], r: usize, x: u8)
     requires { ⌜ (r < maxTasks) × (at (now rows) r < 256 ^ 7) ⌝ }

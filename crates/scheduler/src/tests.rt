@@ -1,5 +1,5 @@
 // The tests of each event, in document 01's order.
-use crate::row::newest_of;
+use sound::row::newest_of;
 use plan::mask::has_bit;
 use rules::answer::Tested;
 use rules::capacity::MAX_LOCKS;

@@ -1,7 +1,7 @@
 // Work.
 use crate::acted::Acted;
 use crate::acted::refused;
-use crate::row::newest_of;
+use sound::row::newest_of;
 use crate::tests::work_test;
 use rules::answer::Answer;
 use rules::answer::Tested;

@@ -1,0 +1,4 @@
+-- The laws behind the proofs of this crate.
+mod Typed
+mod Numbers
+mod Printed

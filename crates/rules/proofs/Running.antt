@@ -22,6 +22,7 @@ use Rattle.rules.specs.History.{eventAt, eagerAt, lazyAt, runnerAt, acce
 use Rattle.rules.specs.Demand2.{Demand2}
 use Rattle.rules.specs.Replayed.{RowAt, RanUpTo}
 use Rattle.rules.specs.declared.plan.Plan.{Plan}
+use Rattle.rules.specs.declared.state.Head.{Head}
 use Rattle.rules.specs.declared.state.State.{State}
 use Rattle.rules.specs.declared.answer.Answer.{Answer}
 use Rattle.rules.specs.declared.answer.Verdict.{Verdict}
@@ -70,12 +71,12 @@ module _ {p : Plan} (O : Obeys p) (es : List Event) (rows : List ℕ) (room : le
         let (z, c) = step-call (F .steady) (eventAt es k) call said in
         ap (λ c. if c then 1 else 0) c ∙ step-due (F .steady) (rw (F .figures) (F .ruled)) (rw (F .figures) (F .running)) (eventAt es k) z ∙ ap (λ f. callsDue p f (eventAt es k)) (F .figures)
 
-    row-here : (xs : List ℕ) → length xs ≡ length rows → let ys = withRow xs k (lazyAt p es (suc k)) call in RowAt p es k (at ys (k * 4)) (at ys (k * 4 + 1)) (at ys (k * 4 + 2)) (at ys (k * 4 + 3))
+    row-here : (xs : List ℕ) → length xs ≡ length rows → let ys = withRow xs k (lazyAt p es (suc k) .head) call in RowAt p es k (at ys (k * 4)) (at ys (k * 4 + 1)) (at ys (k * 4 + 2)) (at ys (k * 4 + 3))
     row-here xs z =
-        let s : State = lazyAt p es (suc k) in
+        let w : Head = lazyAt p es (suc k) .head in
         let D : Demand2 p es (suc k) = demand2 O es (suc k) in
         let fits : k * 4 + 4 ≤ length xs = omega arith in
-        rw (row-running xs k s call fits, row-user xs k s call fits, row-next xs k s call fits, row-call xs k s call fits) (record {
+        rw (row-running xs k w call fits, row-user xs k w call fits, row-next xs k w call fits, row-call xs k w call fits) (record {
           runs = D .running;
           foremost = rw (D .running) (D .foremost);
           idle = rw (D .running) (D .idle);
@@ -87,17 +88,17 @@ module _ {p : Plan} (O : Obeys p) (es : List Event) (rows : List ℕ) (room : le
           acquire = λ l e. sym calls-here ∙ demand2 O es k .acquire l e;
         })
 
-    further : (xs : List ℕ) → SoFar p es rows k xs → SoFar p es rows (suc k) (withRow xs k (lazyAt p es (suc k)) call)
+    further : (xs : List ℕ) → SoFar p es rows k xs → SoFar p es rows (suc k) (withRow xs k (lazyAt p es (suc k) .head) call)
     further xs S =
-        let other : (i : ℕ) → (k * 4 ≤ i → i < k * 4 + 4 → ⊥) → at (withRow xs k (lazyAt p es (suc k)) call) i ≡ at xs i = row-other xs k (lazyAt p es (suc k)) call in
-        let ys : List ℕ = withRow xs k (lazyAt p es (suc k)) call in
+        let other : (i : ℕ) → (k * 4 ≤ i → i < k * 4 + 4 → ⊥) → at (withRow xs k (lazyAt p es (suc k) .head) call) i ≡ at xs i = row-other xs k (lazyAt p es (suc k) .head) call in
+        let ys : List ℕ = withRow xs k (lazyAt p es (suc k) .head) call in
         record {
           accepted = below (λ j. acceptedAt p es j ≡ true) k (S .accepted) accepted-here;
           written = below (λ j. RowAt p es j (at ys (j * 4)) (at ys (j * 4 + 1)) (at ys (j * 4 + 2)) (at ys (j * 4 + 3))) k
               (λ j q. rw (other (j * 4) (λ u v. omega arith), other (j * 4 + 1) (λ u v. omega arith), other (j * 4 + 2) (λ u v. omega arith), other (j * 4 + 3) (λ u v. omega arith)) (S .written j q))
               (row-here xs (S .size));
           stay = λ i q. other i (λ u v. omega arith) ∙ S .stay i (omega arith);
-          size = row-length xs k (lazyAt p es (suc k)) call ∙ S .size;
+          size = row-length xs k (lazyAt p es (suc k) .head) call ∙ S .size;
         }
 
   -- the event at place k, where `rest` runs after it
@@ -109,7 +110,7 @@ module _ {p : Plan} (O : Obeys p) (es : List Event) (rows : List ℕ) (room : le
     where
       go : (answer : Answer) → stepOf p (lazyAt p es k) (eventAt es k) .answer ≡ answer
           → (a : ℕ) × Ends p es rows (onward answer (stepOf p (lazyAt p es k) (eventAt es k) .state) k xs (runFrom p rest (suc k))) a
-      go (Answer.Accepted call) e = on (withRow xs k (lazyAt p es (suc k)) call) (further k h call e xs S)
+      go (Answer.Accepted call) e = on (withRow xs k (lazyAt p es (suc k) .head) call) (further k h call e xs S)
       go (Answer.Refused why) e = (
         k,
         record {

@@ -8,6 +8,7 @@ use Rattle.rules.specs.Run.{Ran, runFrom}
 use Rattle.rules.specs.declared.plan.Plan.{Plan}
 use Rattle.rules.specs.declared.event.Event.{Event}
 use Rattle.rules.specs.declared.answer.Verdict.{Verdict}
+use Rattle.rules.specs.declared.answer.Replayed.{Replayed}
 
 -- what a refusal of 1 to 9 leaves: no state but the fresh one, and the rows as they were
 unfoldable pub replayAs : Verdict → Plan → List Event → List ℕ → Ran
@@ -16,3 +17,7 @@ replayAs (Verdict.Refused why place) p es rows = record { verdict = Verdict.Refu
 
 unfoldable pub replayOf : List ℕ → List ℕ → Ran
 replayOf b rows = replayAs (checkOf b (length rows)) (planIn b) (eventsOf b) rows
+
+-- what the code answers beside the row bytes: how far the run has come, by the plan that was loaded
+abbrev pub ranAs : Replayed → List ℕ → Ran
+ranAs r rows = record { verdict = r .verdict; state = r .state; rows = rows }

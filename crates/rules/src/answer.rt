@@ -50,3 +50,11 @@ pub struct Stepped {
     pub answer: Answer,
     pub state: State,
 }
+
+// What the replay of a book comes to: what was refused, the plan that was loaded, and the state where
+// the run stopped; the blank plan and a fresh state where the book itself is refused.
+pub struct Replayed {
+    pub verdict: Verdict,
+    pub plan: Plan,
+    pub state: State,
+}

@@ -9,3 +9,4 @@ mod Readied
 mod Answers
 mod Acts
 mod Stepped
+mod Turned

@@ -2,3 +2,4 @@
 pub mod Whole
 pub mod Along
 pub mod Ready
+pub mod Going

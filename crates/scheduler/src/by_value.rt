@@ -110,7 +110,21 @@ pub fn step_sound(p: Plan, s: State, e: Event) -> Stepped
     let units = s.units;
     let owner = s.owner;
     acted_on(
-        head, p.tasks, p.locks, base, ceiling, limit, uses, released, kept, delay, held, locks, saved,
-        units, owner, e,
+        head,
+        p.tasks,
+        p.locks,
+        base,
+        ceiling,
+        limit,
+        uses,
+        released,
+        kept,
+        delay,
+        held,
+        locks,
+        saved,
+        units,
+        owner,
+        e,
     )
 }

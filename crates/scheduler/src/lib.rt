@@ -6,9 +6,10 @@ mod by_value;
 mod finish;
 mod release;
 mod row;
-
+mod run;
 mod switch;
 mod tests;
+mod turn;
 mod unlock;
 mod words;
 mod work;

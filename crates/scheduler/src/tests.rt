@@ -1,11 +1,11 @@
 // The tests of each event, in document 01's order.
-use sound::row::newest_of;
 use plan::mask::has_bit;
 use rules::answer::Tested;
 use rules::capacity::MAX_LOCKS;
 use rules::capacity::MAX_OPEN;
 use rules::capacity::MAX_TASKS;
 use rules::refusal::Refusal;
+use sound::row::newest_of;
 ghost use mathlib.Core.Path.{_≡_};
 ghost use mathlib.Core.Bool.{_||_, not};
 ghost use Prim.Native.Nat.{_+_, _≤_, _<_};

@@ -1,7 +1,6 @@
 // Work.
 use crate::acted::Acted;
 use crate::acted::refused;
-use sound::row::newest_of;
 use crate::tests::work_test;
 use rules::answer::Answer;
 use rules::answer::Tested;
@@ -9,6 +8,7 @@ use rules::capacity::MAX_DELAY;
 use rules::capacity::MAX_LOCKS;
 use rules::capacity::MAX_TASKS;
 use rules::state::Head;
+use sound::row::newest_of;
 ghost use mathlib.Core.Path.{_≡_};
 ghost use mathlib.Core.Bool.{false};
 ghost use mathlib.Core.List.{List};

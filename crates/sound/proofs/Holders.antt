@@ -57,4 +57,3 @@ module _ (p : Plan) (f : Figures) (x n r : ℕ) (said : n ≡ at (f .released) x
   pub rank-no : n ≤ 0 → 0 ≡ rankOf p f x
   unfolding rankOf
   rank-no h = rw (← said) (if-no (ltb 0 n) (priorityOf p f x) 0 0 (le-ltb 0 n h) refl)
-

@@ -77,18 +77,16 @@ fn running_rank(p: Plan, s: State) -> KernelPriority
 
 // The counts are in range, the running task is one that may run, and both words are what they must be.
 fn head_fits(h: Head, runs: bool, user: KernelPriority, next: KernelPriority) -> bool
-    ensures {
-        λ r. ⌜
-            r ≡ allTrue
-                (leb (h .accepted) maxAccepted
-                ∷ leb (h .eager) (h .accepted)
-                ∷ leb (h .lazy) (h .accepted)
-                ∷ runs
-                ∷ eqb (h .user .0) (user .0)
-                ∷ eqb (h .next .0) (next .0)
-                ∷ [])
-        ⌝
-    }
+    ensures { λ r. ⌜
+        r ≡ allTrue
+        (leb (h .accepted) maxAccepted
+        ∷ leb (h .eager) (h .accepted)
+        ∷ leb (h .lazy) (h .accepted)
+        ∷ runs
+        ∷ eqb (h .user .0) (user .0)
+        ∷ eqb (h .next .0) (next .0)
+        ∷ [])
+        ⌝ }
 {
     all_six(
         h.accepted <= MAX_ACCEPTED,

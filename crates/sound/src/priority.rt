@@ -33,7 +33,12 @@ fn greater(a: u8, b: u8) -> u8
 }
 
 // "The greater of the newest ceiling and the priority under it, down to the base."
-pub fn row_priority(base: KernelPriority, ceiling: &[u8; MAX_LOCKS], row: u64, k: u8) -> KernelPriority
+pub fn row_priority(
+    base: KernelPriority,
+    ceiling: &[u8; MAX_LOCKS],
+    row: u64,
+    k: u8,
+) -> KernelPriority
     requires { ⌜ length (now ceiling) ≡ maxLocks ⌝ }
     ensures { λ r. ⌜ r .0 ≡ priority (at (now (ceiling .entry))) (base .0) row k ⌝ }
 {

@@ -1,9 +1,9 @@
 // Whether the places past the last task and the last lock hold 0.
 use crate::all::all_eight;
+use plan::spare::spare8;
 use plan::spare::spare16;
 use plan::spare::spare32;
 use plan::spare::spare64;
-use plan::spare::spare8;
 use rules::capacity::MAX_LOCKS;
 use rules::capacity::MAX_TASKS;
 use rules::plan::Plan;

@@ -9,16 +9,15 @@ acted-on-spec =
     tie.close
     (tie.spec
     (λ c κs.
-    let g = c .before .before .before .before .before .before .before .before .before .before .before .before .good in
-    (
+    let g = c .before .before .before .before .before .before .before .before .before .before .before .before .good in (
       tested-steady _ _ (search needs)
-      (search (needs, g .1 .1 .1 .1 .1 .1 .1 .0))
-      (search (needs, g .1 .1 .1 .1 .1 .1 .1 .1 .0))
-      (search (needs, g .1 .1 .1 .1 .1 .1 .1 .1 .1 .0))
-      (search (needs, g .1 .1 .1 .1 .1 .1 .1 .1 .1 .1 .0))
-      (search (needs, g .1 .1 .1 .1 .1 .1 .1 .1 .1 .1 .1 .0))
-      (search (needs, g .1 .1 .1 .1 .1 .1 .1 .1 .1 .1 .1 .1 .0))
-      (search (needs, g .1 .1 .1 .1 .1 .1 .1 .1 .1 .1 .1 .1 .1 .0))
-      (search (needs, g .1 .1 .1 .1 .1 .1 .1 .1 .1 .1 .1 .1 .1 .1 .0)),
+          (search (needs, g .1 .1 .1 .1 .1 .1 .1 .0))
+          (search (needs, g .1 .1 .1 .1 .1 .1 .1 .1 .0))
+          (search (needs, g .1 .1 .1 .1 .1 .1 .1 .1 .1 .0))
+          (search (needs, g .1 .1 .1 .1 .1 .1 .1 .1 .1 .1 .0))
+          (search (needs, g .1 .1 .1 .1 .1 .1 .1 .1 .1 .1 .1 .0))
+          (search (needs, g .1 .1 .1 .1 .1 .1 .1 .1 .1 .1 .1 .1 .0))
+          (search (needs, g .1 .1 .1 .1 .1 .1 .1 .1 .1 .1 .1 .1 .1 .0))
+          (search (needs, g .1 .1 .1 .1 .1 .1 .1 .1 .1 .1 .1 .1 .1 .1 .0)),
       search (needs, g .1 .1 .1 .1 .1 .0),
     )) (λ c. search needs))

@@ -10,3 +10,4 @@ mod Answers
 mod Acts
 mod Stepped
 mod Turned
+mod Booked

@@ -4,6 +4,7 @@ use mathlib.Core.List.{List}
 use Prim.Native.Nat.{ℕ, _+_}
 use Rattle.rules.specs.Capacity.{nobody}
 use Rattle.rules.specs.Whole.{stateWith}
+use Rattle.rules.specs.State.{freshOf}
 use Rattle.rules.specs.Lazy.{Words, wordsOf, lazyCall}
 use Rattle.rules.specs.Step.{afterOf, answered}
 use Rattle.rules.specs.declared.plan.Plan.{Plan}
@@ -14,6 +15,8 @@ use Rattle.rules.specs.declared.refusal.Refusal.{Refusal}
 use Rattle.rules.specs.declared.answer.Tested.{Tested}
 use Rattle.rules.specs.declared.answer.Answer.{Answer}
 use Rattle.rules.specs.declared.answer.Stepped.{Stepped}
+use Rattle.rules.specs.declared.answer.Verdict.{Verdict}
+use Rattle.rules.specs.declared.answer.Replayed.{Replayed}
 use Rattle.scheduler.specs.declared.acted.Acted.{Acted}
 use Rattle.scheduler.specs.declared.switch.Turn.{Turn}
 
@@ -47,3 +50,7 @@ turned t kept w = record { running = t .running; user = t .user .0; next = t .ne
 
 abbrev pub idleTurn : Turn
 idleTurn = record { running = nobody; user = record { 0 = 0 }; next = record { 0 = 0 } }
+
+-- what a refusal of 1 to 9 leaves: no state but a fresh one
+abbrev pub untouchedAs : Refusal → ℕ → Plan → Replayed
+untouchedAs why place p = record { verdict = Verdict.Refused why place; plan = p; state = freshOf }

@@ -14,14 +14,22 @@ mod unlock;
 mod words;
 mod work;
 
+use book::check;
+use rules::answer::Replayed;
 use rules::answer::Stepped;
+use rules::answer::Verdict;
 use rules::event::Event;
 use rules::plan::Plan;
 use rules::refusal::Refusal;
 use rules::state::State;
+use rules::state::fresh;
 use sound::sound;
 ghost use mathlib.Core.Path.{_≡_};
+ghost use lib.ListN.{length};
+ghost use Rattle.rules.specs.Book.{checkedOf};
+ghost use Rattle.rules.specs.Replay.{ranAs, replayOf};
 ghost use Rattle.rules.specs.Step.{stepOf};
+ghost use Rattle.scheduler.specs.Whole.{untouchedAs};
 
 // Any plan, any state, any event: 10, or the answer of 11 to 22 or of an accepted event, and the
 // state after it, which is the given one where the event is refused.
@@ -32,4 +40,34 @@ pub fn step(p: Plan, s: State, e: Event) -> Stepped
         return by_value::refused_with(s, Refusal::Unsound);
     }
     by_value::step_sound(p, s, e)
+}
+
+// What a refusal of 1 to 9 leaves: no state but a fresh one.
+fn untouched(why: Refusal, place: usize, plan: Plan) -> Replayed
+    ensures { λ r. ⌜ r ≡ untouchedAs why place plan ⌝ }
+{
+    let state = fresh();
+    Replayed {
+        verdict: Verdict::Refused(why, place),
+        plan: plan,
+        state: state,
+    }
+}
+
+// The replay of a book: 1 to 9 first, leaving the rows untouched; then its events until the first
+// refusal, with four row bytes for each accepted one. All other row bytes stay.
+pub fn replay(book: &[u8], rows: &mut [u8]) -> Replayed
+    ensures { λ r. ⌜ (ranAs r (now (rows .exit)) ≡ replayOf (now (book .entry)) (now (rows .entry))) × (r .plan ≡ checkedOf (now (book .entry)) (length (now (rows .entry))) .plan) ⌝ }
+{
+    let checked = check(book, rows.len());
+    let verdict = checked.verdict;
+    let plan = checked.plan;
+    let events = checked.events;
+    match verdict {
+        Verdict::Refused(why, place) => untouched(why, place, plan),
+        Verdict::Passed => {
+            let body = &book[events..];
+            run::run(plan, body, body.len() / 4, rows)
+        }
+    }
 }

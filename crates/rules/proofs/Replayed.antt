@@ -25,18 +25,23 @@ use Rattle.rules.proofs.WithEvents.{withEvents, plan-same, events-same,
 use Rattle.rules.proofs.Running.{ran-up-to}
 use Rattle.rules.proofs.WorstRun.{worst-few, worst-recorded, worst-reaches}
 
+-- a book that passes: its plan obeys the rules, and no event of it is refused by 8 or 9
+module _ (b : List ℕ) (room : ℕ) (passed : checkOf b room ≡ Verdict.Passed) where
+  passed-parts : AllClean (loadChecks (tasksOf b) (locksOf b) (usesOf b)) × AllClean (eventChecks b room)
+  unfolding checkOf
+  passed-parts = clean-left (loadChecks (tasksOf b) (locksOf b) (usesOf b)) (eventChecks b room) (clean-left (contentsChecks b) _ (clean _ passed) .1)
+
+  pub passed-obeys : Obeys (planIn b)
+  passed-obeys = loaded-obeys (tasksOf b) (locksOf b) (usesOf b) (passed-parts .0)
+
+  pub passed-events : AllClean (eventChecks b room)
+  passed-events = passed-parts .1
+
 module _ (b rows : List ℕ) where
   module _ (passed : checkOf b (length rows) ≡ Verdict.Passed) where
-    parts : AllClean (loadChecks (tasksOf b) (locksOf b) (usesOf b)) × AllClean (eventChecks b (length rows))
-    unfolding checkOf
-    parts = clean-left (loadChecks (tasksOf b) (locksOf b) (usesOf b)) (eventChecks b (length rows)) (clean-left (contentsChecks b) _ (clean _ passed) .1)
-
-    obeys : Obeys (planIn b)
-    obeys = loaded-obeys (tasksOf b) (locksOf b) (usesOf b) (parts .0)
-
     rows-fit : length (eventsOf b) * 4 ≤ length rows
     unfolding eventChecks AllClean
-    rows-fit = omega (arith, length-from (recordEvent (eventBody b)) 0 (countAt b 3), ltb-false (length rows) (countAt b 3 * 4) (parts .1 .1 .0 0 (omega arith)))
+    rows-fit = omega (arith, length-from (recordEvent (eventBody b)) 0 (countAt b 3), ltb-false (length rows) (countAt b 3 * 4) (passed-events b (length rows) passed .1 .0 0 (omega arith)))
 
     replay-runs : replayOf b rows ≡ runFrom (planIn b) (eventsOf b) 0 freshOf rows
     unfolding replayOf replayAs
@@ -65,6 +70,6 @@ book-reaches b room passed O t h =
 pub replayed : (b rows : List ℕ) → Replayed b rows
 replayed b rows = record {
   untouched = replay-refused b rows;
-  ran = λ e. subst (λ (ran : Ran). RanUpTo (planIn b) (eventsOf b) rows ran (ran .state .head .accepted)) (sym (replay-runs b rows e)) (ran-up-to (obeys b rows e) (eventsOf b) rows (rows-fit b rows e));
-  reached = λ e. book-reaches b (length rows) e (obeys b rows e);
+  ran = λ e. subst (λ (ran : Ran). RanUpTo (planIn b) (eventsOf b) rows ran (ran .state .head .accepted)) (sym (replay-runs b rows e)) (ran-up-to (passed-obeys b (length rows) e) (eventsOf b) rows (rows-fit b rows e));
+  reached = λ e. book-reaches b (length rows) e (passed-obeys b (length rows) e);
 }

@@ -25,7 +25,7 @@ use Rattle.rules.specs.declared.answer.Replayed.{Replayed}
 use Rattle.rules.specs.declared.answer.Verdict.{Verdict}
 use Rattle.rules.proofs.Place.{length-from}
 use Rattle.rules.proofs.Checks.{AllClean, clean, clean-left}
-use Rattle.rules.proofs.Loaded.{loaded-obeys}
+use Rattle.rules.proofs.Replayed.{passed-obeys, passed-events}
 use Rattle.scheduler.specs.Going.{Readable}
 use Rattle.scheduler.specs.Whole.{untouchedAs}
 
@@ -66,10 +66,6 @@ module _ (b : List ℕ) (room : ℕ) where
       unfolding checkOf
       contents-clean = clean-left (contentsChecks b) _ (clean _ said) .0
 
-      rest-clean : AllClean (loadChecks (tasksOf b) (locksOf b) (usesOf b)) × AllClean (eventChecks b room)
-      unfolding checkOf
-      rest-clean = clean-left (loadChecks (tasksOf b) (locksOf b) (usesOf b)) (eventChecks b room) (clean-left (contentsChecks b) _ (clean _ said) .1)
-
       ends : bodyAt b 3 + countAt b 3 * 4 ≡ length b
       unfolding contentsChecks AllClean layoutFault bodyAt sizeOf if_then_else_
       ends = eqb-true (bodyAt b 4) (length b) (not-false (eqb (bodyAt b 4) (length b)) (contents-clean .1 .1 .0 4 (omega arith)))
@@ -78,7 +74,7 @@ module _ (b : List ℕ) (room : ℕ) where
       body-within = rw events-is (omega (arith, ends))
 
       pub plan-obeys : Obeys (c .plan)
-      plan-obeys = rw plan-is (loaded-obeys (tasksOf b) (locksOf b) (usesOf b) (rest-clean .0))
+      plan-obeys = rw plan-is (passed-obeys b room said)
 
       pub plan-limits : length (c .plan .limit) ≡ maxLocks
       unfolding planOf
@@ -96,14 +92,14 @@ module _ (b : List ℕ) (room : ℕ) where
 
         pub body-readable : Readable body (length body / 4)
         unfolding Readable eventChecks AllClean
-        body-readable = rw (records, whole-part) (rest-clean .1 .0)
+        body-readable = rw (records, whole-part) (passed-events b room said .0)
 
         pub body-records : length body / 4 * 4 ≤ length body
         body-records = omega arith
 
         pub body-rows : length body / 4 * 4 ≤ room
         unfolding eventChecks AllClean
-        body-rows = rw records (ltb-false room (countAt b 3 * 4) (rest-clean .1 .1 .0 0 (omega arith)))
+        body-rows = rw records (ltb-false room (countAt b 3 * 4) (passed-events b room said .1 .0 0 (omega arith)))
 
         book-runs : (rows out : List ℕ) (r : Replayed) → length rows ≡ room → ranAs r out ≡ runFrom (c .plan) (from (recordEvent body) 0 (length body / 4)) 0 freshOf rows → r .plan ≡ c .plan
             → (ranAs r out ≡ replayOf b rows) × (r .plan ≡ checkedOf b (length rows) .plan)

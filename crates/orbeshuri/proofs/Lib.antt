@@ -1,0 +1,2 @@
+-- The laws behind the program's proofs.
+mod Written

@@ -1,0 +1,50 @@
+-- The text that the program writes. Assumes nothing.
+use mathlib.Core.Path.{_≡_, refl, sym, _∙_, ap, subst}
+use mathlib.Core.List.{List}
+use Prim.Native.Nat.{ℕ, _≤_, min}
+use native.Mathlib.Omega.{arith}
+use lib.ListN.{length, take, replicate, length-replicate}
+use lib.Seq.{length-take-le}
+use Rattle.rules.specs.Capacity.{maxTasks}
+use Rattle.rules.specs.Load.{blankPlan}
+use Rattle.rules.specs.Book.{checkOf, checkedAs, checkedOf}
+use Rattle.rules.specs.Replay.{ranAs, replayOf}
+use Rattle.rules.specs.Run.{Ran}
+use Rattle.rules.specs.declared.plan.Plan.{Plan}
+use Rattle.rules.specs.declared.answer.Verdict.{Verdict}
+use Rattle.rules.specs.declared.answer.Replayed.{Replayed}
+use Rattle.rules.proofs.Obeyed.{few-tasks}
+use Rattle.rules.proofs.Replayed.{passed-obeys}
+use Rattle.report.specs.Report.{reportOf}
+use Rattle.report.specs.Page.{wrote}
+use Rattle.orbeshuri.specs.Text.{rowSpace, ranOf, textOf}
+
+-- the plan of a book, or the blank one, has no more tasks than there are places
+tasks-by : (b : List ℕ) (room : ℕ) (v : Verdict) → checkOf b room ≡ v → checkedAs v b .plan .tasks ≤ maxTasks
+unfolding checkedAs
+tasks-by b room Verdict.Passed e = few-tasks (passed-obeys b room e)
+tasks-by b room (Verdict.Refused why place) e = omega arith
+
+pub few-replayed : (b : List ℕ) (room : ℕ) (p : Plan) → p ≡ checkedOf b room .plan → p .tasks ≤ maxTasks
+few-replayed b room p e = rw e (tasks-by b room (checkOf b room) refl)
+
+-- of a table with a place for every task, the first n
+pub front-length : (xs : List ℕ) (n : ℕ) → length xs ≡ maxTasks → n ≤ maxTasks → length (take n xs) ≡ n
+front-length xs n e h = length-take-le n xs (omega arith)
+
+pub rows-room : length (replicate {A = ℕ} rowSpace 0) ≡ rowSpace
+rows-room = length-replicate {A = ℕ} rowSpace 0
+
+-- what the replay left, reported
+module _ (b rows : List ℕ) (r : Replayed) (ran : ranAs r rows ≡ ranOf b) (planned : r .plan ≡ checkedOf b (length (replicate {A = ℕ} rowSpace 0)) .plan) where
+  text-is : reportOf (r .verdict) (r .state .head .accepted) rows (r .state .head .lazy) (r .state .head .eager) (take (r .plan .tasks) (r .state .delay)) ≡ textOf b
+  text-is =
+      rw (planned, rows-room) (ap (λ (x : Ran). reportOf (x .verdict) (x .state .head .accepted) (x .rows) (x .state .head .lazy) (x .state .head .eager) (take (checkedOf b rowSpace .plan .tasks) (x .state .delay))) ran)
+
+  pub text-written : (out after : List ℕ) → after ≡ wrote out 0 (reportOf (r .verdict) (r .state .head .accepted) rows (r .state .head .lazy) (r .state .head .eager) (take (r .plan .tasks) (r .state .delay)))
+      → after ≡ wrote out 0 (textOf b)
+  text-written out after e = e ∙ ap (wrote out 0) text-is
+
+  pub text-length : (n l : ℕ) → n ≡ min (length (reportOf (r .verdict) (r .state .head .accepted) rows (r .state .head .lazy) (r .state .head .eager) (take (r .plan .tasks) (r .state .delay)))) l
+      → n ≡ min (length (textOf b)) l
+  text-length n l e = e ∙ ap (λ (t : List ℕ). min (length t) l) text-is

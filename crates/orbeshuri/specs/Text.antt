@@ -1,0 +1,21 @@
+-- "Given it on standard input, the program prints exactly": the report of the book's replay. Assumes nothing.
+use mathlib.Core.List.{List}
+use Prim.Native.Nat.{ℕ, _*_}
+use lib.ListN.{take, replicate}
+use Rattle.rules.specs.Book.{checkedOf}
+use Rattle.rules.specs.Capacity.{maxEvents}
+use Rattle.rules.specs.Replay.{replayOf}
+use Rattle.rules.specs.Run.{Ran}
+use Rattle.report.specs.Report.{reportOf}
+
+-- four row bytes for each event that a book may have, so 9 is never given
+abbrev pub rowSpace : ℕ
+rowSpace = maxEvents * 4
+
+abbrev pub ranOf : List ℕ → Ran
+ranOf b = replayOf b (replicate rowSpace 0)
+
+abbrev pub textOf : List ℕ → List ℕ
+textOf b =
+    reportOf (ranOf b .verdict) (ranOf b .state .head .accepted) (ranOf b .rows) (ranOf b .state .head .lazy) (ranOf b .state .head .eager)
+    (take (checkedOf b rowSpace .plan .tasks) (ranOf b .state .delay))

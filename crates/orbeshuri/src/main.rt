@@ -1,0 +1,77 @@
+// The replay of a book: the book on standard input, the report on standard output.
+use report::report;
+use rules::answer::Verdict;
+use rules::capacity::MAX_EVENTS;
+use rules::capacity::MAX_TASKS;
+use rules::state::Head;
+use scheduler::replay;
+ghost use mathlib.Core.Path.{_≡_};
+ghost use Prim.Native.Nat.{_≤_, min};
+ghost use lib.ListN.{length, take};
+ghost use Rattle.rules.specs.Capacity.{maxTasks};
+ghost use Rattle.report.specs.Page.{wrote};
+ghost use Rattle.report.specs.Report.{reportOf};
+ghost use Rattle.orbeshuri.specs.Text.{textOf};
+
+// Four row bytes for each event that a book may have, so 9 is never given.
+const ROW_SPACE: usize = MAX_EVENTS * 4;
+
+// Room for the longest report: the header, 12,000 rows of 20 bytes or fewer, the calls and 96 delays.
+const REPORT_SPACE: usize = 262144;
+
+// The delays of the first n tasks are reported.
+fn report_state(
+    out: &mut [u8],
+    verdict: Verdict,
+    rows: &[u8],
+    head: Head,
+    delay: [u16; MAX_TASKS],
+    tasks: usize,
+) -> usize
+    requires { ⌜ tasks ≤ maxTasks ⌝ }
+    ensures { λ _. ⌜ now (out .exit) ≡ wrote (now (out .entry)) 0 (reportOf verdict (head .accepted) (now (rows .entry)) (head .lazy) (head .eager) (take tasks delay)) ⌝ }
+    ensures { λ r. ⌜ r ≡ min (length (reportOf verdict (head .accepted) (now (rows .entry)) (head .lazy) (head .eager) (take tasks delay))) (length (now (out .entry))) ⌝ }
+{
+    let accepted = head.accepted as usize;
+    report(
+        out,
+        verdict,
+        accepted,
+        rows,
+        head.lazy,
+        head.eager,
+        &delay[..tasks],
+    )
+}
+
+// The text for a book, cut where `out` ends, and how many bytes of it stand there.
+fn text(book: &[u8], out: &mut [u8]) -> usize
+    ensures { λ _. ⌜ now (out .exit) ≡ wrote (now (out .entry)) 0 (textOf (now (book .entry))) ⌝ }
+    ensures { λ r. ⌜ r ≡ min (length (textOf (now (book .entry)))) (length (now (out .entry))) ⌝ }
+{
+    let mut rows = [0u8; ROW_SPACE];
+    let replayed = replay(book, &mut rows);
+    let verdict = replayed.verdict;
+    let tasks = replayed.plan.tasks;
+    let head = replayed.state.head;
+    let delay = replayed.state.delay;
+    report_state(out, verdict, &rows, head, delay, tasks)
+}
+
+fn write_front(out: &[u8], n: usize) {
+    if n <= out.len() {
+        io::write_all(1, &out[..n]);
+    }
+}
+
+// The buffer is larger than the largest book: a longer input is refused as the rules say for the
+// whole of it.
+fn main() {
+    let mut book = io::large_buffer();
+    let n = io::read_full(0, &mut book);
+    if n <= book.len() {
+        let mut out = [0u8; REPORT_SPACE];
+        let size = text(&book[..n], &mut out);
+        write_front(&out, size);
+    }
+}

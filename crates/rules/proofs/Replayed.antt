@@ -13,7 +13,7 @@ use Rattle.rules.specs.State.{freshOf}
 use Rattle.rules.specs.Run.{Ran, runFrom}
 use Rattle.rules.specs.Replay.{replayAs, replayOf}
 use Rattle.rules.specs.Demand3.{worstCase}
-use Rattle.rules.specs.Replayed.{Untouched, RanUpTo, BookReaches, Replayed}
+use Rattle.rules.specs.Replayed.{Untouched, RanUpTo, BookReaches, Promised}
 use Rattle.rules.specs.declared.answer.Verdict.{Verdict}
 use Rattle.rules.specs.declared.refusal.Refusal.{Refusal}
 use Rattle.rules.specs.declared.event.Event.{Event}
@@ -67,7 +67,7 @@ book-reaches b room passed O t h =
     }
 
 -- every book, with every row space
-pub replayed : (b rows : List ℕ) → Replayed b rows
+pub replayed : (b rows : List ℕ) → Promised b rows
 replayed b rows = record {
   untouched = replay-refused b rows;
   ran = λ e. subst (λ (ran : Ran). RanUpTo (planIn b) (eventsOf b) rows ran (ran .state .head .accepted)) (sym (replay-runs b rows e)) (ran-up-to (passed-obeys b (length rows) e) (eventsOf b) rows (rows-fit b rows e));

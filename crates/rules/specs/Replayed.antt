@@ -93,7 +93,7 @@ pub record BookReaches (b : List ℕ) (t : ℕ) : Type 0 where
   pub replay : (rows : List ℕ) → length (eventsOf book) * 4 ≤ length rows → Reaches (planIn b) (eventsOf book) t (replayOf book rows)
 
 -- what is promised of the replay of a book b with row space `rows`
-pub record Replayed (b rows : List ℕ) : Type 0 where
+pub record Promised (b rows : List ℕ) : Type 0 where
   -- 1 to 9 in order, each with its place
   pub untouched : (why : Refusal) (place : ℕ) → checkOf b (length rows) ≡ Verdict.Refused why place → Untouched rows (replayOf b rows) why place
   -- or its events run; the state says how many were accepted

@@ -1,0 +1,3 @@
+-- The promises, said of the code.
+pub mod OneResult
+pub mod SaidOfCode

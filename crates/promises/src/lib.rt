@@ -1,0 +1,1 @@
+// What is promised of the public functions, through their contracts: proofs/ alone.

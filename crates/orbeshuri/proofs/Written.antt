@@ -1,18 +1,21 @@
 -- The text that the program writes. Assumes nothing.
 use mathlib.Core.Path.{_≡_, refl, sym, _∙_, ap, subst}
 use mathlib.Core.List.{List}
-use Prim.Native.Nat.{ℕ, _≤_, min}
+use Prim.Native.Nat.{ℕ, _≤_, _<_, min}
 use native.Mathlib.Omega.{arith}
 use lib.ListN.{length, take, replicate, length-replicate}
 use lib.Seq.{length-take-le}
 use Rattle.rules.specs.Capacity.{maxTasks}
 use Rattle.rules.specs.Load.{blankPlan}
-use Rattle.rules.specs.Book.{checkOf, checkedAs, checkedOf}
-use Rattle.rules.specs.Replay.{ranAs, replayOf}
+use Rattle.rules.specs.Book.{checkOf, checkedAs, checkedOf, largestBook}
+use Rattle.rules.specs.Replay.{ranAs, replayAs, replayOf}
 use Rattle.rules.specs.Run.{Ran}
+use Rattle.rules.specs.State.{freshOf}
 use Rattle.rules.specs.declared.plan.Plan.{Plan}
+use Rattle.rules.specs.declared.refusal.Refusal.{Refusal}
 use Rattle.rules.specs.declared.answer.Verdict.{Verdict}
 use Rattle.rules.specs.declared.answer.Replayed.{Replayed}
+use Rattle.rules.proofs.Cut.{cut-same, long-refused}
 use Rattle.rules.proofs.Obeyed.{few-tasks}
 use Rattle.rules.proofs.Replayed.{passed-obeys}
 use Rattle.report.specs.Report.{reportOf}
@@ -48,3 +51,17 @@ module _ (b rows : List ℕ) (r : Replayed) (ran : ranAs r rows ≡ ranOf b) (pl
   pub text-length : (n l : ℕ) → n ≡ min (length (reportOf (r .verdict) (r .state .head .accepted) rows (r .state .head .lazy) (r .state .head .eager) (take (r .plan .tasks) (r .state .delay)))) l
       → n ≡ min (length (textOf b)) l
   text-length n l e = e ∙ ap (λ (t : List ℕ). min (length t) l) text-is
+
+-- ---- an input that is longer than the buffer
+
+-- the text of a refused book
+refused-text : (b : List ℕ) (why : Refusal) (place : ℕ) → checkOf b rowSpace ≡ Verdict.Refused why place
+    → textOf b ≡ reportOf (Verdict.Refused why place) 0 (replicate rowSpace 0) 0 0 (take 0 (freshOf .delay))
+unfolding replayOf replayAs checkedAs
+refused-text b why place e = rw (rows-room, e)
+
+-- "a longer input is refused as the rules say for the whole of it": its front gives the text of the whole
+pub cut-text : (b : List ℕ) (n : ℕ) → n ≤ length b → largestBook < n → textOf (take n b) ≡ textOf b
+cut-text b n long enough =
+    let (why, place, e) = long-refused b (omega arith) rowSpace in
+    refused-text (take n b) why place (cut-same b n long enough rowSpace ∙ e) ∙ sym (refused-text b why place e)

@@ -29,3 +29,4 @@ pub mod Running
 pub mod WithEvents
 pub mod WorstRun
 pub mod Replayed
+pub mod Cut

@@ -4,6 +4,7 @@ use mathlib.Core.List.{List, [], _∷_, _++_}
 use Prim.Native.Nat.{ℕ, zero, suc, _+_, _*_, _/_}
 use lib.Dec.{eqb, ltb}
 use lib.ListN.{length, drop}
+use Rattle.rules.specs.Capacity.{maxTasks, maxLocks, maxUses, maxEvents}
 use Rattle.rules.specs.Choice.{if_then_else_}
 use Rattle.rules.specs.Place.{at, tabulate}
 use Rattle.rules.specs.Refusal.{Check, firstFault}
@@ -46,6 +47,10 @@ sizeOf e = if eqb e 0 then 2 else if eqb e 1 then 4 else if eqb e 2 then 2 else 
 unfoldable pub bodyAt : List ℕ → ℕ → ℕ
 bodyAt b zero = contents
 bodyAt b (suc e) = bodyAt b e + countAt b e * sizeOf e
+
+-- "The largest book is 54,496 bytes"
+abbrev pub largestBook : ℕ
+largestBook = contents + maxTasks * 2 + maxLocks * 4 + maxUses * 2 + maxEvents * 4
 
 -- 3: a kind or offset wrong, or the end isn't the book's end
 unfoldable pub layoutFault : List ℕ → ℕ → Bool

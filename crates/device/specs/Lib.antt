@@ -1,0 +1,2 @@
+-- What the library's functions answer, in numbers alone.
+pub mod Device

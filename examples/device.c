@@ -1,0 +1,39 @@
+/* Checks and replays a book from C: `device [BOOK]`, or the book on standard input. Build it so:
+ *     rt staticlib device
+ *     cc -Iinclude examples/device.c target/staticlib/libdevice.a -o device */
+#include <stdio.h>
+
+#include "recorder.h"
+
+/* One byte more than the longest book, so that a longer one is seen to be too long. */
+static uint8_t book[RECORDER_MAX_BOOK + 1];
+static uint8_t rows[RECORDER_MAX_EVENTS * RECORDER_ROW_BYTES];
+
+int main(int count, char **words) {
+    FILE *in = count > 1 ? fopen(words[1], "rb") : stdin;
+    if (in == NULL) {
+        perror(words[1]);
+        return 2;
+    }
+    size_t length = fread(book, 1, sizeof book, in);
+
+    struct recorder_check c = recorder_check(book, length, sizeof rows);
+    printf("check %u %zu\n", (unsigned)c.number, c.place);
+    printf("plan %zu %zu, events at %zu\n", c.tasks, c.locks, c.events);
+
+    struct recorder_replay r = recorder_replay(book, length, rows, sizeof rows);
+    for (uint32_t k = 0; k < r.accepted; k++) {
+        const uint8_t *row = rows + k * RECORDER_ROW_BYTES;
+        printf("row %u %u %u %u\n", row[0], row[1], row[2], row[3]);
+    }
+    printf("replay %u %zu\n", (unsigned)r.number, r.place);
+    printf("accepted %u, running %u, words %u %u\n", (unsigned)r.accepted, r.running, r.user, r.next);
+    printf("calls %u %u\n", (unsigned)r.lazy, (unsigned)r.eager);
+
+    printf("delayed");
+    for (size_t t = 0; t < r.tasks; t++) printf(" %u", r.delay[t]);
+    printf("\nbounds");
+    for (size_t t = 0; t < c.tasks; t++) printf(" %u", recorder_bound(book, length, t));
+    printf("\n");
+    return 0;
+}

@@ -1,0 +1,176 @@
+//! The proved replay against the same one in ordinary Rust, over books of full
+//! length: both must give the same rows and figures; then each is timed.
+//!
+//!     bench [--rounds N] BOOK..
+//!
+//! Before the named books it takes one of its own, of the crane plan: there the
+//! scans over the tasks are short. It ends with 0 if both agree on every book,
+//! else with 1. Times only inform.
+
+mod crane;
+mod device;
+mod ordinary;
+
+use std::hint::black_box;
+use std::process::ExitCode;
+use std::time::Instant;
+
+/// Replays in a round: short enough that most rounds run undisturbed.
+const TURNS: u32 = 5;
+const DEFAULT_ROUNDS: usize = 301;
+
+fn main() -> ExitCode {
+    let mut rounds = DEFAULT_ROUNDS;
+    let mut books = vec![("crane".to_string(), crane::book())];
+    let mut words = std::env::args().skip(1);
+    while let Some(word) = words.next() {
+        if word == "--rounds" {
+            let number = words.next().and_then(|number| number.parse().ok());
+            rounds = number
+                .filter(|rounds| *rounds > 0)
+                .unwrap_or(DEFAULT_ROUNDS);
+            continue;
+        }
+        match std::fs::read(&word) {
+            Ok(book) => books.push((short(&word).to_string(), book)),
+            Err(error) => {
+                eprintln!("bench: cannot read {word}: {error}");
+                return ExitCode::from(2);
+            }
+        }
+    }
+    println!("ns an event: the median of {rounds} rounds (the least); the ratio of the medians");
+    println!(
+        "{:<12} {:<7} {:>16} {:>16} {:>6}",
+        "book", "", "proved", "ordinary", "ratio"
+    );
+    let mut agree = true;
+    for (name, book) in &books {
+        match difference(book) {
+            None => measure(name, book, rounds),
+            Some(what) => {
+                println!("{name}: the two differ in {what}");
+                agree = false;
+            }
+        }
+    }
+    ExitCode::from(u8::from(!agree))
+}
+
+/// A file's name without its folder and its ending.
+fn short(path: &str) -> &str {
+    path.rsplit('/')
+        .next()
+        .unwrap_or(path)
+        .trim_end_matches(".book")
+}
+
+/// What the two replays of a book differ in; and whether the book is accepted,
+/// since the time of a refused one says nothing.
+fn difference(book: &[u8]) -> Option<&'static str> {
+    let mut proved_rows = vec![0xEE; 48_000];
+    let mut ordinary_rows = proved_rows.clone();
+    let proved = device::replay(book, &mut proved_rows);
+    let ordinary = ordinary::replay(book, &mut ordinary_rows);
+    let (refused, state) = (ordinary.refused, &ordinary.state);
+    let tests = [
+        (
+            "verdict",
+            (proved.number, proved.place) == (refused.0, refused.1),
+        ),
+        ("acceptance", proved.number == 0),
+        ("rows", proved_rows == ordinary_rows),
+        ("accepted events", proved.accepted == state.accepted),
+        (
+            "calls",
+            (proved.lazy, proved.eager) == (state.lazy, state.eager),
+        ),
+        ("running task", proved.running == state.running),
+        (
+            "words",
+            (proved.user, proved.next) == (state.user, state.next),
+        ),
+        ("tasks", proved.tasks == ordinary.tasks),
+        ("delays", proved.delay == state.delay),
+    ];
+    tests.iter().find(|(_, same)| !same).map(|(what, _)| *what)
+}
+
+/// Times both, round by round in turn: the whole replay, the check of the book
+/// alone, and by their difference the run of the events.
+fn measure(name: &str, book: &[u8], rounds: usize) {
+    let mut rows = vec![0; 48_000];
+    let events = device::replay(book, &mut rows).accepted;
+    let mut times = [const { Vec::new() }; 4];
+    for _ in 0..rounds {
+        let book = black_box(book);
+        times[0].push(time(events, || {
+            done(device::replay(book, black_box(&mut rows)))
+        }));
+        times[1].push(time(events, || {
+            done(ordinary::replay(book, black_box(&mut rows)))
+        }));
+        times[2].push(time(events, || {
+            done(device::check(book, black_box(48_000)))
+        }));
+        times[3].push(time(events, || {
+            done(ordinary::check(book, black_box(48_000)))
+        }));
+    }
+    let [proved, ordinary, proved_check, ordinary_check] = times.map(Figure::of);
+    report(name, "replay", proved, ordinary);
+    report("", "check", proved_check, ordinary_check);
+    report(
+        "",
+        "run",
+        proved.less(proved_check),
+        ordinary.less(ordinary_check),
+    );
+}
+
+fn report(name: &str, part: &str, proved: Figure, ordinary: Figure) {
+    let show = |figure: Figure| format!("{:.2} ({:.2})", figure.median, figure.least);
+    let ratio = proved.median / ordinary.median;
+    println!(
+        "{name:<12} {part:<7} {:>16} {:>16} {ratio:>6.2}",
+        show(proved),
+        show(ordinary)
+    );
+}
+
+/// The whole answer is wanted, so that no part of the work is left out.
+fn done<T>(answer: T) {
+    black_box(&answer);
+}
+
+/// Nanoseconds an event, over a round.
+fn time(events: u32, mut replay: impl FnMut()) -> f64 {
+    let start = Instant::now();
+    for _ in 0..TURNS {
+        replay();
+    }
+    start.elapsed().as_nanos() as f64 / f64::from(TURNS) / f64::from(events.max(1))
+}
+
+#[derive(Clone, Copy)]
+struct Figure {
+    median: f64,
+    least: f64,
+}
+
+impl Figure {
+    fn of(mut times: Vec<f64>) -> Figure {
+        times.sort_by(f64::total_cmp);
+        Figure {
+            median: times[times.len() / 2],
+            least: times[0],
+        }
+    }
+
+    fn less(self, other: Figure) -> Figure {
+        Figure {
+            median: self.median - other.median,
+            least: self.least - other.least,
+        }
+    }
+}

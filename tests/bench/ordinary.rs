@@ -1,0 +1,364 @@
+//! The same check and replay in ordinary Rust: a state behind `&mut`, arrays in
+//! structs, an owner for each lock, nothing allocated.
+
+pub const MOST_TASKS: usize = 96;
+const MOST_LOCKS: usize = 32;
+const MOST_USES: usize = 3072;
+const MOST_EVENTS: usize = 12_000;
+const MOST_OPEN: usize = 8;
+const MOST_ACCEPTED: u32 = 1_000_000;
+const NOBODY: u8 = 255;
+
+/// The number and place of a refusal.
+#[derive(Clone, Copy)]
+pub struct Refused(pub u8, pub usize);
+
+pub struct Plan {
+    tasks: usize,
+    locks: usize,
+    base: [u8; MOST_TASKS],
+    ceiling: [u8; MOST_LOCKS],
+    limit: [u16; MOST_LOCKS],
+    /// Bit l: the task may take lock l.
+    uses: [u32; MOST_TASKS],
+}
+
+/// A book that passed 1 to 9.
+pub struct Checked<'b> {
+    pub plan: Plan,
+    pub events: &'b [u8],
+}
+
+fn word(bytes: &[u8], at: usize) -> usize {
+    usize::from(u16::from_le_bytes([bytes[at], bytes[at + 1]]))
+}
+
+/// 1 to 9, each over the whole book before the next.
+pub fn check(book: &[u8], room: usize) -> Result<Checked<'_>, Refused> {
+    const LEAST: [usize; 4] = [1, 0, 0, 0];
+    const MOST: [usize; 4] = [MOST_TASKS, MOST_LOCKS, MOST_USES, MOST_EVENTS];
+    const SIZE: [usize; 4] = [2, 4, 2, 4];
+    if book.len() < 32 {
+        return Err(Refused(1, 0));
+    }
+    let mut starts = [32; 5];
+    for entry in 0..4 {
+        let count = word(book, 8 * entry + 2);
+        if count < LEAST[entry] || count > MOST[entry] {
+            return Err(Refused(2, entry + 1));
+        }
+        starts[entry + 1] = starts[entry] + count * SIZE[entry];
+    }
+    for entry in 0..4 {
+        let offset = word(book, 8 * entry + 4) + (word(book, 8 * entry + 6) << 16);
+        if word(book, 8 * entry) != entry + 1 || offset != starts[entry] {
+            return Err(Refused(3, entry + 1));
+        }
+    }
+    if starts[4] != book.len() {
+        return Err(Refused(3, 5));
+    }
+    let plan = load(
+        &book[starts[0]..starts[1]],
+        &book[starts[1]..starts[2]],
+        &book[starts[2]..starts[3]],
+    )?;
+    let events = &book[starts[3]..];
+    if let Some(place) = events.chunks_exact(4).position(is_wrong) {
+        return Err(Refused(8, place));
+    }
+    if room < events.len() {
+        return Err(Refused(9, 0));
+    }
+    Ok(Checked { plan, events })
+}
+
+fn is_wrong(record: &[u8]) -> bool {
+    let amount = u16::from_le_bytes([record[2], record[3]]);
+    match record[0] {
+        1..=3 => amount != 0,
+        4 => record[1] != 0 || amount == 0,
+        5 | 6 => record[1] != 0 || amount != 0,
+        _ => true,
+    }
+}
+
+/// 4 to 7.
+fn load(tasks: &[u8], locks: &[u8], uses: &[u8]) -> Result<Plan, Refused> {
+    let mut plan = Plan {
+        tasks: tasks.len() / 2,
+        locks: locks.len() / 4,
+        base: [0; MOST_TASKS],
+        ceiling: [0; MOST_LOCKS],
+        limit: [0; MOST_LOCKS],
+        uses: [0; MOST_TASKS],
+    };
+    for (task, record) in tasks.chunks_exact(2).enumerate() {
+        if record[0] == 0 || record[1] != 0 {
+            return Err(Refused(4, task));
+        }
+        plan.base[task] = record[0];
+    }
+    for (lock, record) in locks.chunks_exact(4).enumerate() {
+        let limit = u16::from_le_bytes([record[2], record[3]]);
+        if record[0] == 0 || record[1] != 0 || limit == 0 {
+            return Err(Refused(5, lock));
+        }
+        plan.ceiling[lock] = record[0];
+        plan.limit[lock] = limit;
+    }
+    let mut before = None;
+    let mut greatest = [0; MOST_LOCKS];
+    for (place, record) in uses.chunks_exact(2).enumerate() {
+        let (task, lock) = (usize::from(record[0]), usize::from(record[1]));
+        if task >= plan.tasks || lock >= plan.locks || before >= Some((task, lock)) {
+            return Err(Refused(6, place));
+        }
+        before = Some((task, lock));
+        plan.uses[task] |= 1 << lock;
+        greatest[lock] = plan.base[task].max(greatest[lock]);
+    }
+    // No base is 0, so a lock without users has another ceiling too.
+    match (0..plan.locks).find(|&lock| plan.ceiling[lock] != greatest[lock]) {
+        Some(lock) => Err(Refused(7, lock)),
+        None => Ok(plan),
+    }
+}
+
+pub struct State {
+    pub accepted: u32,
+    pub running: u8,
+    pub user: u8,
+    pub next: u8,
+    pub lazy: u32,
+    pub eager: u32,
+    released: [u32; MOST_TASKS],
+    kept: [u8; MOST_TASKS],
+    pub delay: [u16; MOST_TASKS],
+    held: [u8; MOST_TASKS],
+    open: [[u8; MOST_OPEN]; MOST_TASKS],
+    saved: [[u8; MOST_OPEN]; MOST_TASKS],
+    units: [u16; MOST_LOCKS],
+    /// The task that has the lock open, plus one; or 0.
+    owner: [u8; MOST_LOCKS],
+}
+
+impl State {
+    pub fn fresh() -> State {
+        State {
+            accepted: 0,
+            running: NOBODY,
+            user: 0,
+            next: 0,
+            lazy: 0,
+            eager: 0,
+            released: [0; MOST_TASKS],
+            kept: [0; MOST_TASKS],
+            delay: [0; MOST_TASKS],
+            held: [0; MOST_TASKS],
+            open: [[0; MOST_OPEN]; MOST_TASKS],
+            saved: [[0; MOST_OPEN]; MOST_TASKS],
+            units: [0; MOST_LOCKS],
+            owner: [0; MOST_LOCKS],
+        }
+    }
+
+    /// One event: whether it made a lazy call, or the number that refuses it.
+    fn act(&mut self, plan: &Plan, record: &[u8]) -> Result<bool, u8> {
+        if self.accepted >= MOST_ACCEPTED {
+            return Err(11);
+        }
+        let call = match record[0] {
+            1 => self.release(plan, usize::from(record[1])),
+            2 => self.acquire(plan, usize::from(record[1])),
+            3 => self.unlock(plan, usize::from(record[1])),
+            4 => self.work(plan, u16::from_le_bytes([record[2], record[3]])),
+            5 => self.finish(plan),
+            _ => Ok(false),
+        }?;
+        self.accepted += 1;
+        Ok(call)
+    }
+
+    fn runner(&self) -> Result<usize, u8> {
+        let task = usize::from(self.running);
+        if task < MOST_TASKS {
+            Ok(task)
+        } else {
+            Err(12)
+        }
+    }
+
+    fn release(&mut self, plan: &Plan, task: usize) -> Result<bool, u8> {
+        if task >= plan.tasks {
+            return Err(13);
+        }
+        if self.released[task] != 0 {
+            return Err(14);
+        }
+        self.released[task] = self.accepted + 1;
+        self.delay[task] = 0;
+        self.kept[task] = plan.base[task];
+        if plan.base[task] > self.user {
+            self.leave();
+            self.switch(plan.tasks);
+        } else {
+            self.next = self.next.max(plan.base[task]);
+        }
+        Ok(false)
+    }
+
+    fn acquire(&mut self, plan: &Plan, lock: usize) -> Result<bool, u8> {
+        let task = self.runner()?;
+        if lock >= plan.locks {
+            return Err(13);
+        }
+        if plan.uses[task] >> lock & 1 == 0 {
+            return Err(15);
+        }
+        match usize::from(self.owner[lock]) {
+            0 => {}
+            owner if owner == task + 1 => return Err(16),
+            _ => return Err(17),
+        }
+        let depth = usize::from(self.held[task]);
+        if depth >= MOST_OPEN {
+            return Err(18);
+        }
+        self.open[task][depth] = lock as u8;
+        self.saved[task][depth] = self.user;
+        self.held[task] += 1;
+        self.owner[lock] = self.running + 1;
+        self.user = self.user.max(plan.ceiling[lock]);
+        self.eager += 1;
+        Ok(false)
+    }
+
+    fn unlock(&mut self, plan: &Plan, lock: usize) -> Result<bool, u8> {
+        let task = self.runner()?;
+        if lock >= plan.locks {
+            return Err(13);
+        }
+        let depth = usize::from(self.held[task]);
+        if depth == 0 || usize::from(self.open[task][depth - 1]) != lock {
+            return Err(19);
+        }
+        self.held[task] -= 1;
+        self.user = self.saved[task][depth - 1];
+        self.units[lock] = 0;
+        self.owner[lock] = 0;
+        self.eager += 1;
+        let call = self.user < self.next;
+        if call {
+            self.lazy += 1;
+            self.leave();
+            self.switch(plan.tasks);
+        }
+        Ok(call)
+    }
+
+    fn work(&mut self, plan: &Plan, amount: u16) -> Result<bool, u8> {
+        let task = self.runner()?;
+        let open = &self.open[task][..usize::from(self.held[task])];
+        let would_pass = |&lock: &u8| {
+            let lock = usize::from(lock);
+            u32::from(self.units[lock]) + u32::from(amount) > u32::from(plan.limit[lock])
+        };
+        if open.iter().any(would_pass) {
+            return Err(21);
+        }
+        for &lock in open {
+            self.units[usize::from(lock)] += amount;
+        }
+        let base = plan.base[task];
+        let others = plan.base[..plan.tasks]
+            .iter()
+            .zip(&self.released[..plan.tasks]);
+        for (delay, (&other, &released)) in self.delay[..plan.tasks].iter_mut().zip(others) {
+            let more = delay.saturating_add(amount);
+            *delay = if released != 0 && base < other {
+                more
+            } else {
+                *delay
+            };
+        }
+        Ok(false)
+    }
+
+    fn finish(&mut self, plan: &Plan) -> Result<bool, u8> {
+        let task = self.runner()?;
+        if self.held[task] != 0 {
+            return Err(22);
+        }
+        self.released[task] = 0;
+        self.kept[task] = 0;
+        self.switch(plan.tasks);
+        Ok(false)
+    }
+
+    /// The kernel keeps the word of the task that leaves.
+    fn leave(&mut self) {
+        if let Some(kept) = self.kept.get_mut(usize::from(self.running)) {
+            *kept = self.user;
+        }
+    }
+
+    /// The task of greatest kept priority runs, ties to the earlier release.
+    fn switch(&mut self, tasks: usize) {
+        let greatest = greatest(&self.kept[..tasks]);
+        if greatest == 0 {
+            (self.running, self.user, self.next) = (NOBODY, 0, 0);
+            return;
+        }
+        let figures = self.kept[..tasks]
+            .iter()
+            .zip(&self.released[..tasks])
+            .enumerate();
+        let equals = figures.filter(|(_, (&kept, _))| kept == greatest);
+        let who = equals.min_by_key(|(_, (_, &released))| released);
+        let who = who.map_or(0, |(task, _)| task);
+        self.kept[who] = 0;
+        self.running = who as u8;
+        self.user = greatest;
+        self.next = self::greatest(&self.kept[..tasks]);
+    }
+}
+
+fn greatest(kept: &[u8]) -> u8 {
+    kept.iter().copied().fold(0, u8::max)
+}
+
+/// The events until the first refusal, with a row for each accepted one.
+pub fn run(plan: &Plan, events: &[u8], state: &mut State, rows: &mut [u8]) -> Result<(), Refused> {
+    let turns = events.chunks_exact(4).zip(rows.chunks_exact_mut(4));
+    for (place, (record, row)) in turns.enumerate() {
+        match state.act(plan, record) {
+            Ok(call) => row.copy_from_slice(&[state.running, state.user, state.next, call as u8]),
+            Err(number) => return Err(Refused(number, place)),
+        }
+    }
+    Ok(())
+}
+
+/// What a replay answers: what was refused, the plan's tasks and the state.
+pub struct Replayed {
+    pub refused: Refused,
+    pub tasks: usize,
+    pub state: State,
+}
+
+pub fn replay(book: &[u8], rows: &mut [u8]) -> Replayed {
+    let mut state = State::fresh();
+    let (refused, tasks) = match check(book, rows.len()) {
+        Err(refused) => (refused, 0),
+        Ok(checked) => {
+            let ran = run(&checked.plan, checked.events, &mut state, rows);
+            (ran.err().unwrap_or(Refused(0, 0)), checked.plan.tasks)
+        }
+    };
+    Replayed {
+        refused,
+        tasks,
+        state,
+    }
+}

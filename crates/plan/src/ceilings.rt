@@ -1,19 +1,21 @@
 // Refusal 7: a lock without users, or whose ceiling isn't the greatest base among them.
 use crate::mask::has_bit;
+use rules::capacity::MAX_TASKS;
 use rules::plan::Plan;
 ghost use mathlib.Core.Path.{_≡_};
 ghost use Prim.Native.Nat.{_<_, _≤_, _+_, max};
 ghost use Rattle.rules.specs.Capacity.{maxTasks, maxLocks};
 ghost use Rattle.rules.specs.Choice.{if_then_else_};
 ghost use Rattle.rules.specs.Place.{at, firstFrom};
-ghost use Rattle.rules.specs.Plan.{declares, users, usersBase, ceilingFault};
+ghost use Rattle.rules.specs.Mask.{hasBit};
+ghost use Rattle.rules.specs.Plan.{users, usersBase, ceilingFault};
 
-// Whether the plan lets task x take lock l.
-fn declared(p: Plan, x: usize, l: u8) -> bool
+// Whether task x may take lock l.
+fn declared(uses: &[u32; MAX_TASKS], x: usize, l: u8) -> bool
     requires { ⌜ x < maxTasks ⌝ }
-    ensures { λ r. ⌜ r ≡ declares p x l ⌝ }
+    ensures { λ r. ⌜ r ≡ hasBit (at (now (uses .entry)) x) l ⌝ }
 {
-    has_bit(p.uses[x], l)
+    has_bit(uses[x], l)
 }
 
 fn one_more(found: usize, yes: bool) -> usize
@@ -32,10 +34,11 @@ fn users_of(p: Plan, l: u8) -> usize
     ensures { λ r. ⌜ r ≡ users p l ⌝ }
 {
     let n = p.tasks;
+    let uses = p.uses;
     let mut found: usize = 0;
     let mut x: usize = 0;
     while x < n {
-        let yes = declared(p, x, l);
+        let yes = declared(&uses, x, l);
         found = one_more(found, yes);
         x += 1;
     }
@@ -43,12 +46,12 @@ fn users_of(p: Plan, l: u8) -> usize
 }
 
 // The base of task x if it is a user of lock l, and 0 if not.
-fn user_base(p: Plan, x: usize, l: u8) -> u8
+fn user_base(base: &[u8; MAX_TASKS], uses: &[u32; MAX_TASKS], x: usize, l: u8) -> u8
     requires { ⌜ x < maxTasks ⌝ }
-    ensures { λ r. ⌜ r ≡ (if declares p x l then at (p .base) x else 0) ⌝ }
+    ensures { λ r. ⌜ r ≡ (if hasBit (at (now (uses .entry)) x) l then at (now (base .entry)) x else 0) ⌝ }
 {
-    if declared(p, x, l) {
-        return p.base[x];
+    if declared(uses, x, l) {
+        return base[x];
     }
     0
 }
@@ -68,11 +71,13 @@ fn users_base(p: Plan, l: u8) -> u8
     ensures { λ r. ⌜ r ≡ usersBase p l ⌝ }
 {
     let n = p.tasks;
+    let base = p.base;
+    let uses = p.uses;
     let mut top: u8 = 0;
     let mut x: usize = 0;
     while x < n {
-        let base = user_base(p, x, l);
-        top = greater(top, base);
+        let b = user_base(&base, &uses, x, l);
+        top = greater(top, b);
         x += 1;
     }
     top

@@ -2,6 +2,7 @@
 use Prim.Native.Nat.{_-_}
 use Rattle.rules.proofs.Place.{GreatestSoFar, greatest-start, greatest-next, greatest-ends}
 use Rattle.rules.specs.Choice.{if_then_else_}
+use Rattle.rules.specs.Mask.{hasBit}
 use Rattle.rules.specs.Place.{at}
 use Rattle.rules.specs.Plan.{usersBase, declares}
 use borrow.Author.Needs.{needs}
@@ -9,13 +10,13 @@ use Rattle.plan.proofs.ceilings.users_base.Statement.{statement}
 use Rattle.plan.proofs.ceilings.users_base.Tie as tie
 
 abbrev Inv-loop : tie.InvT-loop
-Inv-loop p l n top₀ x₀ top x = GreatestSoFar (λ y. if declares p y l then at (p .base) y else 0) n x top
+Inv-loop l n base uses top₀ x₀ top x = GreatestSoFar (λ y. if hasBit (at uses y) l then at base y else 0) n x top
 
 abbrev μ-loop : tie.MeasureT-loop
-μ-loop p l n top₀ x₀ top x = n - x
+μ-loop l n base uses top₀ x₀ top x = n - x
 
 pub users-base-spec : {M : Type 1} → statement M
-unfolding usersBase
+unfolding usersBase declares
 users-base-spec =
     tie.close
     (tie.spec

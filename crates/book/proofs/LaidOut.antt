@@ -1,15 +1,14 @@
 -- The ways through the code over the contents: counts, bodies one after the other, and the layout. Assumes nothing.
 use mathlib.Core.Path.{_≡_, refl, sym, _∙_, ap, ap₂}
-use mathlib.Core.Bool.{Bool, true, false, not, _||_}
+use mathlib.Core.Bool.{Bool, true, not, _||_}
 use mathlib.Core.List.{List}
-use Prim.Native.Nat.{ℕ, suc, _+_, _*_, _^_, _≤_, _<_}
+use Prim.Native.Nat.{ℕ, _+_, _*_, _^_, _≤_, _<_}
 use native.Mathlib.Nat.{mul-le-mul}
 use native.Mathlib.Numerals.{add-one}
 use native.Mathlib.Omega.{arith}
 use lib.Dec.{eqb, ltb}
 use lib.ListN.{length}
 use borrow.Author.Tests.{lt-ltb, le-ltb, eq-eqb, ne-eqb}
-use Rattle.rules.specs.Choice.{if_then_else_}
 use Rattle.rules.specs.Plan.{countFault}
 use Rattle.rules.specs.Book.{contents, kindAt, countAt, offsetAt, sizeOf, bodyAt, layoutFault}
 use Rattle.rules.proofs.Choice.{if-true, if-false}

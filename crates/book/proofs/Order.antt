@@ -1,7 +1,6 @@
 -- The order of 1 to 9: each check is asked where those before it found no offender. Assumes nothing.
-use mathlib.Core.Path.{_≡_, refl, sym, _∙_, ap, ap₂}
-use mathlib.Core.Bool.{Bool, true, false, not, _||_}
-use mathlib.Core.List.{List, [], _∷_, _++_}
+use mathlib.Core.Path.{_≡_, sym, _∙_, ap, ap₂}
+use mathlib.Core.List.{List, _++_}
 use Prim.Native.Nat.{ℕ, _+_, _*_, _-_, _/_, _≤_, _<_}
 use native.Mathlib.Omega.{arith}
 use lib.Dec.{ltb, eqb}
@@ -21,7 +20,7 @@ use Rattle.rules.specs.declared.answer.Loaded.{Loaded}
 use Rattle.rules.specs.declared.answer.Checked.{Checked}
 use Rattle.rules.specs.declared.refusal.Refusal.{Refusal}
 use Rattle.rules.specs.declared.refusal.Refusal.the-variants.{ShortBook, WrongCount, WrongLayout, WrongEvent, ShortRows}
-use Rattle.rules.proofs.Choice.{or-false, if-false}
+use Rattle.rules.proofs.Choice.{or-false}
 use Rattle.rules.proofs.Checks.{AllClean, clean, check-left, check-right, check-none, check-finds, check-passes, one-finds, one-passes}
 use Rattle.rules.proofs.Loaded.{load-refused, load-passed, load-plan}
 use Rattle.book.specs.Laid.{Laid}

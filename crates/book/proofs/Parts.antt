@@ -1,10 +1,9 @@
 -- The bodies of a book that is laid out right: each lies within it, and gives its records. Assumes nothing.
-use mathlib.Core.Path.{_≡_, refl, sym, _∙_, ap}
+use mathlib.Core.Path.{_≡_, refl, sym, _∙_}
 use mathlib.Core.List.{List}
-use Prim.Native.Nat.{ℕ, _+_, _*_, _-_, _≤_, _<_}
+use Prim.Native.Nat.{ℕ, _+_, _*_, _≤_}
 use native.Mathlib.Omega.{arith}
 use lib.ListN.{length, take, drop, length-drop}
-use Rattle.rules.specs.Capacity.{maxTasks, maxLocks, maxUses}
 use Rattle.rules.specs.Choice.{if_then_else_}
 use Rattle.rules.specs.Place.{renewed}
 use Rattle.rules.specs.Book.{word, long, countAt, sizeOf, bodyAt, wordsAt, longsAt}

@@ -2,7 +2,7 @@
 use crate::number::long_at;
 use crate::number::word_at;
 ghost use mathlib.Core.Path.{_≡_};
-ghost use Prim.Native.Nat.{_+_, _*_, _<_, _≤_};
+ghost use Prim.Native.Nat.{_*_, _<_, _≤_};
 ghost use lib.ListN.{length};
 ghost use Rattle.rules.specs.Book.{contents, kindAt, countAt, offsetAt, sizeOf, bodyAt};
 

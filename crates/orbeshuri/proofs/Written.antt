@@ -1,12 +1,11 @@
 -- The text that the program writes. Assumes nothing.
-use mathlib.Core.Path.{_≡_, refl, sym, _∙_, ap, subst}
+use mathlib.Core.Path.{_≡_, refl, sym, _∙_, ap}
 use mathlib.Core.List.{List}
 use Prim.Native.Nat.{ℕ, _≤_, _<_, min}
 use native.Mathlib.Omega.{arith}
 use lib.ListN.{length, take, replicate, length-replicate}
 use lib.Seq.{length-take-le}
 use Rattle.rules.specs.Capacity.{maxTasks}
-use Rattle.rules.specs.Load.{blankPlan}
 use Rattle.rules.specs.Book.{checkOf, checkedAs, checkedOf, largestBook}
 use Rattle.rules.specs.Replay.{ranAs, replayAs, replayOf}
 use Rattle.rules.specs.Run.{Ran}

@@ -1,12 +1,10 @@
 -- The ways through the code over sets of locks. Assumes nothing.
-use mathlib.Core.Path.{_≡_, refl, sym, _∙_, ap}
-use mathlib.Core.Bool.{Bool, true, false, _&&_}
+use mathlib.Core.Path.{_≡_, sym, _∙_}
+use mathlib.Core.Bool.{Bool, true, false}
 use Prim.Native.Nat.{ℕ, _+_, _*_, _/_, _%_, _^_, _≤_, _<_}
 use native.Mathlib.Nat.{lt-of-lt-of-le, div-eq-of-lt, mod-eq-of-lt, one-mul}
-use native.Mathlib.Omega.{arith}
 use lib.Pow.{pow-mono, pow-lt}
 use lib.Dec.{ltb}
-use Rattle.rules.specs.Choice.{if_then_else_}
 use Rattle.rules.specs.Place.{at}
 use Rattle.rules.specs.Mask.{hasBit, withBit}
 use Rattle.rules.specs.Plan.{declares}

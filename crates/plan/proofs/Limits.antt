@@ -1,13 +1,9 @@
 -- The loops that look for a lower user and for the longest limit. A plan's tables end before its counts do where a plan is unsound: past them no task is a user, and a limit is 0. Assumes nothing.
-use mathlib.Core.Path.{_≡_, refl, sym, _∙_, ap}
-use mathlib.Core.Bool.{Bool, true, false, _&&_}
+use mathlib.Core.Path.{_≡_, refl, sym, _∙_}
+use mathlib.Core.Bool.{Bool, true, false}
 use Prim.Native.Nat.{ℕ, _≤_, _<_, min}
-use native.Mathlib.Omega.{arith}
-use lib.Dec.{leb, ltb}
 use lib.ListN.{length}
-use Rattle.rules.specs.Choice.{if_then_else_}
 use Rattle.rules.specs.Place.{at, any}
-use Rattle.rules.specs.Mask.{hasBit}
 use Rattle.rules.specs.Plan.{declares}
 use Rattle.rules.specs.Bound.{lowerAt, lowerUser, mayBlock, limitIf, longestLimit}
 use Rattle.rules.specs.declared.plan.Plan.{Plan}

@@ -1,13 +1,12 @@
 -- The order of the load: each check is asked where those before it found no offender. Assumes nothing.
 use mathlib.Core.Path.{_≡_, refl, sym, _∙_, ap}
-use mathlib.Core.List.{List, [], _∷_}
+use mathlib.Core.List.{List}
 use Prim.Native.Nat.{ℕ, _+_, _≤_, _<_}
 use native.Mathlib.Omega.{arith}
 use lib.ListN.{length, replicate}
-use lib.Dec.{ltb}
 use Rattle.rules.specs.Capacity.{maxTasks, maxLocks}
 use Rattle.rules.specs.Place.{at, firstFrom, renewed, tabulate}
-use Rattle.rules.specs.Refusal.{Check, firstFault}
+use Rattle.rules.specs.Refusal.{firstFault}
 use Rattle.rules.specs.Plan.{ceilingFault}
 use Rattle.rules.specs.Load.{taskBase, lockCeiling, lockLimit, countFaultOf, taskFaultAt, lockFaultAt, useFault, masksOf, planOf, recordChecks, loadChecks, passedLoad, refusedLoad, loadedAs, loadOf}
 use Rattle.rules.specs.declared.plan.Plan.{Plan}

@@ -1,5 +1,5 @@
 -- Demands 1 to 3, said of what `step` and `replay` return, by the contracts that their callers read. Assumes nothing.
-use mathlib.Core.Path.{_≡_, refl, sym, _∙_, ap, subst}
+use mathlib.Core.Path.{_≡_, refl, sym, subst}
 use mathlib.Core.Logic.{_≢_, _↔_}
 use mathlib.Core.Bool.{true}
 use mathlib.Core.List.{List}
@@ -13,7 +13,6 @@ use Rattle.rules.specs.Plan.{Obeys}
 use Rattle.rules.specs.Eager.{eagerTest}
 use Rattle.rules.specs.Figures.{figuresOf}
 use Rattle.rules.specs.History.{eventAt, eagerAt, lazyAt, runnerAt, acceptedAt}
-use Rattle.rules.specs.Step.{stepOf}
 use Rattle.rules.specs.Run.{Ran}
 use Rattle.rules.specs.Replay.{ranAs}
 use Rattle.rules.specs.Demand2.{Outranked, Demand2}

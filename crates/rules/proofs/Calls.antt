@@ -1,39 +1,37 @@
 -- A lazy call is made exactly where another released task strictly outranks the restored priority, and both counts are the history's. Assumes nothing.
-use mathlib.Core.Path.{_≡_, refl, sym, _∙_, ap, ap₂, subst}
-use mathlib.Core.Logic.{_≢_, _⊎_, ⊎-elim}
+use mathlib.Core.Path.{_≡_, refl, sym, _∙_, ap}
+use mathlib.Core.Logic.{_≢_, ⊎-elim}
 use mathlib.Core.Bool.{Bool, true, false, not, _&&_}
 use mathlib.Core.List.{List}
-use Prim.Native.Nat.{ℕ, zero, suc, _+_, _≤_, _<_}
+use Prim.Native.Nat.{ℕ, zero, suc, _+_, _<_}
 use native.Mathlib.Nat.{eq-zero-or-pos}
 use native.Mathlib.Omega.{arith}
 use lib.Dec.{eqb, ltb}
-use borrow.Author.Tests.{ltb-true, ltb-false, lt-ltb, le-ltb, eqb-true, eqb-false, eq-eqb, ne-eqb, not-true}
-use Rattle.rules.specs.Capacity.{maxAccepted, nobody}
+use borrow.Author.Tests.{ltb-true, lt-ltb, eqb-false, ne-eqb, not-true}
+use Rattle.rules.specs.Capacity.{maxAccepted}
 use Rattle.rules.specs.Choice.{if_then_else_}
-use Rattle.rules.specs.Place.{at, any, greatest, sum}
+use Rattle.rules.specs.Place.{at, greatest, sum}
 use Rattle.rules.specs.Refusal.{numberOf}
 use Rattle.rules.specs.Plan.{Obeys}
 use Rattle.rules.specs.Figures.{Figures, figuresOf, priorityOf, rankOf}
 use Rattle.rules.specs.Tests.{refusalOf}
 use Rattle.rules.specs.Move.{eagerCalls, movedOf}
-use Rattle.rules.specs.Eager.{runningOf, settle, eagerTest, eagerStep}
+use Rattle.rules.specs.Eager.{runningOf, eagerTest}
 use Rattle.rules.specs.Lazy.{Words, wordsOf, callsFor, backOf, runsOn, switched, waits, arrives, takes, gives, returns, wordsAfter, lazyCall}
 use Rattle.rules.specs.Sound.{keptOf, Worded, Steady}
 use Rattle.rules.specs.Step.{afterOf, answered, actOf, stepOf}
-use Rattle.rules.specs.Answer.{testedNumber, answerNumber, answerCalls}
+use Rattle.rules.specs.Answer.{testedNumber, answerNumber}
 use Rattle.rules.specs.History.{eventAt, eagerAt, lazyAt, acceptedAt, outranked, callsDue, lazyCount, eagerCount}
 use Rattle.rules.specs.Demand2.{Outranked}
 use Rattle.rules.specs.declared.plan.Plan.{Plan}
 use Rattle.rules.specs.declared.state.State.{State}
 use Rattle.rules.specs.declared.answer.Tested.{Tested}
-use Rattle.rules.specs.declared.answer.Answer.{Answer}
-use Rattle.rules.specs.declared.answer.Stepped.{Stepped}
 use Rattle.rules.specs.declared.refusal.Refusal.{Refusal}
 use Rattle.rules.specs.declared.event.Event.{Event}
 use Rattle.rules.specs.declared.event.Event.the-variants.{Release, Acquire, Unlock, Work, Finish, Tick}
-use Rattle.rules.proofs.Choice.{if-true, if-false, by-test, and-true, true-and, not-so, lt-or-le}
-use Rattle.rules.proofs.Place.{some-any, false-any, greatest-all, greatest-some}
-use Rattle.rules.proofs.Passed.{Givable, passed-room, allowed, refused-not}
+use Rattle.rules.proofs.Choice.{by-test, and-true, true-and, not-so}
+use Rattle.rules.proofs.Place.{some-any, false-any, greatest-some}
+use Rattle.rules.proofs.Passed.{Givable, passed-room, allowed}
 use Rattle.rules.proofs.Figured.{inside, calls-moved}
 use Rattle.rules.proofs.Worded as Worded
 use Rattle.rules.proofs.Rules.{call-below, no-call, below-call, rank-out, rank-in, kept-own, kept-other}

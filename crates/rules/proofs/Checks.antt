@@ -1,12 +1,11 @@
 -- Checks in order: what the first that finds an offender says, and what is known where none does. Assumes nothing.
-use mathlib.Core.Path.{_≡_, refl, sym, _∙_, ap}
+use mathlib.Core.Path.{_≡_, refl, sym, _∙_}
 use mathlib.Core.Bool.{Bool, true, false}
 use mathlib.Core.List.{List, [], _∷_, _++_}
 use Prim.Native.Nat.{ℕ, _+_, _≤_, _<_}
 use native.Mathlib.Omega.{arith}
 use lib.Dec.{ltb}
 use borrow.Author.Tests.{ltb-false, lt-ltb, le-ltb}
-use Rattle.rules.specs.Choice.{if_then_else_}
 use Rattle.rules.specs.Place.{firstFrom}
 use Rattle.rules.specs.Refusal.{Check, found, firstFault}
 use Rattle.rules.specs.declared.refusal.Refusal.{Refusal}

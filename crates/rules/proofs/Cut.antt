@@ -1,8 +1,8 @@
 -- A book that is longer than the largest one is refused for its front alone, as it is for the whole of it. Assumes nothing.
 use mathlib.Core.Path.{_≡_, refl, sym, _∙_, ap, ap₂}
 use mathlib.Core.Logic.{⊎-elim}
-use mathlib.Core.Bool.{Bool, true, false, not, _||_}
-use mathlib.Core.List.{List, _∷_, _++_}
+use mathlib.Core.Bool.{Bool, true, false, not}
+use mathlib.Core.List.{List}
 use Prim.Native.Nat.{ℕ, zero, suc, _+_, _*_, _≤_, _<_}
 use native.Mathlib.Omega.{arith}
 use lib.Dec.{eqb, ltb}
@@ -12,7 +12,6 @@ use borrow.Author.Tests.{lt-ltb, le-ltb, ltb-false, ne-eqb}
 use Rattle.rules.specs.Capacity.{maxTasks, maxLocks, maxUses, maxEvents}
 use Rattle.rules.specs.Choice.{if_then_else_}
 use Rattle.rules.specs.Place.{at, firstFrom}
-use Rattle.rules.specs.Refusal.{Check, firstFault}
 use Rattle.rules.specs.Plan.{most, countFault}
 use Rattle.rules.specs.Book.{contents, kindAt, countAt, offsetAt, sizeOf, bodyAt, layoutFault, contentsChecks, checkOf, largestBook}
 use Rattle.rules.specs.declared.refusal.Refusal.{Refusal}

@@ -1,11 +1,10 @@
 -- Demand 2 holds: of every plan that obeys the rules, every list of events and every place of it. Assumes nothing.
 use mathlib.Core.Path.{_≡_, refl, sym, _∙_, ap, ap₂, subst}
 use mathlib.Core.Logic.{_≢_, _⊎_, inl, inr, ⊎-elim, _↔_}
-use mathlib.Core.Bool.{Bool, true, false, not, _&&_, _||_}
-use mathlib.Core.List.{List, [], _∷_}
-use Prim.Native.Nat.{ℕ, zero, suc, _+_, _≤_, _<_}
+use mathlib.Core.Bool.{Bool, true, false, not, _||_}
+use mathlib.Core.List.{List}
+use Prim.Native.Nat.{ℕ, _≤_, _<_}
 use native.Mathlib.Nat.{eq-zero-or-pos}
-use native.Mathlib.Decide.{ℕ-discrete}
 use native.Mathlib.Omega.{arith}
 use lib.Dec.{eqb, leb, ltb}
 use borrow.Author.Tests.{eqb-true, eqb-false, leb-false, not-false, ne-eqb}
@@ -14,22 +13,20 @@ use Rattle.rules.specs.Choice.{if_then_else_}
 use Rattle.rules.specs.Place.{at, greatest}
 use Rattle.rules.specs.Refusal.{numberOf, firstTrue}
 use Rattle.rules.specs.Plan.{Obeys, declares}
-use Rattle.rules.specs.Figures.{Figures, figuresOf, holds, priorityOf, rankOf}
-use Rattle.rules.specs.Tests.{elsewhere, notNewest, pastLimit, testsOf, releaseOrder, acquireOrder, unlockOrder, workOrder, finishOrder, refusalOf}
-use Rattle.rules.specs.Move.{movedOf}
+use Rattle.rules.specs.Figures.{Figures, figuresOf, holds, rankOf}
+use Rattle.rules.specs.Tests.{notNewest, pastLimit, testsOf, releaseOrder, acquireOrder, unlockOrder, workOrder, finishOrder, refusalOf}
 use Rattle.rules.specs.Eager.{runningOf, eagerTest}
 use Rattle.rules.specs.Lazy.{wordsOf, callsFor, backOf, lazyCall}
 use Rattle.rules.specs.Sound.{keptOf, savedOf, Steady}
 use Rattle.rules.specs.Step.{afterOf, answered, actOf, stepOf}
 use Rattle.rules.specs.Answer.{testedNumber, answerNumber, answerCalls}
-use Rattle.rules.specs.History.{eventAt, eagerAt, lazyAt, runnerAt, acceptedAt, lazyCount, eagerCount}
-use Rattle.rules.specs.Demand2.{Foremost, NextWord, Outranked, Demand2}
+use Rattle.rules.specs.History.{eventAt, eagerAt, lazyAt, acceptedAt}
+use Rattle.rules.specs.Demand2.{NextWord, Outranked, Demand2}
 use Rattle.rules.specs.declared.plan.Plan.{Plan}
 use Rattle.rules.specs.declared.state.State.{State}
 use Rattle.rules.specs.declared.answer.Tested.{Tested}
-use Rattle.rules.specs.declared.answer.Stepped.{Stepped}
 use Rattle.rules.specs.declared.refusal.Refusal.{Refusal}
-use Rattle.rules.specs.declared.refusal.Refusal.the-variants.{Exhausted, NobodyRuns, Unknown, AlreadyReleased, NotDeclared, AlreadyOpen, OpenElsewhere, RowFull, NotNewest, NoWork, PastLimit, StillOpen}
+use Rattle.rules.specs.declared.refusal.Refusal.the-variants.{Exhausted, NobodyRuns, Unknown, AlreadyReleased, NotDeclared, AlreadyOpen, RowFull, NotNewest, NoWork, PastLimit, StillOpen}
 use Rattle.rules.specs.declared.event.Event.{Event}
 use Rattle.rules.specs.declared.event.Event.the-variants.{Release, Acquire, Unlock, Work, Finish, Tick}
 use Rattle.rules.proofs.Choice.{if-true, if-false, by-test, either, or-false, at-or}

@@ -1,21 +1,21 @@
 -- What holds in every state that the eager scheduler comes to from a fresh start, and that its running task is the best. Assumes nothing.
-use mathlib.Core.Path.{_≡_, refl, sym, _∙_, ap, subst, fun-ext}
-use mathlib.Core.Logic.{_≢_, _⊎_, inl, inr, ⊎-elim}
-use mathlib.Core.Bool.{Bool, true, false, not, _&&_}
-use Prim.Native.Nat.{ℕ, zero, suc, _+_, _≤_, _<_, max}
+use mathlib.Core.Path.{_≡_, refl, sym, _∙_, ap}
+use mathlib.Core.Logic.{_≢_, ⊎-elim}
+use mathlib.Core.Bool.{true, false, not, _&&_}
+use Prim.Native.Nat.{ℕ, _≤_, _<_}
 use native.Mathlib.Nat.{eq-zero-or-pos}
 use native.Mathlib.Numerals.{add-one}
 use native.Mathlib.Omega.{arith}
 use lib.Dec.{eqb}
 use lib.Seq.{getD-set-other}
-use borrow.Author.Tests.{eqb-false, eqb-true, not-true}
+use borrow.Author.Tests.{eqb-false, not-true}
 use Rattle.rules.specs.Capacity.{maxTasks, maxAccepted, nobody}
-use Rattle.rules.specs.Place.{at, any, greatest}
+use Rattle.rules.specs.Place.{at, greatest}
 use Rattle.rules.specs.Row.{has}
 use Rattle.rules.specs.Plan.{Obeys, declares}
-use Rattle.rules.specs.Figures.{Figures, Sized, freshFigures, figuresOf, holds, priorityOf, rankOf}
+use Rattle.rules.specs.Figures.{Figures, Sized, freshFigures, holds, priorityOf, rankOf}
 use Rattle.rules.specs.Elect.{elected}
-use Rattle.rules.specs.Tests.{elsewhere, refusalOf}
+use Rattle.rules.specs.Tests.{elsewhere}
 use Rattle.rules.specs.Move.{movedOf}
 use Rattle.rules.specs.Eager.{runningOf, settle, eagerTest, eagerStep}
 use Rattle.rules.specs.State.{freshOf}
@@ -24,19 +24,19 @@ use Rattle.rules.specs.declared.plan.Plan.{Plan}
 use Rattle.rules.specs.declared.answer.Tested.{Tested}
 use Rattle.rules.specs.declared.event.Event.{Event}
 use Rattle.rules.specs.declared.event.Event.the-variants.{Release, Acquire, Unlock, Work, Finish, Tick}
-use Rattle.rules.proofs.Choice.{untrue, not-so, and-true, at-or, lt-or-le}
+use Rattle.rules.proofs.Choice.{untrue, not-so, and-true, lt-or-le}
 use Rattle.rules.proofs.Place.{zero-past, false-any, greatest-all}
 use Rattle.rules.proofs.Row.{has-none, priority-has}
 use Rattle.rules.proofs.Elect.{Lead, elected-lead, elected-some, elected-one}
 use Rattle.rules.proofs.Obeyed.{few-tasks, base-some, ceiling-user}
-use Rattle.rules.proofs.Passed.{Releasable, Takeable, Givable, Finishable, Allowed, passed-room, allowed}
+use Rattle.rules.proofs.Passed.{Allowed, passed-room, allowed}
 use Rattle.rules.proofs.Figured as Figured
-use Rattle.rules.proofs.Figured.{Stage, inside, holder-out, sized-moved, figured-kept}
+use Rattle.rules.proofs.Figured.{Stage, inside, sized-moved, figured-kept}
 use Rattle.rules.proofs.Worded.{Same, same-priority, cleared}
 use Rattle.rules.proofs.Rules.{rank-out, rank-in, base-priority, plain-priority}
 use Rattle.rules.proofs.SoundKept.{fresh-steady}
 use Rattle.rules.proofs.Urgency as Urgency
-use Rattle.rules.proofs.Urgency.{Standing, Alike, Best, Own, Early, Good}
+use Rattle.rules.proofs.Urgency.{Standing, Alike, Best, Early, Good}
 
 -- the figures of the theory
 abbrev pub standing : Plan → Figures → Standing

@@ -1,21 +1,20 @@
 -- An accepted event keeps what the figures obey, whichever released task runs. Assumes nothing.
 use mathlib.Core.Path.{_≡_, refl, sym, _∙_, ap, ap₂, subst}
 use mathlib.Core.Logic.{_≢_, _⊎_, inl, inr, ⊎-elim}
-use mathlib.Core.Bool.{Bool, true, false, not, _&&_, _||_}
+use mathlib.Core.Bool.{true, false, not, _&&_, _||_}
 use mathlib.Core.List.{List}
-use Prim.Native.Nat.{ℕ, zero, suc, _+_, _-_, _≤_, _<_, _^_}
+use Prim.Native.Nat.{ℕ, suc, _+_, _-_, _≤_, _<_, _^_}
 use native.Mathlib.Nat.{eq-zero-or-pos}
-use native.Mathlib.Numerals.{add-one, sub-one}
+use native.Mathlib.Numerals.{add-one}
 use native.Mathlib.Omega.{arith}
 use lib.Dec.{eqb, ltb}
-use lib.ListN.{length, getD, set, length-set}
+use lib.ListN.{set, length-set}
 use lib.Seq.{getD-set-same, getD-set-other}
 use borrow.Author.Tests.{eqb-true, ltb-false, eq-eqb, ne-eqb}
-use Rattle.rules.specs.Capacity.{maxTasks, maxLocks, maxOpen, maxAccepted, maxDelay, nobody}
-use Rattle.rules.specs.Choice.{if_then_else_}
-use Rattle.rules.specs.Place.{at, any, renewed}
+use Rattle.rules.specs.Capacity.{maxTasks, maxOpen, maxAccepted, maxDelay, nobody}
+use Rattle.rules.specs.Place.{at}
 use Rattle.rules.specs.Row.{newest, under, pushed, has}
-use Rattle.rules.specs.Plan.{Obeys, declares}
+use Rattle.rules.specs.Plan.{Obeys}
 use Rattle.rules.specs.Figures.{Figures, Sized, holds}
 use Rattle.rules.specs.Tests.{elsewhere, pastLimit, refusalOf}
 use Rattle.rules.specs.Move.{eagerCalls, charged, delayed, movedOf}
@@ -24,10 +23,10 @@ use Rattle.rules.specs.declared.plan.Plan.{Plan}
 use Rattle.rules.specs.declared.answer.Tested.{Tested}
 use Rattle.rules.specs.declared.event.Event.{Event}
 use Rattle.rules.specs.declared.event.Event.the-variants.{Release, Acquire, Unlock, Work, Finish, Tick}
-use Rattle.rules.proofs.Choice.{if-true, if-false, by-test, untrue, not-so, and-true, true-and, or-false, or-true, at-or, lt-or-le}
+use Rattle.rules.proofs.Choice.{by-test, untrue, not-so, true-and, or-false, or-true, at-or, lt-or-le}
 use Rattle.rules.proofs.Place.{any-false, length-renewed, renewed-rest, renewed-at}
-use Rattle.rules.proofs.Row.{has-none, has-cases, has-under, has-pushed, places-pushed, places-under, distinct-pushed, distinct-under}
-use Rattle.rules.proofs.Rules.{charged-open, charged-closed, Counts, delayed-cases, delayed-same}
+use Rattle.rules.proofs.Row.{has-none, has-pushed, places-pushed, places-under, distinct-pushed, distinct-under}
+use Rattle.rules.proofs.Rules.{charged-open, charged-closed, delayed-cases, delayed-same}
 use Rattle.rules.proofs.Obeyed.{few-tasks, few-locks}
 use Rattle.rules.proofs.Passed.{Releasable, Takeable, Givable, Workable, Finishable, Allowed, passed-room, allowed}
 

@@ -1,17 +1,15 @@
 -- The lazy scheduler follows the eager one: the same figures, and the same running task. Assumes nothing.
 use mathlib.Core.Path.{_≡_, refl, sym, _∙_, ap, subst, fun-ext}
 use mathlib.Core.Logic.{_≢_}
-use mathlib.Core.Bool.{Bool, true, false}
+use mathlib.Core.Bool.{false}
 use mathlib.Core.List.{List}
-use Prim.Native.Nat.{ℕ, zero, suc, _+_, _≤_, _<_, max}
+use Prim.Native.Nat.{ℕ, zero, suc, _≤_, _<_}
 use native.Mathlib.Numerals.{add-one}
 use native.Mathlib.Omega.{arith}
 use lib.Dec.{ltb}
-use lib.ListN.{set}
 use borrow.Author.Tests.{ltb-false}
 use Rattle.rules.specs.Capacity.{maxTasks, maxAccepted, nobody}
-use Rattle.rules.specs.Choice.{if_then_else_}
-use Rattle.rules.specs.Place.{at, greatest}
+use Rattle.rules.specs.Place.{at}
 use Rattle.rules.specs.Plan.{Obeys}
 use Rattle.rules.specs.Figures.{Figures, figuresOf, freshFigures, priorityOf, rankOf}
 use Rattle.rules.specs.Elect.{elected}
@@ -19,7 +17,7 @@ use Rattle.rules.specs.Tests.{refusalOf}
 use Rattle.rules.specs.Move.{movedOf}
 use Rattle.rules.specs.Eager.{runningOf, settle, eagerTest, eagerStep}
 use Rattle.rules.specs.Lazy.{Words, wordsOf, callsFor, backOf, runsOn, switched, waits, arrives, takes, gives, returns, wordsAfter, lazyCall}
-use Rattle.rules.specs.Sound.{keptOf, Sound, Figured, Worded, Steady}
+use Rattle.rules.specs.Sound.{keptOf, Figured, Worded, Steady}
 use Rattle.rules.specs.Step.{afterOf, answered, actOf, stepOf}
 use Rattle.rules.specs.History.{eventAt, eagerAt, lazyAt}
 use Rattle.rules.specs.declared.plan.Plan.{Plan}
@@ -32,7 +30,7 @@ use Rattle.rules.proofs.Choice.{if-true, if-false, by-test}
 use Rattle.rules.proofs.Place.{zero-past, greatest-all, greatest-least}
 use Rattle.rules.proofs.Elect.{elected-none}
 use Rattle.rules.proofs.Obeyed.{few-tasks, base-some}
-use Rattle.rules.proofs.Passed.{Releasable, Takeable, Givable, Finishable, Allowed, passed-room, allowed}
+use Rattle.rules.proofs.Passed.{Releasable, Takeable, Givable, Finishable, passed-room, allowed}
 use Rattle.rules.proofs.Figured as Figured
 use Rattle.rules.proofs.Worded as Worded
 use Rattle.rules.proofs.Worded.{Same, same-rank}

@@ -1,24 +1,22 @@
 -- The work of lower tasks in a job, by places in the history. Assumes nothing.
 use mathlib.Core.Path.{_≡_, refl, sym, _∙_, ap, subst}
-use mathlib.Core.Logic.{_≢_, _⊎_, inl, inr, ⊎-elim, _↔_}
-use mathlib.Core.Bool.{Bool, true, false, _&&_}
+use mathlib.Core.Logic.{_⊎_, inl, inr, ⊎-elim, _↔_}
+use mathlib.Core.Bool.{true, false, _&&_}
 use mathlib.Core.List.{List}
 use Prim.Native.Nat.{ℕ, zero, suc, _+_, _≤_, _<_}
 use native.Mathlib.Nat.{eq-or-lt-of-le, le-of-suc-le-suc}
 use native.Mathlib.Omega.{arith}
 use lib.Dec.{ltb, eqb}
-use lib.Seq.{getD-set-same}
-use borrow.Author.Tests.{ltb-true, eqb-true, lt-ltb, le-ltb, eq-eqb, ne-eqb}
-use Rattle.rules.specs.Capacity.{maxTasks, maxAccepted, nobody}
+use borrow.Author.Tests.{ltb-true, eqb-true, lt-ltb, le-ltb}
+use Rattle.rules.specs.Capacity.{maxTasks, maxAccepted}
 use Rattle.rules.specs.Choice.{if_then_else_}
 use Rattle.rules.specs.Place.{at, sum}
 use Rattle.rules.specs.Event.{kindOf, amountOf}
 use Rattle.rules.specs.Row.{has}
 use Rattle.rules.specs.Plan.{Obeys}
-use Rattle.rules.specs.Figures.{Figures, freshFigures, figuresOf, holds, priorityOf}
+use Rattle.rules.specs.Figures.{Figures, freshFigures, holds, priorityOf}
 use Rattle.rules.specs.Move.{movedOf}
 use Rattle.rules.specs.Eager.{runningOf, settle, eagerTest, eagerStep}
-use Rattle.rules.specs.Bound.{boundOf}
 use Rattle.rules.specs.Answer.{testedNumber}
 use Rattle.rules.specs.History.{eventAt, eagerAt, lazyAt, runnerAt, acceptedAt, delayNext, delayCount}
 use Rattle.rules.specs.Job.{Accepted, Does, Section, Job, LowerWork, lowerUnits, lowerTotal}
@@ -26,7 +24,7 @@ use Rattle.rules.specs.Demand3.{OneSection, Demand3, SectionsAreOpen}
 use Rattle.rules.specs.declared.plan.Plan.{Plan}
 use Rattle.rules.specs.declared.answer.Tested.{Tested}
 use Rattle.rules.specs.declared.event.Event.{Event}
-use Rattle.rules.specs.declared.event.Event.the-variants.{Release, Acquire, Unlock, Work, Finish, Tick}
+use Rattle.rules.specs.declared.event.Event.the-variants.{Release, Acquire, Unlock, Finish}
 use Rattle.rules.proofs.Choice.{if-true, if-false, by-test, untrue, and-true, true-and, lt-or-le}
 use Rattle.rules.proofs.Place.{below, zero-past}
 use Rattle.rules.proofs.Row.{has-none}
@@ -40,8 +38,8 @@ use Rattle.rules.proofs.Urgency as Urgency
 use Rattle.rules.proofs.Urgency.{Best}
 use Rattle.rules.proofs.EagerRuled.{standing, Ruled, good, stage, runs-best}
 use Rattle.rules.proofs.Follow.{follows}
-use Rattle.rules.proofs.Calls.{zero-passed, passed-zero}
-use Rattle.rules.proofs.Late.{Late, Blocks, lockBy, blocks-open, late-step, late-fresh}
+use Rattle.rules.proofs.Calls.{zero-passed}
+use Rattle.rules.proofs.Late.{Late, lockBy, blocks-open, late-step, late-fresh}
 use Rattle.rules.proofs.OneEvent.{other-kind, works, stays-out, was-open, stays-open, taken-open, was-urgent, delay-one, delay-adds, stays-off}
 
 -- ---- one step of the eager scheduler

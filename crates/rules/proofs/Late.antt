@@ -1,13 +1,12 @@
 -- The delay of a task never passes the units of the section that holds it up, nor the bound. Assumes nothing.
 use mathlib.Core.Path.{_≡_, refl, sym, _∙_, ap, ap₂, subst, subst₂}
 use mathlib.Core.Logic.{_≢_, _⊎_, inl, inr, ⊎-elim}
-use mathlib.Core.Bool.{Bool, true, false}
-use Prim.Native.Nat.{ℕ, zero, suc, _+_, _≤_, _<_, _^_, max}
+use mathlib.Core.Bool.{true, false}
+use Prim.Native.Nat.{ℕ, zero, _+_, _≤_, _<_}
 use native.Mathlib.Omega.{arith}
-use lib.ListN.{set}
-use lib.Seq.{getD-set-same, getD-set-other}
-use Rattle.rules.specs.Capacity.{maxTasks, maxLocks, maxAccepted, maxDelay, nobody}
-use Rattle.rules.specs.Place.{at, any, greatest}
+use lib.Seq.{getD-set-other}
+use Rattle.rules.specs.Capacity.{maxTasks, maxAccepted, maxDelay}
+use Rattle.rules.specs.Place.{at}
 use Rattle.rules.specs.Row.{under, priority}
 use Rattle.rules.specs.Plan.{Obeys, declares}
 use Rattle.rules.specs.Figures.{Figures, freshFigures, holds, priorityOf}
@@ -25,10 +24,10 @@ use Rattle.rules.proofs.Passed.{Releasable, Takeable, Givable, Workable
 use Rattle.rules.proofs.Figured as Figured
 use Rattle.rules.proofs.Figured.{Stage, inside}
 use Rattle.rules.proofs.Worded.{Same, same-priority, cleared}
-use Rattle.rules.proofs.Rules.{base-priority, plain-priority, charged-open, charged-closed, Counts, delayed-cases, blocks, limit-blocks, limit-else}
+use Rattle.rules.proofs.Rules.{base-priority, plain-priority, charged-open, charged-closed, delayed-cases, blocks, limit-blocks, limit-else}
 use Rattle.rules.proofs.Urgency as Urgency
 use Rattle.rules.proofs.Urgency.{Best}
-use Rattle.rules.proofs.EagerRuled.{standing, Ruled, good, stage, runs-best, runner-out}
+use Rattle.rules.proofs.EagerRuled.{standing, Ruled, good, stage, runs-best}
 use Rattle.rules.proofs.Oldest.{oldest, oldest-under, oldest-pushed, oldestOf, oldest-open, same-oldest}
 
 -- x holds up t by the section of this lock

@@ -1,22 +1,21 @@
 -- A plan that is loaded obeys the rules, and lets a task take a lock exactly where a use says so. Assumes nothing.
-use mathlib.Core.Path.{_≡_, refl, sym, _∙_, ap, ap₂, subst}
-use mathlib.Core.Logic.{_≢_, _⊎_, inl, inr, ⊎-elim}
+use mathlib.Core.Path.{_≡_, refl, sym, _∙_, ap, subst}
+use mathlib.Core.Logic.{_≢_, ⊎-elim}
 use mathlib.Core.Bool.{Bool, true, false, not, _&&_, _||_}
 use mathlib.Core.List.{List}
-use Prim.Native.Nat.{ℕ, zero, suc, _+_, _-_, _/_, _%_, _^_, _≤_, _<_}
-use native.Mathlib.Nat.{not-suc-le-zero}
+use Prim.Native.Nat.{ℕ, zero, suc, _^_, _≤_, _<_}
 use native.Mathlib.Omega.{arith}
 use lib.Dec.{eqb, leb, ltb}
-use lib.ListN.{length, getD, set, replicate, length-set, length-replicate, List·getD-eq-default}
+use lib.ListN.{length, length-set, length-replicate, List·getD-eq-default}
 use lib.Seq.{getD-set-same, getD-set-other}
 use lib.Pow.{pow-pos}
-use borrow.Author.Tests.{eqb-true, eqb-false, ltb-true, ltb-false, leb-false, not-false, eq-eqb, ne-eqb}
+use borrow.Author.Tests.{eqb-true, eqb-false, ltb-false, leb-false}
 use Rattle.rules.specs.Capacity.{maxTasks, maxLocks}
 use Rattle.rules.specs.Choice.{if_then_else_}
 use Rattle.rules.specs.Place.{at, any, tabulate}
 use Rattle.rules.specs.Mask.{hasBit, withBit}
-use Rattle.rules.specs.Plan.{most, countFault, taskFault, lockFault, declares, ceilingFault, Obeys}
-use Rattle.rules.specs.Load.{taskBase, taskSecond, lockCeiling, lockSecond, lockLimit, useTask, useLock, useKey, taskFaultAt, lockFaultAt, countFaultOf, useFault, masksOf, planOf, recordChecks, loadChecks, loadedAs, loadOf}
+use Rattle.rules.specs.Plan.{most, countFault, taskFault, lockFault, declares, Obeys}
+use Rattle.rules.specs.Load.{taskBase, lockCeiling, lockSecond, lockLimit, useTask, useLock, taskFaultAt, lockFaultAt, countFaultOf, useFault, masksOf, planOf, recordChecks, loadChecks, loadedAs, loadOf}
 use Rattle.rules.specs.Refusal.{firstFault}
 use Rattle.rules.specs.declared.plan.Plan.{Plan}
 use Rattle.rules.specs.declared.refusal.Refusal.{Refusal}

@@ -1,13 +1,13 @@
 -- What the theory uses of a plan that obeys the rules. Assumes nothing.
-use mathlib.Core.Path.{_≡_, refl, sym, _∙_, ap, subst}
-use mathlib.Core.Bool.{Bool, true, false, not, _&&_, _||_}
-use Prim.Native.Nat.{ℕ, zero, suc, _≤_, _<_, _^_}
+use mathlib.Core.Path.{_≡_}
+use mathlib.Core.Bool.{true, false, not, _||_}
+use Prim.Native.Nat.{ℕ, _≤_, _<_}
 use native.Mathlib.Omega.{arith}
 use lib.Dec.{eqb, ltb}
 use borrow.Author.Tests.{eqb-true, eqb-false, ltb-false, not-false}
 use Rattle.rules.specs.Capacity.{maxTasks, maxLocks}
 use Rattle.rules.specs.Choice.{if_then_else_}
-use Rattle.rules.specs.Place.{at, greatest}
+use Rattle.rules.specs.Place.{at}
 use Rattle.rules.specs.Plan.{most, countFault, taskFault, lockFault, declares, users, usersBase, ceilingFault, Obeys}
 use Rattle.rules.specs.declared.plan.Plan.{Plan}
 use Rattle.rules.proofs.Choice.{if-true, or-false}

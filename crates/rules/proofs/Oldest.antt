@@ -1,7 +1,7 @@
 -- The oldest open lock of a ceiling: the section by which a task of lower base holds up another. Assumes nothing.
-use mathlib.Core.Path.{_≡_, refl, sym, _∙_, ap, ap₂, subst}
-use mathlib.Core.Bool.{Bool, true, false}
-use Prim.Native.Nat.{ℕ, zero, suc, _≤_, _<_, max}
+use mathlib.Core.Path.{_≡_, sym, _∙_, ap, ap₂, subst}
+use mathlib.Core.Bool.{true}
+use Prim.Native.Nat.{ℕ, zero, suc, _≤_, _<_}
 use native.Mathlib.Omega.{arith}
 use lib.Dec.{leb}
 use borrow.Author.Tests.{leb-true, leb-false, le-leb}
@@ -11,7 +11,7 @@ use Rattle.rules.specs.Row.{newest, under, pushed, has, priority}
 use Rattle.rules.specs.Figures.{Figures, holds, priorityOf}
 use Rattle.rules.specs.declared.plan.Plan.{Plan}
 use Rattle.rules.proofs.Choice.{if-true, if-false, by-test}
-use Rattle.rules.proofs.Row.{newest-pushed, under-pushed, has-newest, has-under}
+use Rattle.rules.proofs.Row.{under-pushed, has-newest, has-under}
 use Rattle.rules.proofs.Worded.{Same}
 
 module _ (ceiling : ℕ → ℕ) (base : ℕ) where

@@ -1,11 +1,11 @@
 -- What one accepted event of the eager scheduler does to a job, an open lock, who holds up whom, and a delay. Assumes nothing.
 use mathlib.Core.Path.{_≡_, refl, sym, _∙_, ap, ap₂, subst}
 use mathlib.Core.Logic.{_≢_, _⊎_, inl, inr, ⊎-elim}
-use mathlib.Core.Bool.{Bool, true, false, _&&_, _||_}
-use Prim.Native.Nat.{ℕ, zero, suc, _+_, _≤_, _<_}
+use mathlib.Core.Bool.{Bool, true, _&&_, _||_}
+use Prim.Native.Nat.{ℕ, _+_, _≤_, _<_}
 use native.Mathlib.Omega.{arith}
 use lib.Dec.{ltb, eqb}
-use lib.Seq.{getD-set-same, getD-set-other}
+use lib.Seq.{getD-set-other}
 use borrow.Author.Tests.{ltb-true, eqb-true, eqb-false, lt-ltb, le-ltb, eq-eqb, ne-eqb}
 use Rattle.rules.specs.Capacity.{maxAccepted}
 use Rattle.rules.specs.Choice.{if_then_else_}
@@ -16,16 +16,14 @@ use Rattle.rules.specs.Plan.{Obeys}
 use Rattle.rules.specs.Figures.{Figures, holds, priorityOf}
 use Rattle.rules.specs.Move.{delayed, movedOf}
 use Rattle.rules.specs.Eager.{runningOf}
-use Rattle.rules.specs.Bound.{boundOf}
 use Rattle.rules.specs.History.{delayNext}
 use Rattle.rules.specs.declared.plan.Plan.{Plan}
 use Rattle.rules.specs.declared.event.Event.{Event}
 use Rattle.rules.specs.declared.event.Event.the-variants.{Release, Acquire, Unlock, Work, Finish, Tick}
 use Rattle.rules.proofs.Choice.{if-true, if-false, by-test, either, untrue, and-true, true-and, or-true, at-or}
-use Rattle.rules.proofs.Passed.{Releasable, Takeable, Givable, Workable, Finishable, Allowed}
+use Rattle.rules.proofs.Passed.{Takeable, Workable, Allowed}
 use Rattle.rules.proofs.Figured as Figured
 use Rattle.rules.proofs.Figured.{Stage}
-use Rattle.rules.proofs.Worded.{cleared}
 use Rattle.rules.proofs.Rules.{base-priority, Counts, delayed-more, delayed-same}
 use Rattle.rules.proofs.Urgency.{Best}
 use Rattle.rules.proofs.EagerRuled.{standing, Ruled, stage, runs-best, runner-out}

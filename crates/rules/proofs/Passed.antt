@@ -1,14 +1,13 @@
 -- What an accepted event has passed, and that the tests it passes accept it. Assumes nothing.
 use mathlib.Core.Path.{_≡_, refl, sym, _∙_, ap}
 use mathlib.Core.Logic.{_≢_}
-use mathlib.Core.Bool.{Bool, true, false, not, _&&_, _||_}
+use mathlib.Core.Bool.{Bool, true, false, not}
 use mathlib.Core.List.{List, [], _∷_}
-use Prim.Native.Nat.{ℕ, zero, suc, _+_, _≤_, _<_}
+use Prim.Native.Nat.{ℕ, _<_}
 use native.Mathlib.Omega.{arith}
-use lib.Dec.{eqb, leb, ltb}
+use lib.Dec.{eqb, leb}
 use borrow.Author.Tests.{eqb-true, eqb-false, ltb-false, leb-false, not-false, lt-leb, le-ltb, ne-eqb, eq-eqb}
 use Rattle.rules.specs.Capacity.{maxOpen, maxAccepted, nobody}
-use Rattle.rules.specs.Choice.{if_then_else_}
 use Rattle.rules.specs.Place.{at}
 use Rattle.rules.specs.Refusal.{firstTrue}
 use Rattle.rules.specs.Row.{newest}

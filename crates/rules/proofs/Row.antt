@@ -1,15 +1,14 @@
 -- Laws of a row: what is pushed is the newest, and the old row stands under it. Assumes nothing.
-use mathlib.Core.Path.{_≡_, refl, sym, _∙_, ap, ap₂, subst}
-use mathlib.Core.Logic.{_≢_, _⊎_, inl, inr, ⊎-elim}
-use mathlib.Core.Bool.{Bool, true, false, not, _&&_, _||_}
-use Prim.Native.Nat.{ℕ, zero, suc, _+_, _*_, _-_, _/_, _%_, _^_, _≤_, _<_, max}
-use native.Mathlib.Nat.{not-suc-le-zero}
+use mathlib.Core.Path.{_≡_, refl, sym, _∙_, ap, ap₂}
+use mathlib.Core.Logic.{_⊎_, inl, inr, ⊎-elim}
+use mathlib.Core.Bool.{Bool, true, false, not, _||_}
+use Prim.Native.Nat.{ℕ, zero, suc, _^_, _≤_, _<_, max}
 use native.Mathlib.Omega.{arith}
-use lib.Dec.{eqb, leb}
-use borrow.Author.Tests.{eqb-true, eqb-false, eq-eqb, ne-eqb}
+use lib.Dec.{eqb}
+use borrow.Author.Tests.{eqb-true, eq-eqb}
 use Rattle.rules.specs.Row.{newest, under, pushed, has, priority, saves}
 use Rattle.rules.specs.Sound.{distinct}
-use Rattle.rules.proofs.Choice.{by-test, untrue, and-true, or-false, or-true, lt-or-le}
+use Rattle.rules.proofs.Choice.{by-test, untrue, and-true, or-true}
 
 pub newest-pushed : (row x : ℕ) → x < 256 → newest (pushed row x) ≡ x
 newest-pushed row x h = omega arith

@@ -1,29 +1,26 @@
 -- A fresh start is sound, and every accepted step keeps a state sound: so a run from a fresh start never needs the test, and 10 never occurs there. Assumes nothing.
 use mathlib.Core.Path.{_≡_, refl, sym, _∙_, ap, subst}
-use mathlib.Core.Logic.{_≢_}
 use mathlib.Core.Bool.{Bool, true, false}
 use mathlib.Core.List.{List}
-use Prim.Native.Nat.{ℕ, zero, suc, _+_, _≤_, _<_}
+use Prim.Native.Nat.{ℕ, _+_, _<_}
 use native.Mathlib.Omega.{arith}
 use lib.ListN.{length, set, replicate, length-set, length-replicate}
 use Rattle.rules.specs.Capacity.{maxTasks, maxLocks, maxAccepted, nobody}
-use Rattle.rules.specs.Choice.{if_then_else_}
-use Rattle.rules.specs.Place.{at, greatest}
-use Rattle.rules.specs.Row.{newest, under, pushed, has}
+use Rattle.rules.specs.Place.{at}
+use Rattle.rules.specs.Row.{under, pushed, has}
 use Rattle.rules.specs.Plan.{Obeys}
-use Rattle.rules.specs.Figures.{Figures, Sized, figuresOf, freshFigures, holds, rankOf}
+use Rattle.rules.specs.Figures.{Figures, figuresOf, freshFigures, holds, rankOf}
 use Rattle.rules.specs.Elect.{elected}
 use Rattle.rules.specs.Tests.{refusalOf}
 use Rattle.rules.specs.Move.{movedOf}
-use Rattle.rules.specs.Lazy.{Words, WordsSized, wordsOf, callsFor, backOf, runsOn, switched, waits, arrives, takes, gives, returns, wordsAfter}
+use Rattle.rules.specs.Lazy.{Words, WordsSized, wordsOf, backOf, runsOn, switched, waits, arrives, takes, gives, returns, wordsAfter}
 use Rattle.rules.specs.State.{freshOf}
-use Rattle.rules.specs.Sound.{distinct, Figured, keptOf, savedOf, ownerOf, Worded, Sound, Steady}
+use Rattle.rules.specs.Sound.{distinct, Figured, keptOf, Worded, Sound, Steady}
 use Rattle.rules.specs.SoundTest.{soundTest}
-use Rattle.rules.specs.Step.{afterOf, answered, actOf, stepOf, refusedWith}
+use Rattle.rules.specs.Step.{afterOf, answered, actOf, stepOf}
 use Rattle.rules.specs.declared.plan.Plan.{Plan}
 use Rattle.rules.specs.declared.state.State.{State}
 use Rattle.rules.specs.declared.answer.Tested.{Tested}
-use Rattle.rules.specs.declared.answer.Answer.{Answer}
 use Rattle.rules.specs.declared.answer.Stepped.{Stepped}
 use Rattle.rules.specs.declared.event.Event.{Event}
 use Rattle.rules.specs.declared.event.Event.the-variants.{Release, Acquire, Unlock, Work, Finish, Tick}
@@ -33,7 +30,7 @@ use Rattle.rules.proofs.Row.{has-none}
 use Rattle.rules.proofs.Passed.{passed-room, allowed}
 use Rattle.rules.proofs.Figured.{sized-moved, figured-kept}
 use Rattle.rules.proofs.Worded.{Scene, owner-none, worded-kept}
-use Rattle.rules.proofs.Rules.{rank-in, kept-own, kept-other}
+use Rattle.rules.proofs.Rules.{rank-in}
 use Rattle.rules.proofs.SoundTest.{unsaved-by, sound-is}
 
 -- ---- there stays a place for every task and lock

@@ -1,19 +1,15 @@
 -- The test of soundness holds exactly where every named condition of Sound.antt does. Assumes nothing.
-use mathlib.Core.Path.{_≡_, refl, sym, _∙_, ap, ap₂, subst}
-use mathlib.Core.Logic.{_≢_, _⊎_, inl, inr, ⊎-elim, _↔_}
-use mathlib.Core.Bool.{Bool, true, false, not, _&&_}
-use mathlib.Core.List.{List, [], _∷_}
-use Prim.Native.Nat.{ℕ, zero, suc, _+_, _≤_, _<_, _^_}
-use native.Mathlib.Decide.{ℕ-discrete}
-use native.Mathlib.Nat.{eq-zero-or-pos}
+use mathlib.Core.Path.{_≡_, refl, sym, _∙_, ap, subst}
+use mathlib.Core.Logic.{_≢_, ⊎-elim, _↔_}
+use mathlib.Core.Bool.{Bool, true, false, not}
+use mathlib.Core.List.{List}
+use Prim.Native.Nat.{ℕ, zero, suc, _≤_, _<_, _^_}
 use native.Mathlib.Numerals.{add-one}
 use native.Mathlib.Omega.{arith}
-use lib.Dec.{eqb, leb, ltb}
-use lib.ListN.{drop}
+use lib.Dec.{eqb, ltb}
 use borrow.Author.Tests.{eqb-true, eqb-false, leb-true, ltb-true, eq-eqb, ne-eqb, le-leb, lt-ltb, not-true}
 use Rattle.rules.specs.Capacity.{maxOpen, maxAccepted, maxDelay, nobody}
-use Rattle.rules.specs.Choice.{if_then_else_, allTrue}
-use Rattle.rules.specs.Place.{at, every, greatest, zeros}
+use Rattle.rules.specs.Place.{at, every, greatest}
 use Rattle.rules.specs.Row.{newest, under, has, saves}
 use Rattle.rules.specs.Plan.{countFault, taskFault, lockFault, ceilingFault, declares, Obeys}
 use Rattle.rules.specs.Figures.{Figures, figuresOf, holds, rankOf}
@@ -26,7 +22,7 @@ use Rattle.rules.proofs.Choice.{if-true, if-false, by-test, untrue, not
 use Rattle.rules.proofs.Place.{every-true, true-every, spare-at, at-spare}
 use Rattle.rules.proofs.Row.{has-none, has-newest, has-under, has-cases, places-under, saves-none}
 use Rattle.rules.proofs.Figured.{inside, holder-out}
-use Rattle.rules.proofs.Worded.{owner-none, owner-is, owner-some}
+use Rattle.rules.proofs.Worded.{owner-none, owner-is}
 use Rattle.rules.proofs.Rules.{rank-in, kept-own, kept-other}
 
 false-not : (t : Bool) → t ≡ false → not t ≡ true

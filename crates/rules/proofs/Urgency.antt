@@ -1,8 +1,8 @@
 -- The argument of demands 2 and 3, over three figures of a task: its release number, its urgency and how many locks it has open.
 -- One fact carries it, `early`: a task that holds a lock has a base above the urgency of every task released before it. Assumes nothing.
-use mathlib.Core.Path.{_≡_, refl, sym, ap}
-use mathlib.Core.Logic.{_≢_, _⊎_, inl, inr, ⊎-elim}
-use Prim.Native.Nat.{ℕ, suc, _+_, _≤_, _<_}
+use mathlib.Core.Path.{_≡_, ap}
+use mathlib.Core.Logic.{_≢_, ⊎-elim}
+use Prim.Native.Nat.{ℕ, suc, _≤_, _<_}
 use native.Mathlib.Nat.{eq-zero-or-pos}
 use native.Mathlib.Omega.{arith}
 use Rattle.rules.proofs.Choice.{at-or, lt-or-le}

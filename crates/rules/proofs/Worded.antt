@@ -1,41 +1,37 @@
 -- An accepted event keeps the words what the rules give, whichever released task runs; so a sound state stays sound. Assumes nothing.
 use mathlib.Core.Path.{_≡_, refl, sym, _∙_, ap, ap₂, subst}
-use mathlib.Core.Logic.{_≢_, _⊎_, inl, inr, ⊎-elim}
-use mathlib.Core.Bool.{Bool, true, false, not, _&&_, _||_}
+use mathlib.Core.Logic.{_≢_, ⊎-elim}
+use mathlib.Core.Bool.{true, false, _||_}
 use mathlib.Core.List.{List, [], _∷_}
-use Prim.Native.Nat.{ℕ, zero, suc, _+_, _-_, _≤_, _<_, max}
+use Prim.Native.Nat.{ℕ, zero, suc, _+_, _≤_, _<_, max}
 use native.Mathlib.Nat.{eq-zero-or-pos, not-suc-le-zero}
 use native.Mathlib.Numerals.{add-one}
 use native.Mathlib.Decide.{ℕ-discrete}
 use native.Mathlib.Omega.{arith}
-use lib.Dec.{eqb, ltb}
-use lib.ListN.{length, getD, set, length-set, List·getD-eq-default}
+use lib.Dec.{ltb}
+use lib.ListN.{length, set, length-set}
 use lib.Seq.{getD-set-same, getD-set-other}
-use borrow.Author.Tests.{eqb-true, eqb-false, ltb-true, ltb-false, eq-eqb, ne-eqb, lt-ltb, le-ltb}
-use Rattle.rules.specs.Capacity.{maxTasks, maxLocks, maxAccepted, nobody}
+use borrow.Author.Tests.{ltb-false, eq-eqb, ne-eqb}
+use Rattle.rules.specs.Capacity.{maxTasks, nobody}
 use Rattle.rules.specs.Choice.{if_then_else_}
 use Rattle.rules.specs.Place.{at, greatest}
 use Rattle.rules.specs.Row.{newest, under, pushed, has, priority, saves}
 use Rattle.rules.specs.Plan.{Obeys}
 use Rattle.rules.specs.Figures.{Figures, holds, priorityOf, rankOf}
 use Rattle.rules.specs.Elect.{elected}
-use Rattle.rules.specs.Tests.{refusalOf}
 use Rattle.rules.specs.Move.{movedOf}
-use Rattle.rules.specs.Lazy.{Words, WordsSized, wordsOf, callsFor, secondWord, backOf, runsOn, switched, waits, arrives, takes, gives, returns, wordsAfter, lazyCall}
-use Rattle.rules.specs.Sound.{Figured, keptOf, savedOf, ownerOf, Worded, Sound}
-use Rattle.rules.specs.Step.{afterOf}
+use Rattle.rules.specs.Lazy.{Words, WordsSized, callsFor, secondWord, backOf, runsOn, switched, waits, arrives, takes, gives, returns, wordsAfter}
+use Rattle.rules.specs.Sound.{Figured, keptOf, savedOf, ownerOf, Worded}
 use Rattle.rules.specs.declared.plan.Plan.{Plan}
-use Rattle.rules.specs.declared.state.State.{State}
-use Rattle.rules.specs.declared.answer.Tested.{Tested}
 use Rattle.rules.specs.declared.event.Event.{Event}
 use Rattle.rules.specs.declared.event.Event.the-variants.{Release, Acquire, Unlock, Work, Finish, Tick}
 use Rattle.rules.proofs.Choice.{if-true, if-false, by-test, untrue, not-so, at-or, lt-or-le}
-use Rattle.rules.proofs.Place.{greatest-all, greatest-ext}
+use Rattle.rules.proofs.Place.{greatest-ext}
 use Rattle.rules.proofs.Row.{priority-pushed, saves-newest, saves-under, saves-pushed}
 use Rattle.rules.proofs.Rules.{rank-out, rank-in, base-priority, plain-priority, kept-other, kept-own}
 use Rattle.rules.proofs.Elect.{elected-lead, elected-some, elected-one}
 use Rattle.rules.proofs.Obeyed.{few-tasks, few-locks, base-some, base-byte, ceiling-byte}
-use Rattle.rules.proofs.Passed.{Releasable, Takeable, Givable, Workable, Finishable, Allowed, passed-room, allowed}
+use Rattle.rules.proofs.Passed.{Releasable, Takeable, Givable, Finishable, Allowed}
 use Rattle.rules.proofs.Figured as Figured
 
 -- ---- lists

@@ -1,10 +1,9 @@
 -- For every task of every plan the worst case is accepted, and its delay is the bound. Assumes nothing.
 use mathlib.Core.Path.{_≡_, refl, sym, _∙_, ap, subst}
-use mathlib.Core.Logic.{_≢_, _⊎_, inl, inr, ⊎-elim}
-use mathlib.Core.Bool.{Bool, true, false, _&&_, _||_}
+use mathlib.Core.Logic.{_≢_, ⊎-elim}
+use mathlib.Core.Bool.{true, false, _&&_, _||_}
 use mathlib.Core.List.{List, [], _∷_}
-use Prim.Native.Nat.{ℕ, zero, suc, _+_, _≤_, _<_, max}
-use native.Mathlib.Nat.{not-suc-le-zero}
+use Prim.Native.Nat.{ℕ, zero, suc, _+_, _≤_, _<_}
 use native.Mathlib.Numerals.{add-one}
 use native.Mathlib.Omega.{arith}
 use lib.Dec.{eqb, ltb}
@@ -12,36 +11,35 @@ use lib.ListN.{length}
 use lib.Seq.{getD-set-same, getD-set-other}
 use borrow.Author.Tests.{eqb-true, eqb-false, ltb-true, eq-eqb, lt-ltb}
 use Rattle.rules.specs.Capacity.{maxTasks, maxLocks, maxAccepted, nobody}
-use Rattle.rules.specs.Choice.{if_then_else_}
-use Rattle.rules.specs.Place.{at, any, greatest, firstFrom}
+use Rattle.rules.specs.Place.{at, greatest}
 use Rattle.rules.specs.Event.{kindOf}
 use Rattle.rules.specs.Row.{has}
 use Rattle.rules.specs.Plan.{Obeys, declares}
 use Rattle.rules.specs.Figures.{Figures, freshFigures, holds, priorityOf}
-use Rattle.rules.specs.Tests.{elsewhere, pastLimit}
+use Rattle.rules.specs.Tests.{pastLimit}
 use Rattle.rules.specs.Move.{movedOf}
-use Rattle.rules.specs.Eager.{runningOf, eagerTest}
+use Rattle.rules.specs.Eager.{eagerTest}
 use Rattle.rules.specs.Bound.{lowerAt, mayBlock, limitIf, longestLimit, boundOf}
 use Rattle.rules.specs.Answer.{testedNumber}
 use Rattle.rules.specs.History.{eventAt, eagerAt, lazyAt, runnerAt, acceptedAt, delayNext}
-use Rattle.rules.specs.Job.{Accepted, Does, Job}
+use Rattle.rules.specs.Job.{Accepted, Job}
 use Rattle.rules.specs.Demand3.{longestLock, firstLower, worstCase, Reached}
 use Rattle.rules.specs.declared.plan.Plan.{Plan}
 use Rattle.rules.specs.declared.event.Event.{Event}
-use Rattle.rules.specs.declared.event.Event.the-variants.{Release, Acquire, Unlock, Work, Finish, Tick}
-use Rattle.rules.proofs.Choice.{if-true, if-false, by-test, untrue, not-so, and-true, true-and, or-true, at-or, lt-or-le}
+use Rattle.rules.specs.declared.event.Event.the-variants.{Release, Acquire, Work, Finish}
+use Rattle.rules.proofs.Choice.{if-true, if-false, by-test, untrue, not-so, and-true, true-and, or-true, at-or}
 use Rattle.rules.proofs.Place.{zero-past, false-any, greatest-some, first-some}
 use Rattle.rules.proofs.Row.{has-none}
-use Rattle.rules.proofs.Obeyed.{few-tasks, base-some}
+use Rattle.rules.proofs.Obeyed.{few-tasks}
 use Rattle.rules.proofs.Passed.{Releasable, Takeable, Workable, Allowed, accepts}
 use Rattle.rules.proofs.Figured as Figured
-use Rattle.rules.proofs.Worded.{Same, same-priority}
+use Rattle.rules.proofs.Worded.{Same}
 use Rattle.rules.proofs.Rules.{base-priority, plain-priority, block-high, block-user, lower-so, limit-blocks, limit-else}
 use Rattle.rules.proofs.Urgency as Urgency
 use Rattle.rules.proofs.Urgency.{Best}
 use Rattle.rules.proofs.EagerRuled.{standing, same-alike, Ruled, good, pays, stage, best-runs, not-elsewhere}
 use Rattle.rules.proofs.Calls.{passed-zero}
-use Rattle.rules.proofs.OneEvent.{other-kind, delay-one, taken-open}
+use Rattle.rules.proofs.OneEvent.{other-kind, delay-one}
 use Rattle.rules.proofs.Jobs.{ruledAt, lateAt, delays-same, next}
 
 module _ {p : Plan} (O : Obeys p) (es : List Event) where

@@ -1,5 +1,4 @@
 -- What each answer says in document 01's numbers. Assumes nothing.
-use mathlib.Core.Bool.{Bool, true, false}
 use Prim.Native.Nat.{ℕ}
 use Rattle.rules.specs.Choice.{if_then_else_}
 use Rattle.rules.specs.Refusal.{numberOf}

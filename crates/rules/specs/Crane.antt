@@ -21,17 +21,17 @@ use Rattle.rules.specs.Tests.{elsewhere, notNewest, pastLimit, testsOf, 
 use Rattle.rules.specs.Move.{eagerCalls, charged, delayed, movedOf}
 use Rattle.rules.specs.Eager.{runningOf, settle, eagerTest, eagerStep}
 use Rattle.rules.specs.Lazy.{callsFor, runsOn, switched, waits, arrives, takes, gives, returns, wordsAfter, lazyCall}
-use Rattle.rules.specs.Sound.{distinct, keptOf, savedOf, ownerOf}
+use Rattle.rules.specs.Sound.{keptOf, savedOf, ownerOf}
 use Rattle.rules.specs.SoundTest.{taskObeys, lockObeys, spareObeys, obeys, rowTest, ownTest, numberNew, numberTest, taskTest, lockTest, runsTest, headTest, spareTest, soundTest}
 use Rattle.rules.specs.Step.{afterOf, answered, actOf, stepOf}
-use Rattle.rules.specs.Run.{withRow, Ran, onward, runFrom}
+use Rattle.rules.specs.Run.{withRow, onward, runFrom}
 use Rattle.rules.specs.Replay.{replayAs, replayOf}
 use Rattle.rules.specs.History.{eagerAt, lazyAt, runnerAt}
 use Rattle.rules.specs.Bound.{lowerAt, lowerUser, mayBlock, limitIf, longestLimit, boundOf}
 use Rattle.rules.specs.declared.plan.Plan.{Plan}
 use Rattle.rules.specs.declared.state.State.{State}
 use Rattle.rules.specs.declared.event.Event.{Event}
-use Rattle.rules.specs.declared.event.Event.the-variants.{Release, Acquire, Unlock, Work, Finish, Tick}
+use Rattle.rules.specs.declared.event.Event.the-variants.{Release, Acquire, Unlock, Work, Finish}
 use Rattle.rules.specs.declared.answer.Answer.{Answer}
 
 -- Tasks 0 to 3 have bases 1, 3, 5, 7. Lock 0: ceiling 5, limit 4, users 0 and 2. Lock 1: ceiling 3, limit 10, users 0 and 1.

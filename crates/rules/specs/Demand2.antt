@@ -4,7 +4,7 @@
 -- when another released task strictly outranks the restored priority; an acquire never calls."
 use mathlib.Core.Path.{_≡_}
 use mathlib.Core.Logic.{_≢_, _↔_}
-use mathlib.Core.Bool.{Bool, true}
+use mathlib.Core.Bool.{true}
 use mathlib.Core.List.{List}
 use Prim.Native.Nat.{ℕ, _≤_, _<_}
 use Rattle.rules.specs.Capacity.{nobody}
@@ -17,7 +17,6 @@ use Rattle.rules.specs.Step.{stepOf}
 use Rattle.rules.specs.Answer.{testedNumber, answerNumber, answerCalls}
 use Rattle.rules.specs.History.{eventAt, eagerAt, lazyAt, runnerAt, acceptedAt, lazyCount, eagerCount}
 use Rattle.rules.specs.declared.plan.Plan.{Plan}
-use Rattle.rules.specs.declared.state.State.{State}
 use Rattle.rules.specs.declared.event.Event.{Event}
 use Rattle.rules.specs.declared.event.Event.the-variants.{Acquire, Unlock}
 

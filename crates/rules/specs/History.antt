@@ -1,5 +1,5 @@
 -- The history of a list of events from a fresh start. A place is an event's number in the list, from 0; a refused event changes nothing. Assumes nothing.
-use mathlib.Core.Bool.{Bool, true, false, not, _&&_}
+use mathlib.Core.Bool.{Bool, not, _&&_}
 use mathlib.Core.List.{List}
 use Prim.Native.Nat.{ℕ, zero, suc, _+_}
 use lib.Dec.{eqb, ltb}

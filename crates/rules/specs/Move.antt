@@ -1,5 +1,5 @@
 -- What an accepted event makes of the figures, with task r running. Both schedulers use it. Assumes nothing.
-use mathlib.Core.Bool.{Bool, true, false, _&&_}
+use mathlib.Core.Bool.{_&&_}
 use Prim.Native.Nat.{ℕ, _+_, _-_, min}
 use lib.Dec.{ltb}
 use lib.ListN.{set}

@@ -3,7 +3,7 @@ use mathlib.Core.List.{List}
 use Prim.Native.Nat.{ℕ}
 use lib.ListN.{length}
 use Rattle.rules.specs.State.{freshOf}
-use Rattle.rules.specs.Book.{countAt, planIn, eventsOf, checkOf}
+use Rattle.rules.specs.Book.{planIn, eventsOf, checkOf}
 use Rattle.rules.specs.Run.{Ran, runFrom}
 use Rattle.rules.specs.declared.plan.Plan.{Plan}
 use Rattle.rules.specs.declared.event.Event.{Event}

@@ -11,7 +11,6 @@ use Rattle.rules.specs.declared.state.State.{State}
 use Rattle.rules.specs.declared.event.Event.{Event}
 use Rattle.rules.specs.declared.answer.Answer.{Answer}
 use Rattle.rules.specs.declared.answer.Verdict.{Verdict}
-use Rattle.rules.specs.declared.answer.Stepped.{Stepped}
 
 -- "a row of four bytes is written: running task (255 for nobody), user word, next word, 1 for a lazy call or else 0"
 unfoldable pub withRow : List ℕ → ℕ → Head → Bool → List ℕ

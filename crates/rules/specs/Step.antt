@@ -1,6 +1,5 @@
 -- A single step: "any plan, any state, any event". Assumes nothing.
 use mathlib.Core.Bool.{Bool}
-use Prim.Native.Nat.{ℕ}
 use Rattle.rules.specs.Choice.{if_then_else_}
 use Rattle.rules.specs.Figures.{figuresOf}
 use Rattle.rules.specs.Tests.{refusalOf}

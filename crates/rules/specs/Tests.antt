@@ -1,6 +1,6 @@
 -- "Order for an event: 10, 11, 20; release 13, 14; acquire 12, 13, 15, 16, 17, 18; unlock 12, 13, 19; work 12, 21; finish 12, 22."
 -- The tests after 10, of an event in a state whose figures are f, with task r running. Both schedulers use them. Assumes nothing.
-use mathlib.Core.Bool.{Bool, true, false, not, _&&_, _||_}
+use mathlib.Core.Bool.{Bool, not, _&&_, _||_}
 use mathlib.Core.List.{List, [], _∷_}
 use Prim.Native.Nat.{ℕ, _+_}
 use lib.Dec.{eqb, leb, ltb}

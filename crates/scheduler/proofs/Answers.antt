@@ -1,19 +1,17 @@
 -- An event is refused with what its tests say, or accepted: the ways through the code of each event. Assumes nothing.
-use mathlib.Core.Path.{_≡_, refl, sym, _∙_, ap}
-use mathlib.Core.Bool.{Bool, false}
+use mathlib.Core.Path.{_≡_, sym, _∙_, ap}
+use mathlib.Core.Bool.{false}
 use mathlib.Core.List.{List}
 use Prim.Native.Nat.{ℕ, _≤_}
 use Rattle.rules.specs.Capacity.{maxLocks}
 use Rattle.rules.specs.Place.{at}
-use Rattle.rules.specs.Refusal.{firstTrue}
 use Rattle.rules.specs.Lazy.{wordsOf, lazyCall}
-use Rattle.rules.specs.Step.{afterOf, answered, refusedWith}
+use Rattle.rules.specs.Step.{afterOf, answered}
 use Rattle.rules.specs.declared.plan.Plan.{Plan}
 use Rattle.rules.specs.declared.state.Head.{Head}
 use Rattle.rules.specs.declared.state.State.{State}
 use Rattle.rules.specs.declared.event.Event.{Event}
 use Rattle.rules.specs.declared.answer.Tested.{Tested}
-use Rattle.rules.specs.declared.answer.Stepped.{Stepped}
 use Rattle.rules.specs.declared.refusal.Refusal.{Refusal}
 use Rattle.rules.specs.Whole.{planWith, stateWith}
 use Rattle.scheduler.specs.Whole.{steppedAs, refusedAs, acceptedAs, answeredAs}

@@ -1,21 +1,20 @@
 -- A book that passes the check, and its replay. Assumes nothing.
-use mathlib.Core.Path.{_≡_, refl, sym, _∙_, ap, ap₂, subst}
-use mathlib.Core.Bool.{Bool, true, false, not}
-use mathlib.Core.List.{List, [], _∷_, _++_}
-use Prim.Native.Nat.{ℕ, zero, suc, _+_, _-_, _*_, _/_, _≤_, _<_}
+use mathlib.Core.Path.{_≡_, refl, sym, _∙_, ap}
+use mathlib.Core.List.{List}
+use Prim.Native.Nat.{ℕ, _+_, _-_, _*_, _/_, _≤_}
 use native.Mathlib.Omega.{arith}
-use lib.Dec.{eqb, ltb}
+use lib.Dec.{eqb}
 use lib.ListN.{length, take, drop, length-drop}
 use lib.Seq.{take-all}
 use borrow.Author.Tests.{eqb-true, ltb-false, not-false}
 use Rattle.rules.specs.Capacity.{maxLocks}
 use Rattle.rules.specs.Choice.{if_then_else_}
-use Rattle.rules.specs.Place.{from, tabulate}
+use Rattle.rules.specs.Place.{from}
 use Rattle.rules.specs.Plan.{Obeys}
-use Rattle.rules.specs.Load.{lockLimit, loadChecks, planOf}
-use Rattle.rules.specs.Book.{countAt, sizeOf, bodyAt, layoutFault, tasksOf, locksOf, usesOf, eventBody, recordFault, recordEvent, eventsOf, planIn, contentsChecks, eventChecks, checkOf, checkedAs, checkedOf}
+use Rattle.rules.specs.Load.{lockLimit, planOf}
+use Rattle.rules.specs.Book.{countAt, sizeOf, bodyAt, layoutFault, eventBody, recordEvent, eventsOf, planIn, contentsChecks, eventChecks, checkOf, checkedAs, checkedOf}
 use Rattle.rules.specs.State.{freshOf}
-use Rattle.rules.specs.Run.{Ran, runFrom}
+use Rattle.rules.specs.Run.{runFrom}
 use Rattle.rules.specs.Replay.{replayAs, replayOf, ranAs}
 use Rattle.rules.specs.declared.plan.Plan.{Plan}
 use Rattle.rules.specs.declared.state.State.{State}

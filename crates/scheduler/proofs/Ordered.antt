@@ -6,9 +6,7 @@ use Prim.Native.Nat.{ℕ, zero, suc, _+_, _-_, _≤_, _<_}
 use native.Mathlib.Nat.{not-suc-le-zero}
 use native.Mathlib.Omega.{arith}
 use lib.Dec.{eqb, ltb}
-use lib.ListN.{length, List·getD-eq-default}
 use borrow.Author.Tests.{eq-eqb, ne-eqb, lt-ltb, le-ltb}
-use Rattle.rules.specs.Capacity.{maxLocks}
 use Rattle.rules.specs.Choice.{if_then_else_}
 use Rattle.rules.specs.Place.{at}
 use Rattle.rules.specs.Row.{newest, under}

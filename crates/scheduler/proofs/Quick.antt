@@ -1,14 +1,14 @@
 -- In a sound state the tests as the code makes them are document 01's: nobody's place is past the last, a lock's owner is the task whose row it stands in, and the open sections are those along the row. Assumes nothing.
-use mathlib.Core.Path.{_≡_, refl, sym, _∙_, ap, ap₂, subst}
-use mathlib.Core.Logic.{_≢_, _⊎_, inl, inr, ⊎-elim}
+use mathlib.Core.Path.{_≡_, refl, sym, _∙_, ap, ap₂}
+use mathlib.Core.Logic.{⊎-elim}
 use mathlib.Core.Bool.{Bool, true, false, not, _&&_, _||_}
-use mathlib.Core.List.{List, [], _∷_}
-use Prim.Native.Nat.{ℕ, zero, suc, _+_, _≤_, _<_}
+use mathlib.Core.List.{List}
+use Prim.Native.Nat.{ℕ, zero, suc, _+_, _<_}
 use native.Mathlib.Decide.{ℕ-discrete}
 use native.Mathlib.Numerals.{add-one}
 use native.Mathlib.Omega.{arith}
 use lib.Dec.{eqb, leb, ltb}
-use borrow.Author.Tests.{eqb-true, eqb-false, ltb-true, eq-eqb, ne-eqb, le-leb, lt-leb}
+use borrow.Author.Tests.{eqb-true, eqb-false, eq-eqb, ne-eqb, le-leb, lt-leb}
 use Rattle.rules.specs.Capacity.{maxTasks, maxOpen, nobody}
 use Rattle.rules.specs.Choice.{if_then_else_}
 use Rattle.rules.specs.Place.{at, any}
@@ -17,13 +17,12 @@ use Rattle.rules.specs.Mask.{hasBit}
 use Rattle.rules.specs.Plan.{declares}
 use Rattle.rules.specs.Refusal.{firstTrue}
 use Rattle.rules.specs.Figures.{Figures, figuresOf, holds}
-use Rattle.rules.specs.Lazy.{Words, wordsOf}
 use Rattle.rules.specs.Tests.{elsewhere, notNewest, pastLimit, testsOf, releaseOrder, acquireOrder, unlockOrder, workOrder, finishOrder}
-use Rattle.rules.specs.Sound.{Figured, ownerOf, Worded, Sound, Steady}
+use Rattle.rules.specs.Sound.{Figured, Steady}
 use Rattle.rules.specs.declared.plan.Plan.{Plan}
 use Rattle.rules.specs.declared.state.State.{State}
 use Rattle.rules.specs.declared.event.Event.{Event}
-use Rattle.rules.proofs.Choice.{by-test, untrue, not-so, and-true, true-and, or-true, lt-or-le}
+use Rattle.rules.proofs.Choice.{by-test, untrue, and-true, true-and}
 use Rattle.rules.proofs.Place.{any-some, some-any}
 use Rattle.rules.proofs.Row.{has-none, has-newest, has-under, has-cases}
 use Rattle.rules.proofs.Obeyed.{few-tasks}

@@ -1,24 +1,21 @@
 -- What passes the tests of an event has what its accepted code asks for; and a sound state has what the event asks for. Assumes nothing.
-use mathlib.Core.Path.{_≡_, refl, sym, _∙_, ap, ap₂, subst}
-use mathlib.Core.Logic.{_≢_, ⊎-elim}
-use mathlib.Core.Bool.{Bool, true, false, not, _&&_, _||_}
-use mathlib.Core.List.{List, [], _∷_}
-use Prim.Native.Nat.{ℕ, zero, suc, _+_, _≤_, _<_, _^_}
+use mathlib.Core.Path.{_≡_, refl, sym, _∙_}
+use mathlib.Core.Bool.{Bool, true, false, not, _||_}
+use mathlib.Core.List.{List}
+use Prim.Native.Nat.{ℕ, _+_, _≤_, _<_, _^_}
 use native.Mathlib.Nat.{lt-of-lt-of-le, pow-le-pow-right}
 use native.Mathlib.Omega.{arith}
 use lib.Dec.{eqb, leb, ltb}
 use lib.ListN.{length}
 use borrow.Author.Tests.{ltb-false, leb-false, eqb-false}
-use Rattle.rules.specs.Capacity.{maxTasks, maxLocks, maxOpen, maxDelay, maxAccepted}
-use Rattle.rules.specs.Place.{at, any, greatest}
-use Rattle.rules.specs.Row.{newest, has, saves}
-use Rattle.rules.specs.Mask.{hasBit}
+use Rattle.rules.specs.Capacity.{maxTasks, maxLocks, maxOpen, maxAccepted}
+use Rattle.rules.specs.Place.{at}
+use Rattle.rules.specs.Row.{newest, has}
 use Rattle.rules.specs.Refusal.{firstTrue}
 use Rattle.rules.specs.Figures.{Figures, figuresOf, holds, rankOf}
 use Rattle.rules.specs.Tests.{releaseOrder, acquireOrder, unlockOrder, workOrder, finishOrder}
-use Rattle.rules.specs.Sound.{distinct, Figured, keptOf, savedOf, Worded, Sound, Steady}
+use Rattle.rules.specs.Sound.{keptOf, savedOf, Steady}
 use Rattle.rules.specs.declared.plan.Plan.{Plan}
-use Rattle.rules.specs.declared.state.Head.{Head}
 use Rattle.rules.specs.declared.state.State.{State}
 use Rattle.rules.specs.declared.answer.Tested.{Tested}
 use Rattle.rules.proofs.Choice.{either, or-false, untrue, not-so}

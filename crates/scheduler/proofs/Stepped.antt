@@ -1,11 +1,9 @@
 -- The step of a state that is handed in. Assumes nothing.
 use mathlib.Core.Path.{_≡_, sym, _∙_}
 use mathlib.Core.Bool.{Bool, true, false, not}
-use Prim.Native.Nat.{ℕ}
 use lib.ListN.{length}
 use borrow.Author.Tests.{not-true, not-false}
 use Rattle.rules.specs.Capacity.{maxTasks, maxLocks}
-use Rattle.rules.specs.Choice.{if_then_else_}
 use Rattle.rules.specs.Sound.{Steady}
 use Rattle.rules.specs.SoundTest.{soundTest}
 use Rattle.rules.specs.Step.{refusedWith, actOf, stepOf}

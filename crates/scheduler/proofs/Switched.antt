@@ -1,7 +1,6 @@
 -- The ways through the code of a switch. Assumes nothing.
-use mathlib.Core.Path.{_≡_, refl, sym, _∙_, ap, ap₂}
+use mathlib.Core.Path.{_≡_, refl, sym, _∙_, ap}
 use mathlib.Core.Logic.{⊎-elim}
-use mathlib.Core.Bool.{Bool, true, false}
 use mathlib.Core.List.{List, [], _∷_}
 use Prim.Native.Nat.{ℕ, zero, suc, _+_, _*_, _^_, _≤_, _<_}
 use native.Mathlib.Nat.{eq-zero-or-pos}
@@ -11,10 +10,9 @@ use lib.Dec.{eqb}
 use lib.ListN.{length, set, List·getD-eq-default}
 use borrow.Author.Tests.{eq-eqb, ne-eqb}
 use Rattle.rules.specs.Capacity.{maxTasks, nobody}
-use Rattle.rules.specs.Choice.{if_then_else_}
 use Rattle.rules.specs.Place.{at, greatest}
 use Rattle.rules.specs.Elect.{earlier, earliest, elected}
-use Rattle.rules.specs.Lazy.{Words, secondWord, runsOn, switched}
+use Rattle.rules.specs.Lazy.{Words, runsOn, switched}
 use Rattle.rules.proofs.Choice.{if-true, if-false}
 use Rattle.rules.proofs.Rules.{earlier-nobody, earlier-later, earlier-sooner}
 use Rattle.rules.proofs.Elect.{elected-none, elected-lead, earliest-within}

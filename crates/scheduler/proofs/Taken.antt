@@ -1,24 +1,20 @@
 -- The ways through an accepted acquire and an accepted unlock. Assumes nothing.
-use mathlib.Core.Path.{_≡_, refl, sym, _∙_, ap, ap₂}
+use mathlib.Core.Path.{_≡_, sym, _∙_, ap, ap₂}
 use mathlib.Core.Bool.{Bool, true, false}
 use mathlib.Core.List.{List}
 use Prim.Native.Nat.{ℕ, _+_, _-_, max}
 use native.Mathlib.Nat.{add-zero}
-use lib.Dec.{ltb}
 use lib.ListN.{set}
-use Rattle.rules.specs.Choice.{if_then_else_}
 use Rattle.rules.specs.Place.{at}
 use Rattle.rules.specs.Row.{newest, under, pushed}
-use Rattle.rules.specs.Figures.{Figures, figuresOf}
+use Rattle.rules.specs.Figures.{figuresOf}
 use Rattle.rules.specs.Move.{movedOf, eagerCalls}
 use Rattle.rules.specs.Lazy.{Words, wordsOf, stateOf, callsFor, switched, takes, backOf, gives, returns, wordsAfter, lazyCall}
 use Rattle.rules.specs.Step.{afterOf}
-use Rattle.rules.specs.declared.plan.Plan.{Plan}
 use Rattle.rules.specs.declared.state.Head.{Head}
 use Rattle.rules.specs.declared.state.State.{State}
 use Rattle.rules.specs.declared.event.Event.{Event}
 use Rattle.rules.specs.declared.answer.Answer.{Answer}
-use Rattle.rules.specs.declared.answer.Stepped.{Stepped}
 use Rattle.rules.specs.declared.priority.UserPriority.{UserPriority}
 use Rattle.rules.proofs.Choice.{if-true, if-false}
 use Rattle.rules.specs.Whole.{planWith, stateWith}

@@ -1,14 +1,12 @@
 -- The turns of a replay. Assumes nothing.
-use mathlib.Core.Path.{_≡_, refl, sym, _∙_, ap, ap₂, subst}
+use mathlib.Core.Path.{_≡_, refl, sym, _∙_, ap, subst}
 use mathlib.Core.Bool.{Bool, true, false, not}
-use mathlib.Core.List.{List, [], _∷_}
-use Prim.Native.Nat.{ℕ, zero, suc, _+_, _-_, _*_, _/_, _≤_, _<_}
+use mathlib.Core.List.{List}
+use Prim.Native.Nat.{ℕ, suc, _+_, _-_, _*_, _/_, _≤_, _<_}
 use native.Mathlib.Numerals.{add-one}
-use native.Mathlib.Nat.{le-div-iff-mul-le}
 use native.Mathlib.Omega.{arith}
-use lib.ListN.{length, set, length-set}
-use lib.Dec.{eqb, ltb}
-use lib.Seq.{lt-length-set}
+use lib.ListN.{length, set}
+use lib.Dec.{ltb}
 use borrow.Author.Tests.{lt-ltb, not-true, not-false}
 use Rattle.rules.specs.Choice.{if_then_else_}
 use Rattle.rules.specs.Place.{from}
@@ -17,7 +15,7 @@ use Rattle.rules.specs.Book.{recordFault, recordEvent, foundAt}
 use Rattle.rules.specs.Sound.{Steady}
 use Rattle.rules.specs.State.{freshOf}
 use Rattle.rules.specs.Step.{actOf, stepOf}
-use Rattle.rules.specs.Run.{withRow, Ran, onward, runFrom}
+use Rattle.rules.specs.Run.{withRow, onward, runFrom}
 use Rattle.rules.specs.declared.plan.Plan.{Plan}
 use Rattle.rules.specs.declared.state.Head.{Head}
 use Rattle.rules.specs.declared.state.State.{State}

@@ -1,31 +1,27 @@
 -- The ways through an accepted work: the delays of the tasks, and the sections along the row. Assumes nothing.
 use mathlib.Core.Path.{_≡_, refl, sym, _∙_, ap, ap₂, subst}
-use mathlib.Core.Logic.{_≢_, _⊎_, inl, inr, ⊎-elim}
-use mathlib.Core.Bool.{Bool, true, false, _&&_, _||_}
-use mathlib.Core.List.{List, [], _∷_}
+use mathlib.Core.Logic.{_⊎_, inl, inr, ⊎-elim}
+use mathlib.Core.Bool.{true, false, _||_}
+use mathlib.Core.List.{List}
 use Prim.Native.Nat.{ℕ, zero, suc, _+_, _-_, _≤_, _<_, min}
 use native.Mathlib.Nat.{add-zero, not-suc-le-zero}
-use native.Mathlib.Numerals.{add-one}
 use native.Mathlib.Omega.{arith}
-use lib.Dec.{eqb, ltb}
-use lib.ListN.{length, getD, set, length-set, List·getD-eq-default}
+use lib.ListN.{length, set, length-set}
 use lib.Seq.{getD-set-same, getD-set-other, ext-getD}
-use borrow.Author.Tests.{eq-eqb, ne-eqb, lt-ltb, le-ltb}
-use Rattle.rules.specs.Capacity.{maxTasks, maxLocks, maxDelay}
+use borrow.Author.Tests.{ne-eqb, lt-ltb, le-ltb}
+use Rattle.rules.specs.Capacity.{maxLocks, maxDelay}
 use Rattle.rules.specs.Choice.{if_then_else_}
-use Rattle.rules.specs.Place.{at, any, renewed}
+use Rattle.rules.specs.Place.{at, renewed}
 use Rattle.rules.specs.Row.{newest, under, has}
 use Rattle.rules.specs.Figures.{Figures, figuresOf, holds}
 use Rattle.rules.specs.Move.{movedOf, eagerCalls, charged, delayed}
-use Rattle.rules.specs.Lazy.{Words, wordsOf, stateOf, wordsAfter, lazyCall}
+use Rattle.rules.specs.Lazy.{wordsAfter, lazyCall}
 use Rattle.rules.specs.Step.{afterOf}
-use Rattle.rules.specs.declared.plan.Plan.{Plan}
 use Rattle.rules.specs.declared.state.Head.{Head}
-use Rattle.rules.specs.declared.state.State.{State}
 use Rattle.rules.specs.declared.event.Event.{Event}
 use Rattle.rules.specs.declared.answer.Answer.{Answer}
 use native.Mathlib.Decide.{ℕ-discrete}
-use Rattle.rules.proofs.Choice.{if-true, if-false, by-test, untrue, not-so, at-or, lt-or-le}
+use Rattle.rules.proofs.Choice.{if-true, if-false, untrue, not-so, at-or, lt-or-le}
 use Rattle.rules.proofs.Place.{RenewedSoFar, renewed-next, renewed-rest, renewed-at, length-renewed}
 use Rattle.rules.proofs.Row.{has-none, has-suc, has-newest, has-under, distinct-under}
 use Rattle.rules.specs.Whole.{planWith, stateWith}

@@ -3,7 +3,7 @@ use mathlib.Core.Path.{_≡_}
 use mathlib.Core.List.{List}
 use Prim.Native.Nat.{ℕ, _≤_, _<_, _^_}
 use lib.ListN.{length}
-use Rattle.rules.specs.Capacity.{maxTasks, maxLocks, maxOpen, maxAccepted}
+use Rattle.rules.specs.Capacity.{maxTasks, maxLocks, maxAccepted}
 use Rattle.rules.specs.Place.{at, greatest}
 use Rattle.rules.specs.declared.state.Head.{Head}
 

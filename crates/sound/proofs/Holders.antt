@@ -1,22 +1,18 @@
 -- Who has a lock open, from the first task on; and what stands at a place of the table. Assumes nothing.
-use mathlib.Core.Path.{_≡_, refl, sym, _∙_, ap, ap₂}
-use mathlib.Core.Bool.{Bool, true, false}
-use mathlib.Core.List.{List, [], _∷_}
+use mathlib.Core.Path.{_≡_, refl, _∙_, ap, ap₂}
+use mathlib.Core.Bool.{Bool}
 use Prim.Native.Nat.{ℕ, suc, _+_, _≤_, _<_}
 use native.Mathlib.Numerals.{add-one}
 use native.Mathlib.Omega.{arith}
-use lib.Dec.{eqb, ltb, leb}
-use borrow.Author.Tests.{lt-ltb, le-ltb, eq-eqb, ne-eqb, lt-leb, le-leb}
+use lib.Dec.{ltb}
+use borrow.Author.Tests.{lt-ltb, le-ltb}
 use Rattle.rules.specs.Capacity.{maxTasks}
-use Rattle.rules.specs.Choice.{if_then_else_, allTrue}
-use Rattle.rules.specs.Figures.{Figures, figuresOf, holds, priorityOf, rankOf}
+use Rattle.rules.specs.Choice.{if_then_else_}
+use Rattle.rules.specs.Figures.{Figures, holds, priorityOf, rankOf}
 use Rattle.rules.specs.Sound.{ownerOf}
 use Rattle.rules.specs.Place.{at}
-use Rattle.rules.specs.Lazy.{wordsOf}
-use Rattle.rules.specs.SoundTest.{lockTest}
 use Rattle.rules.specs.declared.plan.Plan.{Plan}
-use Rattle.rules.specs.declared.state.State.{State}
-use Rattle.rules.proofs.Choice.{if-yes, if-no, all-fails, all-next, all-last}
+use Rattle.rules.proofs.Choice.{if-yes, if-no}
 use Rattle.sound.specs.Placed.{Stands}
 
 module _ (f : Figures) (l : ℕ) where

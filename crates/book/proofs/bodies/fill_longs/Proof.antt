@@ -1,7 +1,7 @@
 -- `book::bodies::fill_longs` meets its contract. Each turn writes one number. Assumes nothing.
 use mathlib.Core.Path.{_≡_}
 use Prim.Native.Nat.{_+_, _*_, _-_}
-use lib.ListN.{length, length-set}
+use lib.ListN.{length}
 use Rattle.rules.proofs.Place.{RenewedSoFar, renewed-start, renewed-next, renewed-ends}
 use Rattle.rules.specs.Book.{long}
 use borrow.Author.Needs.{needs}

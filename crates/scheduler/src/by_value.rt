@@ -16,6 +16,7 @@ ghost use Rattle.rules.specs.SoundTest.{soundTest};
 ghost use Rattle.rules.specs.Step.{actOf, refusedWith};
 ghost use Rattle.rules.specs.Whole.{planWith, stateWith};
 
+// The figures by name are the given ones; the arrays that the act changes are copies of them.
 fn acted_on(
     h: Head,
     n: usize,
@@ -92,6 +93,7 @@ pub fn refused_with(s: State, why: Refusal) -> Stepped
     }
 }
 
+// The step without the test of soundness.
 pub fn step_sound(p: Plan, s: State, e: Event) -> Stepped
     requires { ⌜ soundTest p s ≡ true ⌝ }
     ensures { λ r. ⌜ r ≡ actOf p s e ⌝ }

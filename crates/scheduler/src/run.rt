@@ -18,6 +18,7 @@ ghost use Rattle.rules.specs.Run.{runFrom};
 ghost use Rattle.rules.specs.State.{freshOf};
 ghost use Rattle.scheduler.specs.Going.{goesOn, Readable, stoppedAt};
 
+// Whether the run goes on after an answer.
 fn goes_on(answer: Answer) -> bool
     ensures { λ r. ⌜ r ≡ goesOn answer ⌝ }
 {
@@ -27,6 +28,7 @@ fn goes_on(answer: Answer) -> bool
     }
 }
 
+// What the run comes to where it stops at place k.
 fn stopped_at(answer: Answer, k: usize) -> Verdict
     ensures { λ r. ⌜ r ≡ stoppedAt answer k ⌝ }
 {
@@ -36,6 +38,7 @@ fn stopped_at(answer: Answer, k: usize) -> Verdict
     }
 }
 
+// The arrays are unpacked once and lent to each turn; the state is put together where the run ends.
 pub fn run(p: Plan, body: &[u8], n: usize, rows: &mut [u8]) -> Replayed
     requires { ⌜ Obeys p × (length (p .limit) ≡ maxLocks) × (n * 4 ≤ length (now body)) × (n * 4 ≤ length (now rows)) × Readable (now body) n ⌝ }
     ensures { λ r. ⌜ (ranAs r (now (rows .exit)) ≡ runFrom p (from (recordEvent (now (body .entry))) 0 n) 0 freshOf (now (rows .entry))) × (r .plan ≡ p) ⌝ }

@@ -34,6 +34,7 @@ fn event_at(body: &[u8], k: usize) -> Event
     }
 }
 
+// 1 for a lazy call, or else 0.
 fn call_byte(call: bool) -> u8
     ensures { λ r. ⌜ r ≡ (if call then 1 else 0) ⌝ }
 {
@@ -43,6 +44,7 @@ fn call_byte(call: bool) -> u8
     0
 }
 
+// "Running task, user word, next word, 1 for a lazy call or else 0."
 fn put_row(rows: &mut [u8], k: usize, h: Head, call: bool)
     requires { ⌜ k * 4 + 4 ≤ length (now rows) ⌝ }
     ensures { λ _. ⌜ now (rows .exit) ≡ withRow (now (rows .entry)) k h call ⌝ }
@@ -66,6 +68,7 @@ fn put_after(rows: &mut [u8], k: usize, answer: Answer, h: Head)
     }
 }
 
+// The event at place k acts, and has its row where it is accepted.
 pub fn turn(
     h: Head,
     n: usize,

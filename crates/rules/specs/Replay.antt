@@ -18,6 +18,6 @@ replayAs (Verdict.Refused why place) p es rows = record { verdict = Verdict.Refu
 unfoldable pub replayOf : List ℕ → List ℕ → Ran
 replayOf b rows = replayAs (checkOf b (length rows)) (planIn b) (eventsOf b) rows
 
--- what the code answers beside the row bytes: how far the run has come, by the plan that was loaded
+-- the answer of a replay and the row bytes that it leaves, as one
 abbrev pub ranAs : Replayed → List ℕ → Ran
 ranAs r rows = record { verdict = r .verdict; state = r .state; rows = rows }

@@ -19,21 +19,22 @@ int main(int count, char **words) {
 
     struct recorder_check c = recorder_check(book, length, sizeof rows);
     printf("check %u %zu\n", (unsigned)c.number, c.place);
-    printf("plan %zu %zu, events at %zu\n", c.tasks, c.locks, c.events);
+    printf("plan %zu %zu, events at %zu\n", c.plan.tasks, c.plan.locks, c.events);
 
     struct recorder_replay r = recorder_replay(book, length, rows, sizeof rows);
-    for (uint32_t k = 0; k < r.accepted; k++) {
+    const struct recorder_state *s = &r.state;
+    for (uint32_t k = 0; k < s->accepted; k++) {
         const uint8_t *row = rows + k * RECORDER_ROW_BYTES;
         printf("row %u %u %u %u\n", row[0], row[1], row[2], row[3]);
     }
     printf("replay %u %zu\n", (unsigned)r.number, r.place);
-    printf("accepted %u, running %u, words %u %u\n", (unsigned)r.accepted, r.running, r.user, r.next);
-    printf("calls %u %u\n", (unsigned)r.lazy, (unsigned)r.eager);
+    printf("accepted %u, running %u, words %u %u\n", (unsigned)s->accepted, s->running, s->user, s->next);
+    printf("calls %u %u\n", (unsigned)s->lazy, (unsigned)s->eager);
 
     printf("delayed");
-    for (size_t t = 0; t < r.tasks; t++) printf(" %u", r.delay[t]);
+    for (size_t t = 0; t < r.plan.tasks; t++) printf(" %u", s->delay[t]);
     printf("\nbounds");
-    for (size_t t = 0; t < c.tasks; t++) printf(" %u", recorder_bound(book, length, t));
+    for (size_t t = 0; t < c.plan.tasks; t++) printf(" %u", recorder_bound(book, length, t));
     printf("\n");
     return 0;
 }

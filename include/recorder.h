@@ -1,9 +1,9 @@
-/* The recorder's library: target/staticlib/libdevice.a, as `rt staticlib device` writes it for x86-64 Linux, and for
- * recorder_load_table liblent.a beside it, by `rt staticlib lent`.
+/* The recorder's library: target/staticlib/libdevice.a, as `rt staticlib device` writes it for x86-64 Linux.
  *
  * A slice is passed as its address and its length in elements. An address is never null, also where the length is 0;
  * the library keeps none of them after it returns. The rows overlap nothing else that is passed.
- * No function fails otherwise than by the number that it returns, whatever the bytes are. */
+ * A plan and a state are passed and returned by value: the library keeps nothing between two calls.
+ * No function fails otherwise than by the number that it returns, whatever it is handed. docs/RULES.md has the numbers. */
 #ifndef RECORDER_H
 #define RECORDER_H
 
@@ -26,27 +26,48 @@ extern "C" {
 /* The running task's byte where nobody runs. */
 #define RECORDER_NOBODY 255
 
-/* What a check answers. */
-struct recorder_check {
-    uint8_t number; /* the refusal, 1 to 9; 0 where nothing is refused */
-    size_t place;   /* the place of its first offender */
-    size_t tasks;   /* the plan's tasks; 0 beside a refusal */
-    size_t locks;   /* the plan's locks; 0 beside a refusal */
-    size_t events;  /* where the event body starts in the book; 0 beside a refusal */
+/* A plan. Tasks and locks are named by place, from 0; places past the last one hold 0. */
+struct recorder_plan {
+    size_t tasks;
+    size_t locks;
+    uint8_t base[RECORDER_MAX_TASKS];    /* each task's base */
+    uint8_t ceiling[RECORDER_MAX_LOCKS]; /* each lock's ceiling */
+    uint16_t limit[RECORDER_MAX_LOCKS];  /* each lock's section limit */
+    uint32_t uses[RECORDER_MAX_TASKS];   /* bit l of a task's: it may take lock l */
 };
 
-/* What a replay answers: the state where it stopped. */
-struct recorder_replay {
-    uint8_t number;    /* the refusal, 1 to 22; 0 where nothing is refused */
-    size_t place;      /* its place: of an event, from 0; of 1 to 9, as a check gives it */
-    uint32_t accepted; /* how many events were accepted: so many rows are written */
-    uint32_t lazy;     /* the lazy scheduler's calls */
-    uint32_t eager;    /* the eager scheduler's calls */
+/* A state. A row is a number in base 256, newest first. */
+struct recorder_state {
+    uint32_t accepted; /* how many events were accepted */
     uint8_t running;   /* the running task, or RECORDER_NOBODY */
     uint8_t user;      /* the user word */
     uint8_t next;      /* the next word */
-    size_t tasks;      /* the plan's tasks; 0 where the book is refused */
-    uint16_t delay[RECORDER_MAX_TASKS]; /* each task's delay; 0 past the last task */
+    uint32_t lazy;     /* the lazy scheduler's calls */
+    uint32_t eager;    /* the eager scheduler's calls */
+    uint32_t released[RECORDER_MAX_TASKS]; /* each task's release number; 0 where it is not released */
+    uint8_t kept[RECORDER_MAX_TASKS];      /* the priority that the kernel keeps for it */
+    uint16_t delay[RECORDER_MAX_TASKS];    /* its delay */
+    uint8_t depth[RECORDER_MAX_TASKS];     /* how many locks it has open */
+    uint64_t takes[RECORDER_MAX_TASKS];    /* the row of these locks */
+    uint64_t saved[RECORDER_MAX_TASKS];    /* the row of the user words saved when they were taken */
+    uint16_t units[RECORDER_MAX_LOCKS];    /* the units of each lock's open section */
+    uint8_t owner[RECORDER_MAX_LOCKS];     /* the task that has it open, plus 1, or 0 */
+};
+
+/* What a check answers. */
+struct recorder_check {
+    uint8_t number;            /* the refusal, 1 to 9; 0 where nothing is refused */
+    size_t place;              /* the place of its first offender */
+    struct recorder_plan plan; /* the book's; every figure is 0 beside a refusal */
+    size_t events;             /* where the event body starts in the book; 0 beside a refusal */
+};
+
+/* What a replay answers. */
+struct recorder_replay {
+    uint8_t number;              /* the refusal, 1 to 22; 0 where nothing is refused */
+    size_t place;                /* its place: of an event, from 0; of 1 to 9, as a check gives it */
+    struct recorder_plan plan;   /* the book's; every figure is 0 where the book is refused */
+    struct recorder_state state; /* where the replay stopped; a fresh one where the book is refused */
 };
 
 /* A record of the device's table of tasks. */
@@ -55,20 +76,43 @@ struct recorder_task {
     uint8_t second; /* 0 */
 };
 
-/* A plan that was loaded from a table; every figure is 0 beside a refusal. */
-struct recorder_plan {
-    uint8_t number; /* the refusal, 2 or 4 to 7; 0 where nothing is refused */
-    size_t place;   /* the place of its first offender */
-    size_t tasks;   /* the plan's tasks */
-    size_t locks;   /* the plan's locks */
-    uint8_t base[RECORDER_MAX_TASKS];    /* each task's base */
-    uint8_t ceiling[RECORDER_MAX_LOCKS]; /* each lock's ceiling */
-    uint16_t limit[RECORDER_MAX_LOCKS];  /* each lock's section limit */
-    uint32_t uses[RECORDER_MAX_TASKS];   /* bit l of a task's: it may take lock l */
+/* What a load answers. */
+struct recorder_load {
+    uint8_t number;            /* the refusal, 2 or 4 to 7; 0 where nothing is refused */
+    size_t place;              /* the place of its first offender */
+    struct recorder_plan plan; /* every figure is 0 beside a refusal */
+};
+
+/* The kinds of event, and what each is about. */
+#define RECORDER_RELEASE 1 /* id: a task */
+#define RECORDER_ACQUIRE 2 /* id: a lock */
+#define RECORDER_UNLOCK 3  /* id: a lock */
+#define RECORDER_WORK 4    /* amount: units */
+#define RECORDER_FINISH 5
+#define RECORDER_TICK 6
+
+/* What a step answers. */
+struct recorder_step {
+    uint8_t number;              /* the refusal: 8, or 10 to 22; 0 where the event is accepted */
+    uint8_t calls;               /* 1 where the lazy scheduler calls the kernel, or else 0 */
+    struct recorder_state state; /* after the event; the state that was given where it is refused */
 };
 
 /* Checks a book, 1 to 9, for a replay with `room` bytes of row space. */
 struct recorder_check recorder_check(const uint8_t *book, size_t length, size_t room);
+
+/* Loads a plan from a table of tasks: one number for a lock, ceiling + limit * 65536, and one for a use,
+ * task + lock * 256. */
+struct recorder_load recorder_load_table(const struct recorder_task *tasks, size_t task_count, const uint32_t *locks,
+                                         size_t lock_count, const uint16_t *uses, size_t use_count);
+
+/* The state before the first event. */
+struct recorder_state recorder_fresh(void);
+
+/* Steps one event of a kind; what the kind does not use is 0, or it is refused by 8. Any plan and any state may be
+ * handed in: what no scheduler can be in is refused by 10. */
+struct recorder_step recorder_step(struct recorder_plan plan, struct recorder_state state, uint8_t kind, uint8_t id,
+                                   uint16_t amount);
 
 /* Replays a book until its first refusal, and writes a row of four bytes for each accepted event:
  * running task, user word, next word, 1 for a lazy call or else 0. All other row bytes stay. */
@@ -76,11 +120,6 @@ struct recorder_replay recorder_replay(const uint8_t *book, size_t length, uint8
 
 /* The bound on the delay of a task of the book's plan; 0 for any other task, and for a book that is refused. */
 uint16_t recorder_bound(const uint8_t *book, size_t length, size_t task);
-
-/* Loads a plan from a table of tasks: one number for a lock, ceiling + limit * 65536, and one for a use,
- * task + lock * 256. */
-struct recorder_plan recorder_load_table(const struct recorder_task *tasks, size_t task_count, const uint32_t *locks,
-                                         size_t lock_count, const uint16_t *uses, size_t use_count);
 
 #ifdef __cplusplus
 }

@@ -11,6 +11,7 @@ mod crane;
 mod device;
 mod ordinary;
 
+use ordinary::ROW_SPACE;
 use std::hint::black_box;
 use std::process::ExitCode;
 use std::time::Instant;
@@ -68,7 +69,7 @@ fn short(path: &str) -> &str {
 /// What the two replays of a book differ in; and whether the book is accepted,
 /// since the time of a refused one says nothing.
 fn difference(book: &[u8]) -> Option<&'static str> {
-    let mut proved_rows = vec![0xEE; 48_000];
+    let mut proved_rows = vec![0xEE; ROW_SPACE];
     let mut ordinary_rows = proved_rows.clone();
     let proved = device::replay(book, &mut proved_rows);
     let ordinary = ordinary::replay(book, &mut ordinary_rows);
@@ -99,7 +100,7 @@ fn difference(book: &[u8]) -> Option<&'static str> {
 /// Times both, round by round in turn: the whole replay, the check of the book
 /// alone, and by their difference the run of the events.
 fn measure(name: &str, book: &[u8], rounds: usize) {
-    let mut rows = vec![0; 48_000];
+    let mut rows = vec![0; ROW_SPACE];
     let events = device::replay(book, &mut rows).accepted;
     let mut times = [const { Vec::new() }; 4];
     for _ in 0..rounds {
@@ -111,10 +112,10 @@ fn measure(name: &str, book: &[u8], rounds: usize) {
             done(ordinary::replay(book, black_box(&mut rows)))
         }));
         times[2].push(time(events, || {
-            done(device::check(book, black_box(48_000)))
+            done(device::check(book, black_box(ROW_SPACE)))
         }));
         times[3].push(time(events, || {
-            done(ordinary::check(book, black_box(48_000)))
+            done(ordinary::check(book, black_box(ROW_SPACE)))
         }));
     }
     let [proved, ordinary, proved_check, ordinary_check] = times.map(Figure::of);

@@ -4,10 +4,13 @@
 pub const MOST_TASKS: usize = 96;
 const MOST_LOCKS: usize = 32;
 const MOST_USES: usize = 3072;
-const MOST_EVENTS: usize = 12_000;
+pub const MOST_EVENTS: usize = 12_000;
 const MOST_OPEN: usize = 8;
 const MOST_ACCEPTED: u32 = 1_000_000;
 const NOBODY: u8 = 255;
+
+/// Row bytes for a book of full length.
+pub const ROW_SPACE: usize = 4 * MOST_EVENTS;
 
 /// The number and place of a refusal.
 #[derive(Clone, Copy)]

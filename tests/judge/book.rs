@@ -1,6 +1,6 @@
-//! The reader of books: refusals 1 to 9, "tested in that order, each with the
-//! place of its first offender". Each test goes over the whole book before the
-//! next one starts, so each is a function of its own.
+//! The reader of books: refusals 1 to 9 one after another, each naming the first
+//! record that breaks it. A test goes over the whole book before the next one
+//! starts, so each is a function of its own.
 
 use crate::event::Event;
 use crate::plan::{Lock, Plan, MOST_EVENTS, MOST_LOCKS, MOST_TASKS, MOST_USES};
@@ -15,10 +15,23 @@ pub struct Refusal {
 pub struct Book {
     pub plan: Plan,
     pub events: Vec<Event>,
+    /// Where the event body starts.
+    pub events_at: usize,
 }
+
+/// The bytes of the four entries of the contents.
+pub const CONTENTS_BYTES: usize = 4 * ENTRY_BYTES;
+pub const ENTRY_BYTES: usize = 8;
 
 /// The bytes of one record in each of the four bodies.
 const RECORD_BYTES: [usize; 4] = [2, 4, 2, 4];
+
+/// The bytes of a book with as many records of each kind as can be.
+pub const LARGEST_BOOK: usize = CONTENTS_BYTES
+    + RECORD_BYTES[0] * MOST_TASKS
+    + RECORD_BYTES[1] * MOST_LOCKS
+    + RECORD_BYTES[2] * MOST_USES
+    + RECORD_BYTES[3] * MOST_EVENTS;
 
 /// The four bodies, cut out of the book.
 struct Bodies<'b> {
@@ -39,7 +52,12 @@ pub fn read(bytes: &[u8], row_space: usize) -> Result<Book, Refusal> {
     test_7_ceilings(&plan)?;
     let events = test_8_events(bodies.events)?;
     test_9_row_space(row_space, events.len())?;
-    Ok(Book { plan, events })
+    let events_at = bytes.len() - bodies.events.len();
+    Ok(Book {
+        plan,
+        events,
+        events_at,
+    })
 }
 
 fn refuse<T>(number: u8, place: usize) -> Result<T, Refusal> {
@@ -62,23 +80,27 @@ fn four_bytes(bytes: &[u8], at: usize) -> u64 {
     ]))
 }
 
-/// 1: "book under 32 bytes", place 0.
+/// Where an entry, from 1, starts.
+pub fn entry_at(entry: usize) -> usize {
+    ENTRY_BYTES * (entry - 1)
+}
+
+/// 1: the contents don't fit. The place is 0.
 fn test_1_length(bytes: &[u8]) -> Result<(), Refusal> {
-    if bytes.len() < 32 {
+    if bytes.len() < CONTENTS_BYTES {
         return refuse(1, 0);
     }
     Ok(())
 }
 
-/// 2: "a count out of range", the place is "the entry 1 to 4". The range goes
-/// by the entry's position. "1 to 96 tasks, 0 to 32 locks and 0 to 3,072 uses";
-/// events "at most 12,000".
+/// 2: a number of records is out of range. The range goes by the position of
+/// the entry, whatever kind is written there, and the place is the entry.
 fn test_2_counts(bytes: &[u8]) -> Result<[usize; 4], Refusal> {
     let least = [1, 0, 0, 0];
     let most = [MOST_TASKS, MOST_LOCKS, MOST_USES, MOST_EVENTS];
     let mut counts = [0; 4];
     for entry in 1..=4 {
-        let count = two_bytes(bytes, 8 * (entry - 1) + 2);
+        let count = two_bytes(bytes, entry_at(entry) + 2);
         if count < least[entry - 1] || count > most[entry - 1] {
             return refuse(2, entry);
         }
@@ -87,18 +109,17 @@ fn test_2_counts(bytes: &[u8]) -> Result<[usize; 4], Refusal> {
     Ok(counts)
 }
 
-/// 3: "a kind or offset wrong, or the end isn't the book's end"; the place is
-/// the entry 1 to 4, or "5 for a wrong end". "The bodies follow in that order,
-/// the first at 32, without gaps; the last ends at the book's end."
+/// 3: an entry whose kind isn't its position or whose offset isn't the end of
+/// the body before it; the place is the entry. After all four, place 5: the
+/// last body ends elsewhere than the book.
 fn test_3_contents(bytes: &[u8], counts: [usize; 4]) -> Result<Bodies<'_>, Refusal> {
-    let mut starts = [0; 5];
-    starts[0] = 32;
+    let mut starts = [CONTENTS_BYTES; 5];
     for entry in 1..=4 {
         starts[entry] = starts[entry - 1] + counts[entry - 1] * RECORD_BYTES[entry - 1];
     }
     for entry in 1..=4 {
-        let kind = two_bytes(bytes, 8 * (entry - 1));
-        let offset = four_bytes(bytes, 8 * (entry - 1) + 4);
+        let kind = two_bytes(bytes, entry_at(entry));
+        let offset = four_bytes(bytes, entry_at(entry) + 4);
         if kind != entry || offset != starts[entry - 1] as u64 {
             return refuse(3, entry);
         }
@@ -114,7 +135,7 @@ fn test_3_contents(bytes: &[u8], counts: [usize; 4]) -> Result<Bodies<'_>, Refus
     })
 }
 
-/// 4: "a task with base 0 or second byte not 0". "Task, 2 bytes: base, zero."
+/// 4: a task's first byte is its base, which isn't 0; the second one is 0.
 fn test_4_tasks(body: &[u8]) -> Result<Vec<u8>, Refusal> {
     let mut bases = Vec::new();
     for (place, record) in body.chunks(2).enumerate() {
@@ -126,8 +147,8 @@ fn test_4_tasks(body: &[u8]) -> Result<Vec<u8>, Refusal> {
     Ok(bases)
 }
 
-/// 5: "a lock with ceiling 0, second byte not 0, or limit 0".
-/// "Lock, 4 bytes: ceiling, zero, limit (2)."
+/// 5: a lock's ceiling, a byte that is 0, and its limit in two bytes; neither
+/// ceiling nor limit is 0.
 fn test_5_locks(body: &[u8]) -> Result<Vec<Lock>, Refusal> {
     let mut locks = Vec::new();
     for (place, record) in body.chunks(4).enumerate() {
@@ -143,9 +164,9 @@ fn test_5_locks(body: &[u8]) -> Result<Vec<Lock>, Refusal> {
     Ok(locks)
 }
 
-/// 6: "a use with an unknown id, or out of order". "Use, 2 bytes: task, lock;
-/// pairs strictly increasing by task, then lock." The place is the later of
-/// two records out of order; an equal pair is out of order too.
+/// 6: a use's task and lock are there, and each use lies after the one before
+/// it, by task and then by lock. Of two uses that don't, and equal ones don't,
+/// the later one is named.
 fn test_6_uses(body: &[u8], tasks: usize, locks: usize) -> Result<Vec<(u8, u8)>, Refusal> {
     let mut uses: Vec<(u8, u8)> = Vec::new();
     for (place, record) in body.chunks(2).enumerate() {
@@ -164,8 +185,8 @@ fn test_6_uses(body: &[u8], tasks: usize, locks: usize) -> Result<Vec<(u8, u8)>,
     Ok(uses)
 }
 
-/// 7: "a lock without users, or its ceiling isn't the greatest base"; the place
-/// is the lock. "A lock's ceiling is the greatest base among its users."
+/// 7: each lock has a user, and the greatest base of its users is its ceiling.
+/// The lock is named.
 fn test_7_ceilings(plan: &Plan) -> Result<(), Refusal> {
     for (place, lock) in plan.locks.iter().enumerate() {
         if plan.greatest_base_of_users(place) != Some(lock.ceiling) {
@@ -175,7 +196,7 @@ fn test_7_ceilings(plan: &Plan) -> Result<(), Refusal> {
     Ok(())
 }
 
-/// 8: "an event of kind outside 1 to 6, unused field not 0, or work of 0". The
+/// 8: each event is one of the six, as far as its record alone can tell. The
 /// whole event body is tested before any event runs.
 fn test_8_events(body: &[u8]) -> Result<Vec<Event>, Refusal> {
     let mut events = Vec::new();
@@ -188,7 +209,7 @@ fn test_8_events(body: &[u8]) -> Result<Vec<Event>, Refusal> {
     Ok(events)
 }
 
-/// 9: "row space under 4 bytes an event", place 0.
+/// 9: there are four bytes of row space for each event. The place is 0.
 fn test_9_row_space(row_space: usize, events: usize) -> Result<(), Refusal> {
     if row_space < 4 * events {
         return refuse(9, 0);

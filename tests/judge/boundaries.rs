@@ -1,12 +1,16 @@
 //! Set pieces: books at the edges of the rules, each with the number and place
-//! that the document (and the project's readings of it) give. They test the
-//! judge itself, and they are the first books that a program is sent.
+//! that the rules give, worked out by hand. They test the judge itself, and
+//! they are among the first books that a program is sent.
 
+use crate::book::CONTENTS_BYTES;
 use crate::crane;
 use crate::draft::Draft;
 use crate::event::Event::{self, Acquire, Finish, Release, Tick, Unlock, Work};
 use crate::generate::Case;
-use crate::plan::{Lock, Plan};
+use crate::plan::{
+    Lock, Plan, MOST_EVENTS, MOST_LOCKS, MOST_OPEN, MOST_TASKS, MOST_UNITS, MOST_USES,
+};
+use crate::wire::MOST_BYTES;
 
 pub struct SetPiece {
     pub case: Case,
@@ -33,7 +37,8 @@ impl Shelf {
     }
 }
 
-/// Tasks of base 1 to 3 in turn; every lock used by every task.
+/// Tasks of base 1 to 3 in turn; every lock used by every task. Where there are
+/// locks, there are two tasks or more.
 fn full_plan(tasks: usize, locks: usize) -> Plan {
     let bases: Vec<u8> = (0..tasks).map(|task| (task % 3) as u8 + 1).collect();
     let ceiling = bases.iter().copied().max().unwrap_or(1);
@@ -43,8 +48,21 @@ fn full_plan(tasks: usize, locks: usize) -> Plan {
             uses.push((task as u8, lock as u8));
         }
     }
-    Plan { bases, locks: vec![Lock { ceiling, limit: 65_535 }; locks], uses }
+    Plan { bases, locks: vec![Lock { ceiling, limit: MOST_UNITS }; locks], uses }
 }
+
+/// As many tasks, locks and uses as can be.
+fn greatest_plan() -> Plan {
+    let mut plan = full_plan(MOST_TASKS, MOST_LOCKS);
+    plan.uses.truncate(MOST_USES);
+    plan
+}
+
+/// The ids of the last places, and of those behind them.
+const LAST_TASK: u8 = (MOST_TASKS - 1) as u8;
+const LAST_LOCK: u8 = (MOST_LOCKS - 1) as u8;
+const NO_TASK: u8 = MOST_TASKS as u8;
+const NO_LOCK: u8 = MOST_LOCKS as u8;
 
 pub fn set_pieces() -> Vec<SetPiece> {
     let mut shelf = Shelf { pieces: Vec::new() };
@@ -69,35 +87,37 @@ fn runs_of_the_crane(shelf: &mut Shelf) {
     shelf.events("nest", &crane::plan(), &crane::NEST, 21, 9);
 }
 
-/// "Run too: 96 and 97 tasks, 32 and 33 locks, 12,000 and 12,001 events, a book
-/// of 31 bytes, one spare byte at the end". "The largest book is 54,496 bytes."
+/// The greatest counts and one more of each, the largest book, and lengths that
+/// don't fit the contents.
 fn sizes(shelf: &mut Shelf) {
-    shelf.events("96 tasks", &full_plan(96, 0), &[Release(95)], 0, 0);
-    shelf.events("97 tasks", &full_plan(97, 0), &[Release(96)], 2, 1);
+    shelf.events("the most tasks", &full_plan(MOST_TASKS, 0), &[Release(LAST_TASK)], 0, 0);
+    shelf.events("one task too many", &full_plan(MOST_TASKS + 1, 0), &[Release(NO_TASK)], 2, 1);
     shelf.events("no task", &full_plan(0, 0), &[Tick], 2, 1);
-    shelf.events("32 locks", &full_plan(1, 32), &[Release(0), Acquire(31)], 0, 0);
-    shelf.events("33 locks", &full_plan(1, 33), &[Release(0), Acquire(32)], 2, 2);
-    shelf.events("3,072 uses", &full_plan(96, 32), &[Release(95), Acquire(31)], 0, 0);
-    let mut draft = Draft::of(&full_plan(96, 32), &[Tick]);
-    draft.uses.push([95, 31]);
-    shelf.draft("3,073 uses", &draft, 2, 3);
-    shelf.events("12,000 events", &crane::plan(), &[Tick; 12_000], 0, 0);
-    shelf.events("12,001 events", &crane::plan(), &[Tick; 12_001], 2, 4);
+    let last_taken = [Release(0), Acquire(LAST_LOCK)];
+    shelf.events("the most locks", &full_plan(2, MOST_LOCKS), &last_taken, 0, 0);
+    shelf.events("one lock too many", &full_plan(2, MOST_LOCKS + 1), &last_taken, 2, 2);
+    shelf.events("the most uses", &greatest_plan(), &last_taken, 0, 0);
+    let mut draft = Draft::of(&greatest_plan(), &[Tick]);
+    draft.uses.push([LAST_TASK, LAST_LOCK]);
+    shelf.draft("one use too many", &draft, 2, 3);
+    shelf.events("the most events", &crane::plan(), &[Tick; MOST_EVENTS], 0, 0);
+    shelf.events("one event too many", &crane::plan(), &[Tick; MOST_EVENTS + 1], 2, 4);
 
-    let largest = Draft::of(&full_plan(96, 32), &[Tick; 12_000]).bytes();
-    assert_eq!(largest.len(), 54_496);
-    shelf.bytes("the largest book", largest.clone(), 48_000, 0, 0);
-    shelf.bytes("the largest book, row space 65,536", largest.clone(), 65_536, 0, 0);
+    let largest = Draft::of(&greatest_plan(), &[Tick; MOST_EVENTS]).bytes();
+    let rows = 4 * MOST_EVENTS;
+    shelf.bytes("the largest book", largest.clone(), rows, 0, 0);
+    shelf.bytes("the largest book, more row space", largest.clone(), MOST_BYTES, 0, 0);
     let mut longer = largest;
-    longer.resize(65_536, 0);
-    shelf.bytes("65,536 bytes", longer, 48_000, 3, 5);
+    longer.resize(MOST_BYTES, 0);
+    shelf.bytes("a book longer than the largest", longer, rows, 3, 5);
 
     let p1 = crane::book(crane::RUNS[0].1);
+    let contents = CONTENTS_BYTES;
     shelf.bytes("an empty book", Vec::new(), 0, 1, 0);
-    shelf.bytes("a book of 31 bytes", p1[..31].to_vec(), 28, 1, 0);
-    shelf.bytes("a book of 32 bytes", p1[..32].to_vec(), 28, 3, 5);
-    shelf.bytes("32 zero bytes", vec![0; 32], 28, 2, 1);
-    shelf.bytes("one byte missing", p1[..83].to_vec(), 28, 3, 5);
+    shelf.bytes("one byte of the contents missing", p1[..contents - 1].to_vec(), 28, 1, 0);
+    shelf.bytes("the contents alone", p1[..contents].to_vec(), 28, 3, 5);
+    shelf.bytes("contents of zeros", vec![0; contents], 28, 2, 1);
+    shelf.bytes("one byte missing", p1[..p1.len() - 1].to_vec(), 28, 3, 5);
     shelf.bytes("one spare byte", [&p1[..], &[0]].concat(), 28, 3, 5);
 }
 
@@ -112,9 +132,11 @@ fn contents(shelf: &mut Shelf) {
         book
     };
     // Entry e starts at 8 (e - 1): kind at +0, count at +2, offset at +4.
-    shelf.bytes("count 4 before kind 1", changed(&[(0, 9), (27, 255)]), 28, 2, 4);
-    shelf.bytes("range by position", changed(&[(0, 4), (2, 97)]), 28, 2, 1);
-    shelf.bytes("kind 1 in entry 4, 100 events", changed(&[(24, 1), (26, 100)]), 28, 3, 4);
+    shelf.bytes("count 4 before kind 1", changed(&[(0, 9), (27, u8::MAX)]), 28, 2, 4);
+    let [low, high] = (MOST_TASKS as u16 + 1).to_le_bytes();
+    shelf.bytes("range by position", changed(&[(0, 4), (2, low), (3, high)]), 28, 2, 1);
+    let more_than_tasks = changed(&[(24, 1), (26, low), (27, high)]);
+    shelf.bytes("kind 1 in entry 4, more events than tasks can be", more_than_tasks, 28, 3, 4);
     shelf.bytes("kinds 2 and 3 wrong", changed(&[(8, 3), (16, 2)]), 28, 3, 2);
     shelf.bytes("kind 257", changed(&[(1, 1)]), 28, 3, 1);
     shelf.bytes("first offset 33", changed(&[(4, 33)]), 28, 3, 1);
@@ -139,7 +161,7 @@ fn records(shelf: &mut Shelf) {
     damaged("base 0", &|draft| draft.tasks[3][0] = 0, 4, 3);
     damaged("second byte of a task", &|draft| draft.tasks[1][1] = 1, 4, 1);
     damaged("ceiling 0", &|draft| draft.locks[0][0] = 0, 5, 0);
-    damaged("second byte of a lock", &|draft| draft.locks[1][1] = 255, 5, 1);
+    damaged("second byte of a lock", &|draft| draft.locks[1][1] = u8::MAX, 5, 1);
     damaged("limit 0", &|draft| draft.locks[1][2] = 0, 5, 1);
     damaged("limit 256", &|draft| (draft.locks[1][2], draft.locks[1][3]) = (0, 1), 0, 0);
     damaged("unknown task in a use", &|draft| draft.uses[3] = [4, 0], 6, 3);
@@ -179,7 +201,7 @@ fn event_records_and_row_space(shelf: &mut Shelf) {
     let bad_records: [(&str, [u8; 4]); 15] = [
         ("kind 0", [0, 0, 0, 0]),
         ("kind 7", [7, 0, 0, 0]),
-        ("kind 255", [255, 0, 0, 0]),
+        ("the greatest kind", [u8::MAX, 0, 0, 0]),
         ("amount in a release", [1, 1, 1, 0]),
         ("high amount in a release", [1, 1, 0, 1]),
         ("amount in an acquire", [2, 0, 1, 0]),
@@ -189,8 +211,8 @@ fn event_records_and_row_space(shelf: &mut Shelf) {
         ("work of 0 with an id", [4, 1, 0, 0]),
         ("id in a finish", [5, 1, 0, 0]),
         ("amount in a finish", [5, 0, 1, 0]),
-        ("id in a tick", [6, 255, 0, 0]),
-        ("amount in a tick", [6, 0, 255, 0]),
+        ("id in a tick", [6, u8::MAX, 0, 0]),
+        ("amount in a tick", [6, 0, u8::MAX, 0]),
         ("high amount in a tick", [6, 0, 0, 1]),
     ];
     for (name, record) in bad_records {
@@ -215,22 +237,24 @@ fn event_records_and_row_space(shelf: &mut Shelf) {
     shelf.bytes("no events, row space 3", crane::book(&[]), 3, 0, 0);
 }
 
-/// "Order for an event", and what is accepted with nobody running.
+/// The order of an event's tests, and what is accepted with nobody running.
 fn steps(shelf: &mut Shelf) {
     let crane = &crane::plan();
     shelf.events("tick with nobody", crane, &[Tick, Tick], 0, 0);
     shelf.events("acquire with nobody", crane, &[Tick, Acquire(0)], 12, 1);
     shelf.events("12 before 13 in acquire", crane, &[Acquire(2)], 12, 0);
     shelf.events("unlock with nobody", crane, &[Unlock(0)], 12, 0);
-    shelf.events("12 before 13 in unlock", crane, &[Unlock(255)], 12, 0);
+    shelf.events("12 before 13 in unlock", crane, &[Unlock(u8::MAX)], 12, 0);
     shelf.events("work with nobody", crane, &[Release(3), Finish, Work(1)], 12, 2);
     shelf.events("finish with nobody", crane, &[Finish], 12, 0);
     shelf.events("release of task 4", crane, &[Release(3), Release(4)], 13, 1);
-    shelf.events("release of task 255", crane, &[Release(255)], 13, 0);
-    shelf.events("release of task 96", &full_plan(96, 0), &[Release(95), Release(96)], 13, 1);
+    shelf.events("release of the greatest id", crane, &[Release(u8::MAX)], 13, 0);
+    let past_the_last = [Release(LAST_TASK), Release(NO_TASK)];
+    shelf.events("release past the last", &full_plan(MOST_TASKS, 0), &past_the_last, 13, 1);
     shelf.events("acquire of lock 2", crane, &[Release(0), Acquire(2)], 13, 1);
     shelf.events("unlock of lock 2", crane, &[Release(0), Unlock(2)], 13, 1);
-    shelf.events("acquire of lock 32", &full_plan(1, 32), &[Release(0), Acquire(32)], 13, 1);
+    let past_the_last = [Release(0), Acquire(NO_LOCK)];
+    shelf.events("acquire past the last", &full_plan(2, MOST_LOCKS), &past_the_last, 13, 1);
     shelf.events("release of the running", crane, &[Release(3), Release(3)], 14, 1);
     shelf.events("release of a waiting", crane, &[Release(3), Release(0), Release(0)], 14, 2);
     shelf.events("release after finish", crane, &[Release(0), Finish, Release(0)], 0, 0);
@@ -247,46 +271,48 @@ fn steps(shelf: &mut Shelf) {
     shelf.events("P1, then release 1", crane, &delay_reset, 0, 0);
 
     let full = full_plan(3, 2);
-    let to_the_limit = [Release(0), Acquire(0), Release(1), Work(65_535), Work(1)];
-    shelf.events("limit 65,535", &full, &to_the_limit, 21, 4);
-    let no_section = [Release(0), Work(65_535), Work(65_535), Work(65_535)];
+    let to_the_limit = [Release(0), Acquire(0), Release(1), Work(MOST_UNITS), Work(1)];
+    shelf.events("the greatest limit", &full, &to_the_limit, 21, 4);
+    let no_section = [Release(0), Work(MOST_UNITS), Work(MOST_UNITS), Work(MOST_UNITS)];
     shelf.events("work without a section", &full, &no_section, 0, 0);
     let tie = full_plan(4, 0); // tasks 0 and 3 have base 1
     shelf.events("a tie", &tie, &[Release(3), Release(0), Tick, Finish, Finish], 0, 0);
 }
 
-/// "Eight and nine open locks", and the order of 15, 16 and 18 there.
+/// As many locks open as can be, one more, and the order of 13, 15, 16 and 18
+/// there. Task 0 may not take the last lock of the plan.
 fn nests(shelf: &mut Shelf) {
-    let mut plan = full_plan(2, 10);
-    plan.uses.retain(|pair| *pair != (0, 9));
+    let most = MOST_OPEN as u8;
+    let (one_more, undeclared, unknown) = (most, most + 1, most + 2);
+    let mut plan = full_plan(3, MOST_OPEN + 2);
+    plan.uses.retain(|pair| *pair != (0, undeclared));
     let mut events = vec![Release(0)];
-    for lock in 0..8 {
-        events.push(Acquire(lock));
-    }
-    shelf.events("eight open locks", &plan, &events, 0, 0);
+    events.extend((0..most).map(Acquire));
+    shelf.events("as many open as can be", &plan, &events, 0, 0);
     for (name, last, number) in [
-        ("nine open locks", Acquire(8), 18),
-        ("15 before 18", Acquire(9), 15),
+        ("one more open", Acquire(one_more), 18),
+        ("15 before 18", Acquire(undeclared), 15),
         ("16 before 18", Acquire(3), 16),
-        ("13 before 18", Acquire(10), 13),
-        ("19 with eight open", Unlock(0), 19),
-        ("22 with eight open", Finish, 22),
-        ("unlock with eight open", Unlock(7), 0),
+        ("13 before 18", Acquire(unknown), 13),
+        ("19 with the most open", Unlock(0), 19),
+        ("22 with the most open", Finish, 22),
+        ("unlock with the most open", Unlock(most - 1), 0),
     ] {
         let mut longer = events.clone();
         longer.push(last);
-        shelf.events(name, &plan, &longer, number, if number == 0 { 0 } else { 9 });
+        let place = if number == 0 { 0 } else { events.len() as u32 };
+        shelf.events(name, &plan, &longer, number, place);
     }
     let mut again = events.clone();
-    again.extend([Unlock(7), Acquire(8), Acquire(7)]);
-    shelf.events("an eighth again, then a ninth", &plan, &again, 18, 11);
+    again.extend([Unlock(most - 1), Acquire(one_more), Acquire(most - 1)]);
+    let place = again.len() as u32 - 1;
+    shelf.events("another in place of one, then one more", &plan, &again, 18, place);
 }
 
 /// The judge's own answers against the expected ones; those that differ.
-pub fn test() -> (usize, Vec<String>) {
-    let pieces = set_pieces();
+pub fn test(pieces: &[SetPiece]) -> Vec<String> {
     let mut failed = Vec::new();
-    for piece in &pieces {
+    for piece in pieces {
         let outcome = piece.case.replay(crate::wrong::Wrong::Nothing);
         let got = (outcome.answer.number, outcome.answer.place);
         if got != (piece.number, piece.place) {
@@ -297,5 +323,5 @@ pub fn test() -> (usize, Vec<String>) {
             failed.push(format!("{}: {words}", piece.case.name));
         }
     }
-    (pieces.len(), failed)
+    failed
 }

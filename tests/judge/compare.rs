@@ -1,62 +1,117 @@
-//! Comparing two answers for the same book, field by field, and saying in words
-//! where they differ.
+//! Comparing two answers to the same request, field by field and figure by
+//! figure, and saying in words where they differ.
 
-use crate::refusals::WORDS;
+use crate::check::Checked;
+use crate::refusals::named;
 use crate::replay::{Answer, FILL};
+use crate::step::Stepped;
+use crate::whole::{figure, Whole, FIGURES};
 
-/// Every field that differs; empty exactly when the answers are equal.
-pub fn differences(judge: &Answer, program: &Answer) -> Vec<String> {
-    let mut found = Vec::new();
-    if judge.number != program.number {
-        let (ours, theirs) = (named(judge.number), named(program.number));
-        found.push(format!(
-            "number: the judge says {ours}, the program {theirs}"
-        ));
-    }
-    let mut field = |name: &str, ours: u32, theirs: u32| {
-        if ours != theirs {
-            found.push(format!(
-                "{name}: the judge says {ours}, the program {theirs}"
-            ));
-        }
-    };
-    field("place", judge.place, program.place);
-    field("lazy calls", judge.lazy_calls, program.lazy_calls);
-    field("eager calls", judge.eager_calls, program.eager_calls);
-    field(
-        "tasks",
-        judge.delays.len() as u32,
-        program.delays.len() as u32,
-    );
-    if judge.delays.len() == program.delays.len() {
-        for (task, (ours, theirs)) in judge.delays.iter().zip(&program.delays).enumerate() {
-            field(
-                &format!("delay of task {task}"),
-                u32::from(*ours),
-                u32::from(*theirs),
-            );
-        }
-        for (task, (ours, theirs)) in judge.bounds.iter().zip(&program.bounds).enumerate() {
-            field(
-                &format!("bound of task {task}"),
-                u32::from(*ours),
-                u32::from(*theirs),
-            );
-        }
-    }
-    found.extend(row_differences(&judge.rows, &program.rows));
-    found
+/// What differs between the judge and another one, each in words.
+struct Differences {
+    other: &'static str,
+    found: Vec<String>,
 }
 
-fn named(number: u8) -> String {
-    match WORDS.get(usize::from(number)) {
-        Some(words) => format!("{number} ({words})"),
-        None => format!("{number} (no such number)"),
+/// Whom the judge is mostly compared with.
+const PROGRAM: &str = "the program";
+
+impl Differences {
+    fn with(other: &'static str) -> Differences {
+        Differences {
+            other,
+            found: Vec::new(),
+        }
     }
+
+    fn number(&mut self, ours: u8, theirs: u8) {
+        if ours != theirs {
+            self.add("number", &named(ours), &named(theirs));
+        }
+    }
+
+    fn field(&mut self, name: &str, ours: u32, theirs: u32) {
+        if ours != theirs {
+            self.add(name, &ours.to_string(), &theirs.to_string());
+        }
+    }
+
+    /// A list with a number for each task.
+    fn list(&mut self, name: &str, ours: &[u16], theirs: &[u16]) {
+        for (task, (ours, theirs)) in ours.iter().zip(theirs).enumerate() {
+            let name = format!("{name} of task {task}");
+            self.field(&name, u32::from(*ours), u32::from(*theirs));
+        }
+    }
+
+    fn add(&mut self, name: &str, ours: &str, theirs: &str) {
+        let other = self.other;
+        let words = format!("{name}: the judge says {ours}, {other} {theirs}");
+        self.found.push(words);
+    }
+}
+
+/// Every field of a replay's answer that differs; none exactly when the answers
+/// are equal.
+pub fn answers(judge: &Answer, program: &Answer) -> Vec<String> {
+    let mut differences = Differences::with(PROGRAM);
+    differences.number(judge.number, program.number);
+    differences.field("place", judge.place, program.place);
+    differences.field("lazy calls", judge.lazy_calls, program.lazy_calls);
+    differences.field("eager calls", judge.eager_calls, program.eager_calls);
+    let (ours, theirs) = (judge.delays.len(), program.delays.len());
+    differences.field("tasks", ours as u32, theirs as u32);
+    if ours == theirs {
+        differences.list("delay", &judge.delays, &program.delays);
+        differences.list("bound", &judge.bounds, &program.bounds);
+    }
+    differences.found.extend(rows(&judge.rows, &program.rows));
+    differences.found
+}
+
+/// The same for a check's answer.
+pub fn checks(judge: &Checked, program: &Checked) -> Vec<String> {
+    let mut differences = Differences::with(PROGRAM);
+    differences.number(judge.number, program.number);
+    differences.field("place", judge.place, program.place);
+    let (ours, theirs) = (judge.events_at, program.events_at);
+    differences.field("place of the event body", ours, theirs);
+    differences
+        .found
+        .extend(figures(&judge.plan, &program.plan, PROGRAM));
+    differences.found
+}
+
+/// The same for a step's answer.
+pub fn steps(judge: &Stepped, program: &Stepped) -> Vec<String> {
+    let mut differences = Differences::with(PROGRAM);
+    differences.number(judge.number, program.number);
+    let (ours, theirs) = (u32::from(judge.call), u32::from(program.call));
+    differences.field("lazy call", ours, theirs);
+    differences
+        .found
+        .extend(figures(&judge.after, &program.after, PROGRAM));
+    differences.found
+}
+
+/// Every figure of the judge's that differs from that of another one.
+pub fn figures(ours: &Whole, theirs: &Whole, other: &'static str) -> Vec<String> {
+    let mut differences = Differences::with(other);
+    if ours == theirs {
+        return differences.found;
+    }
+    for (field, place) in (0..FIGURES).map(figure) {
+        let (ours, theirs) = (ours.get(field, place), theirs.get(field, place));
+        if ours != theirs {
+            let name = field.figure_name(place);
+            differences.add(&name, &ours.to_string(), &theirs.to_string());
+        }
+    }
+    differences.found
 }
 
 /// The first row byte that differs, and how many do.
-fn row_differences(judge: &[u8], program: &[u8]) -> Option<String> {
+fn rows(judge: &[u8], program: &[u8]) -> Option<String> {
     let differing: Vec<usize> = (0..judge.len())
         .filter(|at| judge[*at] != program[*at])
         .collect();
@@ -74,12 +129,19 @@ fn row_differences(judge: &[u8], program: &[u8]) -> Option<String> {
     ))
 }
 
-/// The bytes of a book in hexadecimal, 32 to a line.
-pub fn hex_dump(book: &[u8]) -> String {
-    let mut text = String::new();
-    for line in book.chunks(32) {
-        let bytes: Vec<String> = line.iter().map(|byte| format!("{byte:02x}")).collect();
-        text += &format!("    {}\n", bytes.join(" "));
+/// The comparison tells each single figure apart and names it; those that it
+/// doesn't, and how many were tried.
+pub fn test() -> (usize, Vec<String>) {
+    let mut failed = Vec::new();
+    for number in 0..FIGURES {
+        let (field, place) = figure(number);
+        let mut changed = Whole::blank();
+        changed.set(field, place, field.greatest());
+        let found = figures(&Whole::blank(), &changed, PROGRAM);
+        let name = format!("{}: ", field.figure_name(place));
+        if found.len() != 1 || !found[0].starts_with(&name) {
+            failed.push(format!("{name}told as {found:?}"));
+        }
     }
-    text
+    (FIGURES, failed)
 }

@@ -1,17 +1,17 @@
-//! The crane plan and its runs P1 to P12, with the values that the document
-//! states for them, and its four easy ways to go wrong, each of which must show
-//! on the run that the document names for it.
+//! The crane plan with its runs P1 to P12 and the values that are given for
+//! them, and the four ways that are easy to go wrong, each of which must show on
+//! the run that is meant to show it.
 
 use crate::draft::Draft;
 use crate::eager::Eager;
 use crate::event::Event::{self, Acquire, Finish, Release, Tick, Unlock, Work};
 use crate::lazy::{Lazy, Word};
-use crate::plan::{Lock, Plan};
+use crate::plan::{Lock, Plan, MOST_ACCEPTED, NOBODY};
 use crate::replay::{replay, Answer};
 use crate::wrong::Wrong;
 
-/// "Tasks 0 to 3 have bases 1, 3, 5, 7. Lock 0: ceiling 5, limit 4, users 0 and
-/// 2. Lock 1: ceiling 3, limit 10, users 0 and 1."
+/// Four tasks and two locks: task 0 shares lock 0 with task 2 and lock 1 with
+/// task 1; task 3 uses none.
 pub fn plan() -> Plan {
     Plan {
         bases: vec![1, 3, 5, 7],
@@ -29,9 +29,7 @@ pub fn plan() -> Plan {
     }
 }
 
-/// The twelve runs; P11 speaks of the plan alone and has the empty list. P2,
-/// P3, P4, P5 and P12 go on after the first thing that the document says of
-/// them, so their whole list stands here.
+/// The twelve runs; P11 is about the plan alone and has the empty list.
 #[rustfmt::skip]
 pub const RUNS: [(&str, &[Event]); 12] = [
     ("P1", &[Release(0), Acquire(0), Release(1), Work(2), Unlock(0), Finish, Finish]),
@@ -105,12 +103,12 @@ fn row(answer: &Answer, place: usize) -> [u8; 4] {
     [four[0], four[1], four[2], four[3]]
 }
 
-/// The report of a run that nothing refuses, as the document prints P1.
+/// The report of a run that nothing refuses, as a program prints it.
 fn printed(answer: &Answer) -> String {
     let mut text = String::from("event running user next call\n");
     for place in 0..answer.rows.len() / 4 {
         let [running, user, next, call] = row(answer, place);
-        let who = if running == 255 {
+        let who = if running == NOBODY {
             "-".to_string()
         } else {
             running.to_string()
@@ -142,72 +140,80 @@ pub fn test() -> (usize, Vec<String>) {
 
 fn runs_p1_to_p4(tests: &mut Tests) {
     let p1 = run("P1");
-    tests.expect("P1: the book has 84 bytes", book(RUNS[0].1).len(), 84);
+    tests.expect("P1: length of the book", book(RUNS[0].1).len(), 84);
     tests.expect("P1: nothing refused", (p1.number, p1.place), (0, 0));
-    tests.expect("P1: printed exactly", printed(&p1).as_str(), P1_PRINTED);
+    tests.expect("P1: the whole report", printed(&p1).as_str(), P1_PRINTED);
 
     let p2 = run("P2");
     tests.expect("P2: nothing refused", p2.number, 0);
     tests.expect(
-        "P2: restored 3, next 3, no call, 0 runs",
+        "P2: the first unlock leaves task 0 running without a call",
         row(&p2, 4),
         [0, 3, 3, 0],
     );
     tests.expect(
-        "P2: unlock 1: one call, 1 runs",
+        "P2: the second unlock calls, and task 1 runs",
         (row(&p2, 5)[0], row(&p2, 5)[3]),
         (1, 1),
     );
-    tests.expect("P2: one call in all", p2.lazy_calls, 1);
+    tests.expect("P2: calls in all", p2.lazy_calls, 1);
 
     let p3 = run("P3");
     tests.expect("P3: nothing refused", p3.number, 0);
-    tests.expect("P3: 0 runs, words 5 and 5", row(&p3, 2), [0, 5, 5, 0]);
     tests.expect(
-        "P3: unlock 0: call, 2 runs",
+        "P3: task 0 still runs, both words are 5",
+        row(&p3, 2),
+        [0, 5, 5, 0],
+    );
+    tests.expect(
+        "P3: the unlock calls, and task 2 runs",
         (row(&p3, 3)[0], row(&p3, 3)[3]),
         (2, 1),
     );
 
     let p4 = run("P4");
     tests.expect("P4: nothing refused", p4.number, 0);
-    tests.expect("P4: 3 runs", row(&p4, 3)[0], 3);
-    tests.expect("P4: finish: 0 runs, not 2", row(&p4, 4)[0], 0);
+    tests.expect("P4: task 3 runs", row(&p4, 3)[0], 3);
+    tests.expect("P4: after its finish task 0 goes on", row(&p4, 4)[0], 0);
 }
 
 fn runs_p5_to_p12(tests: &mut Tests) {
     let p5 = run("P5");
     tests.expect(
-        "P5: work 4 accepted, work 1: 21",
+        "P5: the unit past the limit is refused",
         (p5.number, p5.place),
         (21, 3),
     );
     let p6 = run("P6");
-    tests.expect("P6: 19", (p6.number, p6.place), (19, 3));
+    tests.expect("P6: refused", (p6.number, p6.place), (19, 3));
     let p7 = run("P7");
-    tests.expect("P7: 22", (p7.number, p7.place), (22, 2));
+    tests.expect("P7: refused", (p7.number, p7.place), (22, 2));
     let p8 = run("P8");
-    tests.expect("P8: 14", (p8.number, p8.place), (14, 1));
+    tests.expect("P8: refused", (p8.number, p8.place), (14, 1));
     let p9 = run("P9");
-    tests.expect("P9: 15", (p9.number, p9.place), (15, 1));
+    tests.expect("P9: refused", (p9.number, p9.place), (15, 1));
 
     let p10 = run("P10");
     tests.expect("P10: nothing refused", (p10.number, p10.place), (0, 0));
     tests.expect("P10: no rows", p10.rows.len(), 0);
     let plan = plan();
     let fresh = Lazy::new(&plan, Wrong::Nothing);
-    tests.expect("P10: nobody", fresh.running(), None);
+    tests.expect("P10: nobody runs", fresh.running, None);
     tests.expect(
-        "P10: words 0 and 0",
-        (fresh.user_word(), fresh.next_word()),
+        "P10: both words are 0",
+        (fresh.user_word, fresh.next_word),
         (Word(0), Word(0)),
     );
 
     tests.expect("P11: bounds", run("P11").bounds, vec![0, 10, 4, 0]);
 
     let p12 = run("P12");
-    tests.expect("P12: task 1's delay is 10", p12.delays[1], 10);
-    tests.expect("P12: work 1: 21", (p12.number, p12.place), (21, 4));
+    tests.expect("P12: the delay of task 1", p12.delays[1], 10);
+    tests.expect(
+        "P12: the unit past the limit is refused",
+        (p12.number, p12.place),
+        (21, 4),
+    );
 }
 
 /// What no book can show: 11, 20, and the order of 11 before 20 before 12.
@@ -239,19 +245,18 @@ fn single_steps(tests: &mut Tests) {
     while eager.step(Tick).is_ok() && lazy.step(Tick).is_ok() {
         accepted += 1;
     }
-    tests.expect("exactly 1,000,000 ticks are accepted", accepted, 1_000_000);
+    tests.expect("so many ticks are accepted", accepted, MOST_ACCEPTED);
     tests.expect("eager: then work of 0 is 11", eager.step(Work(0)), Err(11));
     tests.expect("lazy: then a tick is 11", lazy.step(Tick), Err(11));
     tests.expect("lazy: then work of 0 is 11", lazy.step(Work(0)), Err(11));
 }
 
-/// Each easy way to go wrong, on the run that the document names for it.
+/// Each easy way to go wrong, on the run that is meant to show it.
 fn wrong_ways(tests: &mut Tests) {
     let p2 = RUNS[1].1;
     let p4 = RUNS[3].1;
 
-    // "P4 then lets 2 into lock 0 beside 0": task 2 runs and its acquire meets
-    // the open lock, which is 17.
+    // Task 2 runs while task 0 has lock 0 open, and its acquire meets 17.
     let mut p4_and_acquire = p4.to_vec();
     p4_and_acquire.push(Acquire(0));
     let tail = answer(&p4_and_acquire, Wrong::Tail);
@@ -262,15 +267,19 @@ fn wrong_ways(tests: &mut Tests) {
         (17, 5),
     );
 
-    // "P2 then calls one time too many."
+    // The first unlock of P2 calls too.
     let at_or_above = answer(p2, Wrong::AtOrAbove);
     tests.expect("at-or-above: P2 calls twice", at_or_above.lazy_calls, 2);
 
-    // "P2 then switches with lock 1 open."
+    // The first unlock of P2 switches, though lock 1 is still open.
     let base = answer(p2, Wrong::Base);
-    tests.expect("base: P2 switches with lock 1 open", row(&base, 4)[0], 1);
+    tests.expect(
+        "base: P2 switches one unlock too early",
+        row(&base, 4)[0],
+        1,
+    );
 
-    // "Lock 1's limit in a nest is then passed."
+    // The outer section of a nest gets past its limit.
     let nest = answer(&NEST, Wrong::Nothing);
     tests.expect(
         "nest: 21 at its last work",

@@ -2,9 +2,11 @@
 //! contents entry, the length or the row space can be wrong, at several places
 //! and also several at once, so that the order of the tests matters.
 
+use crate::book::{entry_at, CONTENTS_BYTES, ENTRY_BYTES};
 use crate::draft::Draft;
 use crate::plan::{MOST_EVENTS, MOST_LOCKS, MOST_TASKS, MOST_USES};
 use crate::random::Random;
+use crate::wire::MOST_BYTES;
 
 /// Applies the damages of these refusal numbers to a book that would be
 /// accepted. The answer need not be the least of them: one damage can hide or
@@ -40,9 +42,14 @@ pub fn damaged(random: &mut Random, mut draft: Draft, numbers: &[u8]) -> (Vec<u8
         }
     }
     if numbers.contains(&1) {
-        bytes.truncate(random.pick(&[0, 1, 7, 8, 16, 24, 30, 31]));
+        let length = match random.below(3) {
+            0 => random.below(2),
+            1 => ENTRY_BYTES * random.below(4),
+            _ => CONTENTS_BYTES - random.between(1, 2),
+        };
+        bytes.truncate(length);
     }
-    bytes.truncate(65_536);
+    bytes.truncate(MOST_BYTES);
     (bytes, row_space)
 }
 
@@ -52,7 +59,7 @@ pub fn row_space(random: &mut Random, needed: usize) -> usize {
         0..=29 => needed,
         30..=33 => needed + random.between(1, 3),
         34..=38 => needed + random.between(4, 60),
-        _ => random.between(needed, 65_536),
+        _ => random.between(needed, MOST_BYTES.max(needed)),
     }
 }
 
@@ -75,22 +82,26 @@ fn some_place(random: &mut Random, count: usize) -> usize {
     }
 }
 
-/// 2, with bodies of matching size.
+/// 2, with bodies of matching size: none, a few more than can be, or as many as
+/// a byte can or cannot count.
 fn grow_a_body(random: &mut Random, draft: &mut Draft) {
+    let byte = usize::from(u8::MAX);
+    let mut more = |most: usize| most + random.pick(&[1, 1, 2]);
+    let (tasks, locks) = (more(MOST_TASKS), more(MOST_LOCKS));
+    let (uses, events) = (more(MOST_USES), more(MOST_EVENTS));
+    let last_use = [(MOST_TASKS - 1) as u8, (MOST_LOCKS - 1) as u8];
     match random.below(16) {
         0..=2 => draft.tasks.clear(),
-        3..=6 => draft
-            .tasks
-            .resize(random.pick(&[97, 97, 98, 255, 256]), [1, 0]),
-        7..=10 => draft
-            .locks
-            .resize(random.pick(&[33, 33, 34, 256]), [1, 0, 1, 0]),
-        11..=14 => draft
-            .uses
-            .resize(random.pick(&[3_073, 3_073, 3_074]), [95, 31]),
-        _ => draft
-            .events
-            .resize(random.pick(&[12_001, 12_001, 12_002]), [6, 0, 0, 0]),
+        3..=6 => {
+            let count = random.pick(&[tasks, tasks, byte.max(tasks), byte + 1]);
+            draft.tasks.resize(count, [1, 0]);
+        }
+        7..=10 => {
+            let count = random.pick(&[locks, locks, byte + 1]);
+            draft.locks.resize(count, [1, 0, 1, 0]);
+        }
+        11..=14 => draft.uses.resize(uses, last_use),
+        _ => draft.events.resize(events, [6, 0, 0, 0]),
     }
 }
 
@@ -101,25 +112,25 @@ fn count_out_of_range(random: &mut Random, bytes: &mut [u8]) {
     let count = match random.below(4) {
         0 if entry == 1 => 0,
         0 | 1 => least,
-        2 => 65_535,
-        _ => random.between(least, 65_535),
+        2 => usize::from(u16::MAX),
+        _ => random.between(least, usize::from(u16::MAX)),
     };
     write_count(bytes, entry, count);
 }
 
 fn write_count(bytes: &mut [u8], entry: usize, count: usize) {
-    let at = 8 * (entry - 1) + 2;
+    let at = entry_at(entry) + 2;
     bytes[at..at + 2].copy_from_slice(&(count as u16).to_le_bytes());
 }
 
 /// 3: kind, offset, a legal but wrong count, or the end.
 fn damage_contents(random: &mut Random, bytes: &mut Vec<u8>) {
     let entry = random.between(1, 4);
-    let at = 8 * (entry - 1);
+    let at = entry_at(entry);
     match random.below(8) {
         0 => bytes[at] = random.below(6) as u8,
-        1 => bytes[at + 1] = random.between(1, 255) as u8,
-        2 => bytes[at + 4] = bytes[at + 4].wrapping_add(random.pick(&[1, 255, 2, 254])),
+        1 => bytes[at + 1] = random.some_byte(),
+        2 => bytes[at + 4] = bytes[at + 4].wrapping_add(random.pick(&[1, 2, u8::MAX, u8::MAX - 1])),
         3 => bytes[at + random.between(4, 7)] = random.byte(),
         4 => {
             let count = u16::from_le_bytes([bytes[at + 2], bytes[at + 3]]);
@@ -131,40 +142,40 @@ fn damage_contents(random: &mut Random, bytes: &mut Vec<u8>) {
             write_count(bytes, entry, usize::from(changed));
         }
         5 => {
-            let first = random.between(1, 4);
-            for byte in 0..8 {
-                bytes.swap(at + byte, 8 * (first - 1) + byte);
+            let other = entry_at(random.between(1, 4));
+            for byte in 0..ENTRY_BYTES {
+                bytes.swap(at + byte, other + byte);
             }
         }
         6 => {
             let shorter = match random.below(3) {
-                0 => 32,
-                1 => random.between(32, bytes.len()),
+                0 => CONTENTS_BYTES,
+                1 => random.between(CONTENTS_BYTES, bytes.len()),
                 _ => bytes.len() - 1,
             };
-            bytes.truncate(shorter.max(32));
+            bytes.truncate(shorter.max(CONTENTS_BYTES));
         }
         _ => {
-            let spare = random.pick(&[1, 1, 2, 4, 32]);
+            let spare = random.pick(&[1, 1, 2, 4, CONTENTS_BYTES]);
             let fill = random.byte();
             bytes.resize(bytes.len() + spare, fill);
         }
     }
 }
 
-/// 4: "a task with base 0 or second byte not 0".
+/// 4: no base, or something in the second byte.
 fn damage_task(random: &mut Random, draft: &mut Draft) {
     let place = some_place(random, draft.tasks.len());
     if let Some(task) = draft.tasks.get_mut(place) {
         if random.one_in(2) {
             task[0] = 0;
         } else {
-            task[1] = random.between(1, 255) as u8;
+            task[1] = random.some_byte();
         }
     }
 }
 
-/// 5: "a lock with ceiling 0, second byte not 0, or limit 0".
+/// 5: no ceiling, no limit, or something in the second byte.
 fn damage_lock(random: &mut Random, draft: &mut Draft) {
     if draft.locks.is_empty() {
         draft.locks.push([1, 0, 1, 0]);
@@ -173,12 +184,12 @@ fn damage_lock(random: &mut Random, draft: &mut Draft) {
     let lock = &mut draft.locks[place];
     match random.below(3) {
         0 => lock[0] = 0,
-        1 => lock[1] = random.between(1, 255) as u8,
+        1 => lock[1] = random.some_byte(),
         _ => (lock[2], lock[3]) = (0, 0),
     }
 }
 
-/// 6: "a use with an unknown id, or out of order".
+/// 6: an unknown task or lock, a use twice, or uses in another order.
 fn damage_use(random: &mut Random, draft: &mut Draft) {
     if draft.uses.is_empty() {
         draft.uses.push([0, 0]);
@@ -186,8 +197,8 @@ fn damage_use(random: &mut Random, draft: &mut Draft) {
     let (tasks, locks) = (draft.tasks.len(), draft.locks.len());
     let place = some_place(random, draft.uses.len());
     match random.below(6) {
-        0 => draft.uses[place][0] = tasks.min(255) as u8,
-        1 => draft.uses[place][1] = locks.min(255) as u8,
+        0 => draft.uses[place][0] = tasks.min(usize::from(u8::MAX)) as u8,
+        1 => draft.uses[place][1] = locks.min(usize::from(u8::MAX)) as u8,
         2 => draft.uses[place] = [random.byte(), random.byte()],
         3 => {
             let doubled = draft.uses[place];
@@ -204,7 +215,7 @@ fn damage_use(random: &mut Random, draft: &mut Draft) {
     }
 }
 
-/// 7: "a lock without users, or its ceiling isn't the greatest base".
+/// 7: users go, or the ceiling or a base becomes another.
 fn damage_ceiling(random: &mut Random, draft: &mut Draft) {
     if draft.locks.is_empty() || (random.one_in(8) && draft.locks.len() < MOST_LOCKS) {
         draft.locks.push([1, 0, 1, 0]);
@@ -215,7 +226,7 @@ fn damage_ceiling(random: &mut Random, draft: &mut Draft) {
         0 => draft.uses.retain(|pair| usize::from(pair[1]) != place),
         1 => draft.locks[place][0] = draft.locks[place][0].max(2) - 1,
         2 => draft.locks[place][0] = draft.locks[place][0].saturating_add(1),
-        3 => draft.locks[place][0] = random.between(1, 255) as u8,
+        3 => draft.locks[place][0] = random.some_byte(),
         _ => {
             // A base rises above the ceilings of its locks.
             let task = some_place(random, draft.tasks.len());
@@ -226,7 +237,7 @@ fn damage_ceiling(random: &mut Random, draft: &mut Draft) {
     }
 }
 
-/// 8: "an event of kind outside 1 to 6, unused field not 0, or work of 0".
+/// 8: no such kind, something in a field without use, or a work of 0.
 fn damage_event(random: &mut Random, draft: &mut Draft) {
     if draft.events.is_empty() {
         draft.events.push([6, 0, 0, 0]);
@@ -235,10 +246,10 @@ fn damage_event(random: &mut Random, draft: &mut Draft) {
     let event = &mut draft.events[place];
     let id_is_used = (1..=3).contains(&event[0]);
     match random.below(6) {
-        0 => event[0] = random.pick(&[0, 7, 255]),
-        1 => event[0] = random.between(7, 255) as u8,
+        0 => event[0] = random.pick(&[0, 7, u8::MAX]),
+        1 => event[0] = random.between(7, usize::from(u8::MAX)) as u8,
         2 => *event = [4, 0, 0, 0],
-        3 if !id_is_used => event[1] = random.between(1, 255) as u8,
+        3 if !id_is_used => event[1] = random.some_byte(),
         4 => {
             *event = [
                 random.between(5, 6) as u8,
@@ -250,7 +261,7 @@ fn damage_event(random: &mut Random, draft: &mut Draft) {
         _ => {
             let kind = random.pick(&[1, 2, 3, 5, 6]);
             *event = [kind, 0, 0, 0];
-            event[random.between(2, 3)] = random.between(1, 255) as u8;
+            event[random.between(2, 3)] = random.some_byte();
         }
     }
 }
@@ -259,7 +270,7 @@ fn damage_event(random: &mut Random, draft: &mut Draft) {
 pub fn change_one_byte(random: &mut Random, bytes: &mut [u8]) {
     // Half of the changes fall on the contents and the first records.
     let end = if random.one_in(2) {
-        bytes.len().min(48)
+        bytes.len().min(CONTENTS_BYTES + 16)
     } else {
         bytes.len()
     };
@@ -267,7 +278,7 @@ pub fn change_one_byte(random: &mut Random, bytes: &mut [u8]) {
     let before = bytes[at];
     bytes[at] = match random.below(5) {
         0 => 0,
-        1 => 255,
+        1 => u8::MAX,
         2 => before.wrapping_add(1),
         3 => before.wrapping_sub(1),
         _ => random.byte(),

@@ -1,7 +1,7 @@
 //! What the judge demands of its own two schedulers while it judges: after
 //! every event they agree and the words are as defined, no lock has two
-//! holders, no section exceeds its limit, every delay is at most its bound; and
-//! at the end the counts equal the counts over the history.
+//! holders, every section is within its limit and every delay within its bound;
+//! and at the end the counts equal the counts over the history.
 
 use crate::book::Book;
 use crate::eager::Eager;
@@ -12,16 +12,20 @@ use crate::plan::Plan;
 /// The demands after one accepted event; an error says in words what is wrong.
 pub fn after_event(plan: &Plan, bounds: &[u16], eager: &Eager, lazy: &Lazy) -> Result<(), String> {
     same_task_and_words(eager, lazy)?;
+    if eager.calls() != lazy.eager_calls {
+        return Err("the counts of eager calls differ".to_string());
+    }
     holders_and_sections(plan, eager, lazy)?;
     for (task, bound) in bounds.iter().enumerate() {
-        if eager.release_number(task) != lazy.release_number(task) {
+        if eager.release_number(task) != lazy.tasks[task].release_number {
             return Err(format!("the release numbers of task {task} differ"));
         }
-        if eager.open_locks(task) != lazy.open_locks(task) {
+        let open = lazy.tasks[task].open.iter().map(|open| &open.lock);
+        if !eager.open_locks(task).iter().eq(open) {
             return Err(format!("the open locks of task {task} differ"));
         }
         let delay = eager.delays()[task];
-        if delay != lazy.delay(task) {
+        if delay != lazy.tasks[task].delay {
             return Err(format!("the delays of task {task} differ"));
         }
         if delay > *bound {
@@ -33,33 +37,28 @@ pub fn after_event(plan: &Plan, bounds: &[u16], eager: &Eager, lazy: &Lazy) -> R
     Ok(())
 }
 
-/// "The user word is the running task's priority, 0 with nobody. The next word
-/// is the greatest priority of the other released tasks, 0 without one."
+/// Both run the same task. The user word is its priority, and the next word the
+/// greatest one among the tasks that wait, as the eager scheduler works them
+/// out; 0 where there is none.
 fn same_task_and_words(eager: &Eager, lazy: &Lazy) -> Result<(), String> {
-    if eager.running() != lazy.running() {
-        let (e, l) = (eager.running(), lazy.running());
+    if eager.running() != lazy.running {
+        let (e, l) = (eager.running(), lazy.running);
         return Err(format!(
             "the eager scheduler runs {e:?}, the lazy one {l:?}"
         ));
     }
     let user = eager.running().map_or(0, |task| eager.priority(task));
-    if lazy.user_word().0 != user {
-        return Err(format!(
-            "the user word is {}, not {user}",
-            lazy.user_word().0
-        ));
+    if lazy.user_word.0 != user {
+        return Err(format!("the user word is {}, not {user}", lazy.user_word.0));
     }
     let next = eager.greatest_other_priority();
-    if lazy.next_word().0 != next {
-        return Err(format!(
-            "the next word is {}, not {next}",
-            lazy.next_word().0
-        ));
+    if lazy.next_word.0 != next {
+        return Err(format!("the next word is {}, not {next}", lazy.next_word.0));
     }
     Ok(())
 }
 
-/// No lock has two holders, and no section exceeds its limit.
+/// No lock has two holders, and every section is within its limit.
 fn holders_and_sections(plan: &Plan, eager: &Eager, lazy: &Lazy) -> Result<(), String> {
     let mut holders: Vec<Option<usize>> = vec![None; plan.locks.len()];
     for task in 0..plan.bases.len() {
@@ -72,11 +71,11 @@ fn holders_and_sections(plan: &Plan, eager: &Eager, lazy: &Lazy) -> Result<(), S
         }
     }
     for (lock, holder) in holders.iter().enumerate() {
-        if *holder != lazy.holder(lock) {
+        if *holder != lazy.sections[lock].holder {
             return Err(format!("the holders of lock {lock} differ"));
         }
         let units = eager.units(lock);
-        if units != lazy.units(lock) {
+        if units != lazy.sections[lock].units {
             return Err(format!("the units of lock {lock} differ"));
         }
         if units > u32::from(plan.locks[lock].limit) {
@@ -122,9 +121,9 @@ pub fn after_run(
     Ok(())
 }
 
-/// "The number of units worked, since its latest accepted release and until
-/// that job's finish, by running tasks of strictly lower base." The task that
-/// ran at an event is the one that the row before names.
+/// The units that tasks of lower base worked between the task's latest release
+/// and the end of that job. The task that ran at an event is the one that the
+/// row before names.
 fn delay_over_history(plan: &Plan, history: &[Event], rows: &[u8], task: usize) -> u64 {
     let is_release = |event: &Event| *event == Event::Release(task as u8);
     let Some(released_at) = history.iter().rposition(is_release) else {

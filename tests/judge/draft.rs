@@ -1,6 +1,7 @@
 //! Writing books: a draft holds the records of the four bodies, right or wrong,
 //! and becomes bytes with a right table of contents in front of them.
 
+use crate::book::CONTENTS_BYTES;
 use crate::event::Event;
 use crate::plan::Plan;
 
@@ -33,10 +34,9 @@ impl Draft {
         }
     }
 
-    /// "The first 32 bytes are four entries of 8 bytes: kind (2 bytes: 1 tasks,
-    /// 2 locks, 3 uses, 4 events, in that order), record count (2), offset from
-    /// the book's start (4). The bodies follow in that order, the first at 32,
-    /// without gaps."
+    /// Four entries: kind (two bytes, counted from 1), number of records (two)
+    /// and offset in the book (four). The bodies stand behind them in the same
+    /// order without a gap.
     pub fn bytes(&self) -> Vec<u8> {
         let bodies = [
             (self.tasks.len(), self.tasks.concat()),
@@ -45,7 +45,7 @@ impl Draft {
             (self.events.len(), self.events.concat()),
         ];
         let mut bytes = Vec::new();
-        let mut offset = 32;
+        let mut offset = CONTENTS_BYTES;
         for (at, (count, body)) in bodies.iter().enumerate() {
             bytes.extend_from_slice(&(at as u16 + 1).to_le_bytes());
             bytes.extend_from_slice(&(*count as u16).to_le_bytes());

@@ -2,14 +2,14 @@
 //! from bases, open locks and release numbers. It keeps no word and no kept or
 //! saved priority; nothing here is shared with the lazy scheduler.
 
+use crate::aims::Scene;
 use crate::event::Event;
-use crate::plan::Plan;
+use crate::plan::{Plan, MOST_ACCEPTED, MOST_OPEN};
 use crate::wrong::Wrong;
 
-/// "A job is the span from a task's accepted release to its accepted finish."
+/// What is known of a task from its accepted release until its accepted finish.
 struct Job {
-    /// "The release number is the number of that event among accepted events,
-    /// from 1."
+    /// Which one of the accepted events, from 1, released the task.
     release_number: u32,
     /// The open locks of the task, oldest first.
     open: Vec<usize>,
@@ -26,8 +26,7 @@ pub struct Eager<'p> {
     units: Vec<u32>,
     /// By task.
     delays: Vec<u16>,
-    /// "Eager calls: one for each accepted acquire and one for each accepted
-    /// unlock."
+    /// Each accepted acquire and each accepted unlock is one.
     calls: u32,
 }
 
@@ -76,8 +75,8 @@ impl<'p> Eager<'p> {
         self.calls
     }
 
-    /// "A released task's priority is the greatest of its base and the ceilings
-    /// of its open locks (003, rule b)." Only asked for released tasks.
+    /// The base of a released task, or the greatest ceiling of its open locks
+    /// where that is greater.
     pub fn priority(&self, task: usize) -> u8 {
         let ceilings = self
             .open_locks(task)
@@ -86,7 +85,7 @@ impl<'p> Eager<'p> {
         ceilings.fold(self.plan.bases[task], u8::max)
     }
 
-    /// The greatest priority of the released tasks other than the running one,
+    /// The greatest priority among the released tasks other than the running one,
     /// 0 without one.
     pub fn greatest_other_priority(&self) -> u8 {
         (0..self.jobs.len())
@@ -107,12 +106,12 @@ impl<'p> Eager<'p> {
         }
     }
 
-    /// "Order for an event: 10, 11, 20; release 13, 14; acquire 12, 13, 15, 16,
-    /// 17, 18; unlock 12, 13, 19; work 12, 21; finish 12, 22." 0 if none of
-    /// them. 10 needs a state that wasn't reached from a fresh start, which
-    /// this scheduler cannot hold.
+    /// The number of the first test that fails, 0 if none does. 11 and 20 come
+    /// first, then 12 for an act, then the tests of each kind in the order of
+    /// their numbers. 10 needs a state that wasn't reached from a fresh start,
+    /// which this scheduler cannot hold.
     pub fn refusal(&self, event: Event) -> u8 {
-        if self.accepted >= 1_000_000 {
+        if self.accepted >= MOST_ACCEPTED {
             return 11;
         }
         if event == Event::Work(0) {
@@ -121,12 +120,11 @@ impl<'p> Eager<'p> {
         match (event, self.running) {
             (Event::Release(task), _) => self.refusal_of_release(usize::from(task)),
             (Event::Tick, _) => 0,
-            // "Acquire, unlock, work and finish are acts of the running task."
+            // All others are acts of a running task.
             (_, None) => 12,
             (Event::Acquire(lock), Some(task)) => self.refusal_of_acquire(task, usize::from(lock)),
             (Event::Unlock(lock), Some(task)) => self.refusal_of_unlock(task, usize::from(lock)),
             (Event::Work(amount), Some(task)) => {
-                // "An open section would pass its limit."
                 let passes = |lock: &usize| {
                     let limit = u32::from(self.plan.locks[*lock].limit);
                     self.units[*lock] + u32::from(amount) > limit
@@ -137,7 +135,6 @@ impl<'p> Eager<'p> {
                     0
                 }
             }
-            // "Finish with a lock open."
             (Event::Finish, Some(task)) => {
                 if self.open_locks(task).is_empty() {
                     0
@@ -153,7 +150,7 @@ impl<'p> Eager<'p> {
             return 13; // no such task
         }
         if self.is_released(task) {
-            return 14; // task already released
+            return 14; // it is released already
         }
         0
     }
@@ -163,16 +160,16 @@ impl<'p> Eager<'p> {
             return 13; // no such lock
         }
         if !self.plan.declares(task, lock) {
-            return 15; // not a declared user
+            return 15; // the task is no user of the lock
         }
         if self.open_locks(task).contains(&lock) {
-            return 16; // lock already open for this task
+            return 16; // this task has it open
         }
         if (0..self.jobs.len()).any(|other| self.open_locks(other).contains(&lock)) {
-            return 17; // lock open for another task
+            return 17; // another one has it open
         }
-        if self.open_locks(task).len() >= 8 {
-            return 18; // eight locks open for this task already
+        if self.open_locks(task).len() >= MOST_OPEN {
+            return 18; // this task has no place for another lock
         }
         0
     }
@@ -182,12 +179,12 @@ impl<'p> Eager<'p> {
             return 13; // no such lock
         }
         if self.open_locks(task).last() != Some(&lock) {
-            return 19; // not this task's newest open lock
+            return 19; // it isn't the newest lock that this task has open
         }
         0
     }
 
-    /// "Work adds its amount to every open section of the running task."
+    /// The sections that a work counts for: every open one of the task.
     fn charged(&self, task: usize) -> &[usize] {
         let open = self.open_locks(task);
         match self.wrong {
@@ -207,19 +204,18 @@ impl<'p> Eager<'p> {
                     release_number: self.accepted,
                     open: Vec::new(),
                 });
-                // The delay counts "since its latest accepted release"; "it is
-                // reset by the next release".
+                // The delay counts anew for each job.
                 self.delays[task] = 0;
             }
             (Event::Acquire(lock), Some(task)) => {
                 let lock = usize::from(lock);
                 self.open_of(task).push(lock);
-                self.units[lock] = 0; // "a section starts at 0 units"
+                self.units[lock] = 0;
                 self.calls += 1;
             }
             (Event::Unlock(lock), Some(task)) => {
                 self.open_of(task).pop();
-                self.units[usize::from(lock)] = 0; // "back to 0 when it ends"
+                self.units[usize::from(lock)] = 0;
                 self.calls += 1;
             }
             (Event::Work(amount), Some(task)) => {
@@ -229,8 +225,8 @@ impl<'p> Eager<'p> {
                 self.delay_others(task, amount);
             }
             (Event::Finish, Some(task)) => self.jobs[task] = None,
-            // "Tick is a kernel entry that changes nothing but the event
-            // number." The other acts were refused with nobody running.
+            // A tick counts as an event and does nothing else. With nobody
+            // running all acts were refused.
             _ => {}
         }
         self.running = self.elect();
@@ -246,9 +242,7 @@ impl<'p> Eager<'p> {
             .open
     }
 
-    /// "A task's delay is the number of units worked, since its latest accepted
-    /// release and until that job's finish, by running tasks of strictly lower
-    /// base."
+    /// Work delays every released task whose base is above the worker's.
     fn delay_others(&mut self, worker: usize, amount: u16) {
         for task in 0..self.jobs.len() {
             if self.is_released(task) && self.plan.bases[worker] < self.plan.bases[task] {
@@ -257,9 +251,8 @@ impl<'p> Eager<'p> {
         }
     }
 
-    /// "After each event the running task is the released one of greatest
-    /// priority; among equals, the one released earliest. With none released,
-    /// nobody runs."
+    /// The released task of greatest priority, and of equal ones the one that
+    /// was released first; nobody where none is released.
     fn elect(&self) -> Option<usize> {
         let mut best: Option<usize> = None;
         for task in (0..self.jobs.len()).filter(|task| self.is_released(*task)) {
@@ -286,5 +279,23 @@ impl<'p> Eager<'p> {
                 job.release_number = self.accepted;
             }
         }
+    }
+}
+
+impl Scene for Eager<'_> {
+    fn running(&self) -> Option<usize> {
+        self.running
+    }
+
+    fn is_released(&self, task: usize) -> bool {
+        self.jobs[task].is_some()
+    }
+
+    fn open_locks(&self, task: usize) -> Vec<usize> {
+        self.open_locks(task).to_vec()
+    }
+
+    fn units(&self, lock: usize) -> usize {
+        self.units[lock] as usize
     }
 }

@@ -1,5 +1,4 @@
-//! The six events: "1 release (a task), 2 acquire (a lock), 3 unlock (a lock),
-//! 4 work (an amount), 5 finish, 6 tick", and their four bytes in the book.
+//! The six events and their four bytes in the book: kind, id, amount (two).
 
 #[derive(Clone, Copy, Debug, PartialEq, Eq)]
 pub enum Event {
@@ -12,8 +11,8 @@ pub enum Event {
 }
 
 impl Event {
-    /// "Event, 4 bytes: kind, id, amount (2)", little-endian. "A field that its
-    /// kind doesn't use is zero."
+    /// The kinds are numbered from 1 in the order above. The amount is
+    /// little-endian, and a field that the kind has no use for is 0.
     pub fn record(self) -> [u8; 4] {
         match self {
             Event::Release(task) => [1, task, 0, 0],
@@ -25,8 +24,8 @@ impl Event {
         }
     }
 
-    /// Nothing where refusal 8 applies: "an event of kind outside 1 to 6,
-    /// unused field not 0, or work of 0". An unknown task or lock is not
+    /// Nothing where the record is one of refusal 8: no such kind, something in
+    /// a field without use, or a work of 0. An unknown task or lock is not
     /// looked at here: it is 13 at its turn.
     pub fn from_record(record: [u8; 4]) -> Option<Event> {
         let id = record[1];

@@ -1,7 +1,8 @@
 //! The generated books: which sort of book the n-th one of a seed is. Short
 //! ones of up to 60 events are of all sorts, right and damaged; long ones have
-//! the full 12,000 events.
+//! as many events as a book can.
 
+use crate::check::{check, Checked};
 use crate::damage;
 use crate::draft::Draft;
 use crate::event::Event;
@@ -23,11 +24,20 @@ impl Case {
     pub fn replay(&self, wrong: Wrong) -> Outcome {
         replay(&self.book, self.row_space, wrong)
     }
+
+    pub fn check(&self) -> Checked {
+        check(&self.book, self.row_space)
+    }
+
+    pub fn told(&self) -> String {
+        let (name, bytes, room) = (&self.name, self.book.len(), self.row_space);
+        format!("{name}, {bytes} bytes, row space {room}")
+    }
 }
 
 /// The short book of this number.
 pub fn short(seed: u64, number: u64) -> Case {
-    let random = &mut Random::for_book(seed, 1, number);
+    let random = &mut Random::for_case(seed, 1, number);
     let (sort, book, row_space) = match random.below(100) {
         0..=54 => {
             let (plan, events) = short_run(random);
@@ -92,25 +102,25 @@ fn short_run(random: &mut Random) -> (Plan, Vec<Event>) {
         random.between(4, 60)
     };
     let number = random.pick(&walk::WANTED);
-    // The ninth lock itself, or some other refusal with eight locks open.
-    let with_eight_open = number == 18 || (number != 12 && random.one_in(6));
+    // One lock too many, or some other refusal with as many open as can be.
+    let with_most_open = number == 18 || (number != 12 && random.one_in(6));
     let wanted = if random.one_in(2) {
         Some(Wanted {
             number,
             from: random.below(length + 1),
-            with_eight_open,
+            with_most_open,
         })
     } else {
         None
     };
-    let wants_eight = wanted.is_some_and(|wanted| wanted.with_eight_open);
+    let wants_most = wanted.is_some_and(|wanted| wanted.with_most_open);
     let wants_nest = wanted.is_some_and(|wanted| wanted.number == 21) && random.one_in(2);
-    let plan = if wants_eight || wants_nest || random.one_in(8) {
+    let plan = if wants_most || wants_nest || random.one_in(8) {
         plans::deep(random)
     } else {
         plans::any(random)
     };
-    let style: &Style = if wants_eight || random.one_in(8) {
+    let style: &Style = if wants_most || random.one_in(8) {
         &walk::DEEP
     } else {
         random.pick(&[&walk::MIXED, &walk::CONTENDED])
@@ -119,9 +129,9 @@ fn short_run(random: &mut Random) -> (Plan, Vec<Event>) {
     (plan, events)
 }
 
-/// The long book of this number: 12,000 events.
+/// The long book of this number.
 pub fn long(seed: u64, number: u64) -> Case {
-    let random = &mut Random::for_book(seed, 2, number);
+    let random = &mut Random::for_case(seed, 2, number);
     let (plan, style, sort) = match number % 4 {
         0 => (plans::contended(random), &walk::CONTENDED, "contended"),
         1 => (plans::any(random), &walk::MIXED, "mixed"),
@@ -134,7 +144,7 @@ pub fn long(seed: u64, number: u64) -> Case {
         Some(Wanted {
             number,
             from,
-            with_eight_open: false,
+            with_most_open: false,
         })
     } else {
         None

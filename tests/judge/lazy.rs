@@ -1,67 +1,74 @@
 //! The lazy scheduler: the user word, the next word, kept priorities, saved
-//! words, switches and lazy calls, to the letter of the text. It never works
-//! out a priority from the open locks; nothing here is shared with the eager
-//! scheduler.
+//! words, switches and lazy calls, to the letter of the rules, also where the
+//! running task isn't the most urgent one. It never works out a priority from
+//! the open locks; nothing here is shared with the eager scheduler.
 
 use crate::event::Event;
-use crate::plan::Plan;
+use crate::plan::{Plan, MOST_ACCEPTED, MOST_OPEN, MOST_UNITS, NOBODY};
 use crate::wrong::Wrong;
 
-/// "The word in user space and the kernel's record are two kinds of number that
-/// must not be mixed up in code": this is the word in user space.
+/// A number of user space. It is another type than the kernel's number, so that
+/// the two cannot be taken for each other.
 #[derive(Clone, Copy, Debug, PartialEq, Eq, PartialOrd, Ord)]
 pub struct Word(pub u8);
 
-/// And this is the kernel's record, the kept priority of a task.
+/// A number of the kernel: the kept priority of a task.
 #[derive(Clone, Copy, Debug, PartialEq, Eq, PartialOrd, Ord)]
 pub struct Kept(pub u8);
 
 /// An open lock of a task, with the user word that its acquire saved.
 #[derive(Clone, Copy)]
-struct OpenLock {
-    lock: usize,
-    saved: Word,
+pub struct OpenLock {
+    pub lock: usize,
+    pub saved: Word,
 }
 
 /// The figures of one task.
 #[derive(Clone)]
-struct Figures {
+pub struct TaskFigures {
     /// 0 while the task isn't released.
-    release_number: u32,
+    pub release_number: u32,
     /// 0 for the running task and for an unreleased one.
-    kept: Kept,
+    pub kept: Kept,
     /// Oldest first.
-    open: Vec<OpenLock>,
-    delay: u16,
+    pub open: Vec<OpenLock>,
+    pub delay: u16,
 }
 
 /// The figures of one lock.
 #[derive(Clone)]
-struct Section {
-    holder: Option<usize>,
-    units: u32,
+pub struct Section {
+    pub holder: Option<usize>,
+    pub units: u32,
 }
 
 pub struct Lazy<'p> {
-    plan: &'p Plan,
-    wrong: Wrong,
-    accepted: u32,
-    running: Option<usize>,
-    user_word: Word,
-    next_word: Word,
-    tasks: Vec<Figures>,
-    sections: Vec<Section>,
-    calls: u32,
+    pub plan: &'p Plan,
+    pub wrong: Wrong,
+    pub accepted: u32,
+    pub running: Option<usize>,
+    pub user_word: Word,
+    pub next_word: Word,
+    pub tasks: Vec<TaskFigures>,
+    pub sections: Vec<Section>,
+    pub calls: u32,
+    /// How often the eager scheduler would have called: an accepted acquire and
+    /// an accepted unlock count one each.
+    pub eager_calls: u32,
 }
 
 impl<'p> Lazy<'p> {
     /// The fresh start.
     pub fn new(plan: &'p Plan, wrong: Wrong) -> Lazy<'p> {
-        let figures = Figures {
+        let figures = TaskFigures {
             release_number: 0,
             kept: Kept(0),
             open: Vec::new(),
             delay: 0,
+        };
+        let closed = Section {
+            holder: None,
+            units: 0,
         };
         Lazy {
             plan,
@@ -71,57 +78,20 @@ impl<'p> Lazy<'p> {
             user_word: Word(0),
             next_word: Word(0),
             tasks: vec![figures; plan.bases.len()],
-            sections: vec![
-                Section {
-                    holder: None,
-                    units: 0
-                };
-                plan.locks.len()
-            ],
+            sections: vec![closed; plan.locks.len()],
             calls: 0,
+            eager_calls: 0,
         }
-    }
-
-    pub fn running(&self) -> Option<usize> {
-        self.running
-    }
-
-    pub fn user_word(&self) -> Word {
-        self.user_word
-    }
-
-    pub fn next_word(&self) -> Word {
-        self.next_word
-    }
-
-    pub fn calls(&self) -> u32 {
-        self.calls
-    }
-
-    pub fn release_number(&self, task: usize) -> u32 {
-        self.tasks[task].release_number
     }
 
     pub fn open_locks(&self, task: usize) -> Vec<usize> {
         self.tasks[task].open.iter().map(|open| open.lock).collect()
     }
 
-    pub fn delay(&self, task: usize) -> u16 {
-        self.tasks[task].delay
-    }
-
-    pub fn holder(&self, lock: usize) -> Option<usize> {
-        self.sections[lock].holder
-    }
-
-    pub fn units(&self, lock: usize) -> u32 {
-        self.sections[lock].units
-    }
-
-    /// "For each accepted event a row of four bytes is written: running task
-    /// (255 for nobody), user word, next word, 1 for a lazy call or else 0."
+    /// The row that an accepted event writes: who runs, the two words, and
+    /// whether it was a lazy call.
     pub fn row(&self, lazy_call: bool) -> [u8; 4] {
-        let running = self.running.map_or(255, |task| task as u8);
+        let running = self.running.map_or(NOBODY, |task| task as u8);
         [
             running,
             self.user_word.0,
@@ -131,12 +101,12 @@ impl<'p> Lazy<'p> {
     }
 
     /// One event: whether it was a lazy call, or its refusal number and nothing
-    /// changed. "Order for an event: 10, 11, 20", then that of its kind.
+    /// changed. 11 and 20 come before the tests of the event's kind.
     pub fn step(&mut self, event: Event) -> Result<bool, u8> {
-        if self.accepted == 1_000_000 {
+        if self.accepted == MOST_ACCEPTED {
             return Err(11);
         }
-        if let Event::Work(0) = event {
+        if event == Event::Work(0) && self.wrong != Wrong::No20 {
             return Err(20);
         }
         let lazy_call = match event {
@@ -151,7 +121,7 @@ impl<'p> Lazy<'p> {
         Ok(lazy_call)
     }
 
-    /// 12: "nobody runs".
+    /// 12 where nobody runs.
     fn runner(&self) -> Result<usize, u8> {
         self.running.ok_or(12)
     }
@@ -168,11 +138,14 @@ impl<'p> Lazy<'p> {
         let figures = &mut self.tasks[task];
         figures.release_number = self.accepted + 1;
         figures.delay = 0;
-        // "A newcomer's kept priority is its base."
+        // What is kept for a newcomer is its base.
         figures.kept = Kept(base);
-        // "On release the kernel switches only where the newcomer's base is
-        // strictly above the user word."
-        if base > self.user_word.0 {
+        // The kernel switches only for a base that is above the user word.
+        let switches = match self.wrong {
+            Wrong::ReleaseAtOrAbove => base >= self.user_word.0,
+            _ => base > self.user_word.0,
+        };
+        if switches {
             self.switch();
         } else {
             self.set_next_word();
@@ -191,22 +164,25 @@ impl<'p> Lazy<'p> {
         }
         match self.sections[lock].holder {
             Some(holder) if holder == task => return Err(16),
-            Some(_) => return Err(17),
-            None => {}
+            Some(_) if self.wrong != Wrong::No17 => return Err(17),
+            _ => {}
         }
-        if self.tasks[task].open.len() == 8 {
+        let most_open = match self.wrong {
+            Wrong::OneMoreOpen => MOST_OPEN + 1,
+            _ => MOST_OPEN,
+        };
+        if self.tasks[task].open.len() >= most_open {
             return Err(18);
         }
-        // "Acquire saves the user word and sets it to the greater of itself and
-        // the ceiling."
+        // The user word is saved and rises to the ceiling, if it is below it.
         let saved = self.user_word;
         self.tasks[task].open.push(OpenLock { lock, saved });
         self.user_word = saved.max(Word(self.plan.locks[lock].ceiling));
-        // "A section starts at 0 units."
         self.sections[lock] = Section {
             holder: Some(task),
             units: 0,
         };
+        self.eager_calls += 1;
         Ok(false)
     }
 
@@ -221,18 +197,16 @@ impl<'p> Lazy<'p> {
             _ => return Err(19),
         };
         self.tasks[task].open.pop();
-        // "Its count goes back to 0 when it ends."
         self.sections[lock] = Section {
             holder: None,
             units: 0,
         };
-        // "Unlock puts the saved one back;"
         self.user_word = match self.wrong {
             Wrong::Base => Word(self.plan.bases[task]),
             _ => newest.saved,
         };
-        // "if it is then strictly below the next word, that is one lazy call,
-        // and the kernel switches."
+        // If the next word is above what was restored, this is a lazy call, and
+        // the kernel switches.
         let lazy_call = match self.wrong {
             Wrong::AtOrAbove => self.next_word >= self.user_word,
             _ => self.user_word < self.next_word,
@@ -241,13 +215,14 @@ impl<'p> Lazy<'p> {
             self.calls += 1;
             self.switch();
         }
+        self.eager_calls += 1;
         Ok(lazy_call)
     }
 
     /// Work: 12, 21.
     fn work(&mut self, amount: u16) -> Result<bool, u8> {
         let worker = self.runner()?;
-        // "Work adds its amount to every open section of the running task."
+        // All sections that the worker has open are charged.
         let mut charged = self.open_locks(worker);
         if self.wrong == Wrong::Newest && charged.len() > 1 {
             charged = vec![charged[charged.len() - 1]];
@@ -261,16 +236,23 @@ impl<'p> Lazy<'p> {
         for lock in charged {
             self.sections[lock].units += u32::from(amount);
         }
-        // A delay is "the number of units worked ... by running tasks of
-        // strictly lower base"; "the count sticks at 65,535".
+        self.delay_others(worker, amount);
+        Ok(false)
+    }
+
+    /// Every released task of a base above the worker's is delayed; a delay
+    /// stays at its greatest value when it gets there.
+    fn delay_others(&mut self, worker: usize, amount: u16) {
         let base_of_worker = self.plan.bases[worker];
         for (figures, base) in self.tasks.iter_mut().zip(&self.plan.bases) {
             if figures.release_number != 0 && base_of_worker < *base {
                 let sum = u32::from(figures.delay) + u32::from(amount);
-                figures.delay = sum.min(65_535) as u16;
+                figures.delay = match self.wrong {
+                    Wrong::DelayWraps => figures.delay.wrapping_add(amount),
+                    _ => sum.min(u32::from(MOST_UNITS)) as u16,
+                };
             }
         }
-        Ok(false)
     }
 
     /// Finish: 12, 22.
@@ -279,44 +261,27 @@ impl<'p> Lazy<'p> {
         if !self.tasks[task].open.is_empty() {
             return Err(22);
         }
-        // "Finish always switches so, but keeps no priority for the finished
-        // task, whose figures are all cleared (its delay stays)."
+        // It always switches, but nothing is kept for the task that leaves: all
+        // its figures are 0 now, except its delay.
+        let last_word = self.user_word;
         self.tasks[task].release_number = 0;
         self.running = None;
         self.user_word = Word(0);
         self.switch();
+        if self.wrong == Wrong::KeptStays {
+            self.tasks[task].kept = Kept(last_word.0);
+        }
         Ok(false)
     }
 
-    /// "On a switch it keeps the leaving task's user word as that task's
-    /// priority; then the released task of greatest kept priority runs, ties to
-    /// the earlier release; the running task's kept priority is 0 until it
-    /// leaves."
+    /// The user word is kept as the priority of the task that leaves. Whoever of
+    /// the released tasks has the greatest kept priority is next, and of equal
+    /// ones the one released first. While a task runs, nothing is kept for it.
     fn switch(&mut self) {
         if let Some(leaving) = self.running {
             self.tasks[leaving].kept = Kept(self.user_word.0);
         }
-        let mut chosen: Option<usize> = None;
-        for task in 0..self.tasks.len() {
-            let figures = &self.tasks[task];
-            if figures.release_number == 0 {
-                continue;
-            }
-            chosen = match chosen {
-                Some(other) => {
-                    let rival = &self.tasks[other];
-                    let wins = figures.kept > rival.kept
-                        || (figures.kept == rival.kept
-                            && figures.release_number < rival.release_number);
-                    if wins {
-                        Some(task)
-                    } else {
-                        Some(other)
-                    }
-                }
-                None => Some(task),
-            };
-        }
+        let chosen = self.elect();
         if self.wrong == Wrong::Tail && self.running != chosen {
             // The preempted task counts as if this event had released it.
             if let Some(leaving) = self.running {
@@ -324,7 +289,7 @@ impl<'p> Lazy<'p> {
             }
         }
         self.running = chosen;
-        // "The user word is the running task's priority, 0 with nobody."
+        // From now on the user word is that of whoever runs, 0 with nobody.
         self.user_word = Word(0);
         if let Some(task) = chosen {
             self.user_word = Word(self.tasks[task].kept.0);
@@ -333,9 +298,27 @@ impl<'p> Lazy<'p> {
         self.set_next_word();
     }
 
-    /// "The next word is the greatest priority of the other released tasks, 0
-    /// without one." The running task's kept priority is 0, and so is that of
-    /// every unreleased task.
+    fn elect(&self) -> Option<usize> {
+        let mut chosen: Option<usize> = None;
+        for (task, figures) in self.tasks.iter().enumerate() {
+            if figures.release_number == 0 {
+                continue;
+            }
+            let wins = chosen.is_none_or(|other| {
+                let rival = &self.tasks[other];
+                figures.kept > rival.kept
+                    || (figures.kept == rival.kept && figures.release_number < rival.release_number)
+            });
+            if wins {
+                chosen = Some(task);
+            }
+        }
+        chosen
+    }
+
+    /// The next word tells how urgent the most urgent waiting task is, 0 without
+    /// one: it is the greatest of all kept priorities, since nothing is kept for
+    /// the running task nor for an unreleased one.
     fn set_next_word(&mut self) {
         let greatest = self.tasks.iter().map(|figures| figures.kept).max();
         self.next_word = Word(greatest.unwrap_or(Kept(0)).0);

@@ -1,17 +1,26 @@
 //! An independent judge of the scheduler project: a second reading of the exact
-//! rules, with its own reader of books and its own two schedulers. It makes
-//! books, has the program under judgement replay them, and compares every field
-//! of every answer with its own. It shares no line with what it judges.
+//! rules, with its own reader of books, its own two schedulers and its own test
+//! of soundness. It makes books and states, has the program under judgement
+//! replay, check and step them, and compares every field and figure of every
+//! answer with its own. It shares no line with what it judges.
 //!
-//!     judge [--seed N] [--count N] [--long N] [--wrong NAME] [--dump FILE] -- COMMAND ARGS..
-//!     judge --self [--seed N] [--count N] [--long N]
+//!     judge [OPTION..] -- COMMAND ARGS..
+//!     judge --self [OPTION..]
 //!     judge --write KIND FILE
+//!     judge --ways
 //!
-//! It ends with 0 if all agrees, 1 if anything differs, 2 if it cannot judge.
+//! It ends with 0 if all agrees, 3 if the program differs and nothing else is
+//! amiss, 1 if the run could not do what it had to, 2 if it was called wrongly
+//! or cannot start the program.
 
+mod aims;
+mod book;
+mod book_cases;
 #[rustfmt::skip] // its tables read better a line each
 mod boundaries;
-mod book;
+mod broken;
+mod by_hand;
+mod check;
 mod compare;
 mod crane;
 mod damage;
@@ -20,7 +29,9 @@ mod draft;
 mod eager;
 mod event;
 mod generate;
+mod judging;
 mod lazy;
+mod notation;
 mod own;
 mod plan;
 mod plans;
@@ -28,56 +39,90 @@ mod program;
 mod random;
 mod refusals;
 mod replay;
+mod requests;
+mod resume;
+mod sound;
+mod state_notation;
+mod states;
+mod step;
+mod step_cases;
+mod step_tally;
 mod tally;
+mod trials;
+mod verdict;
 mod walk;
+mod whole;
 mod wire;
 mod wrong;
 
+use judging::Ending;
+use requests::Amounts;
 use std::process::ExitCode;
+use step_tally::StepTally;
 use tally::Tally;
 use wrong::Wrong;
 
 const USAGE: &str = "\
-usage: judge [--seed N] [--count N] [--long N] [--wrong NAME] [--dump FILE] -- COMMAND ARGS..
-       judge --self [--seed N] [--count N] [--long N]
+usage: judge [OPTION..] -- COMMAND ARGS..
+       judge --self [OPTION..]
        judge --write contended|plain FILE
---count  short books (20000)      --long  books of 12,000 events (40)
---wrong  the judge itself goes wrong: tail, at-or-above, base or newest
---dump   where the first book that differs is written";
+       judge --ways
+--seed N    of all that is generated (1)
+--count N   short books (20000)
+--long N    books of the most events (40)
+--steps N   single steps (100000)
+--wrong WAY the judge itself goes wrong, in one of the ways that --ways lists
+--dump FILE where the book or state of the first difference is written";
 
-const DEFAULT_COUNT: u64 = 20_000;
-const DEFAULT_LONG: u64 = 40;
+/// With so many or more, all that the rules have must be reached.
+const DEFAULT: Amounts = Amounts {
+    seed: 1,
+    short: 20_000,
+    long: 40,
+    steps: 100_000,
+};
 
 pub struct Options {
-    pub seed: u64,
-    /// How many short books.
-    pub count: u64,
-    /// How many books of full length.
-    pub long: u64,
+    pub amounts: Amounts,
     pub wrong: Wrong,
     pub dump: Option<String>,
     /// The program under judgement and its arguments.
     pub command: Vec<String>,
-    own: bool,
-    /// The kind and the file of `--write`.
-    write: Option<(String, String)>,
+    task: Task,
+}
+
+enum Task {
+    Judge,
+    JudgeSelf,
+    /// A full-length book of this kind to this file.
+    Write(String, String),
+    Ways,
 }
 
 impl Options {
-    /// Whether so many books were asked for that all numbers must occur.
+    /// Whether so many steps were asked for that all must be reached.
     pub fn is_full(&self) -> bool {
-        self.count >= DEFAULT_COUNT && self.wrong == Wrong::Nothing
+        self.amounts.steps >= DEFAULT.steps
     }
 
-    /// Whether the generated books reached all that they have to.
-    pub fn covers(&self, tally: &Tally) -> bool {
-        let (missing, never) = (tally.missing(), tally.never_met());
-        if missing.is_empty() && never.is_empty() {
-            return true;
-        }
-        println!("not met by these books: numbers {missing:?}, {never:?}");
-        !self.is_full()
+    /// Whether the generated books and steps reached all that they have to. A
+    /// run with fewer than the default number need not.
+    pub fn is_covered(&self, books: &Tally, steps: &StepTally) -> bool {
+        let has_all_books = self.amounts.short >= DEFAULT.short;
+        let by_books = is_reached("books", &books.missing(), has_all_books);
+        let by_steps = is_reached("steps", &steps.missing(), self.is_full());
+        by_books && by_steps
     }
+}
+
+/// Tells what was not reached; true if nothing is, or nothing is demanded.
+fn is_reached(by: &str, missing: &[String], is_demanded: bool) -> bool {
+    if is_demanded {
+        missing.iter().for_each(|what| println!("MISSING: {what}"));
+    } else {
+        println!("too few {by} to reach all: {} missing", missing.len());
+    }
+    missing.is_empty() || !is_demanded
 }
 
 fn main() -> ExitCode {
@@ -87,8 +132,9 @@ fn main() -> ExitCode {
         Err(error) => Err(format!("{error}\n{USAGE}")),
     };
     match result {
-        Ok(true) => ExitCode::SUCCESS,
-        Ok(false) => ExitCode::from(1),
+        Ok(Ending::Agrees) => ExitCode::SUCCESS,
+        Ok(Ending::Failed) => ExitCode::from(1),
+        Ok(Ending::Differs) => ExitCode::from(3),
         Err(error) => {
             eprintln!("judge: {error}");
             ExitCode::from(2)
@@ -96,42 +142,45 @@ fn main() -> ExitCode {
     }
 }
 
-fn carry_out(options: &Options) -> Result<bool, String> {
-    if let Some((kind, path)) = &options.write {
-        return write_book(kind, path);
+fn carry_out(options: &Options) -> Result<Ending, String> {
+    match &options.task {
+        Task::Judge => judging::judge(options),
+        Task::JudgeSelf => Ok(own::judge_self(options)),
+        Task::Write(kind, path) => write_book(kind, path),
+        Task::Ways => {
+            wrong::WRONG_WAYS
+                .iter()
+                .for_each(|(name, _)| println!("{name}"));
+            Ok(Ending::Agrees)
+        }
     }
-    if options.own {
-        return Ok(own::judge_self(options));
-    }
-    program::judge(options)
 }
 
 fn options(words: &[String]) -> Result<Options, String> {
     let mut options = Options {
-        seed: 1,
-        count: DEFAULT_COUNT,
-        long: DEFAULT_LONG,
+        amounts: DEFAULT,
         wrong: Wrong::Nothing,
         dump: None,
         command: Vec::new(),
-        own: false,
-        write: None,
+        task: Task::Judge,
     };
     let mut rest = words.iter();
     while let Some(word) = rest.next() {
         let mut value = || rest.next().ok_or(format!("{word} wants a value"));
         match word.as_str() {
-            "--seed" => options.seed = number(value()?)?,
-            "--count" => options.count = number(value()?)?,
-            "--long" => options.long = number(value()?)?,
+            "--seed" => options.amounts.seed = number(value()?)?,
+            "--count" => options.amounts.short = number(value()?)?,
+            "--long" => options.amounts.long = number(value()?)?,
+            "--steps" => options.amounts.steps = number(value()?)?,
             "--wrong" => {
                 let name = value()?;
-                options.wrong =
-                    wrong::from_name(name).ok_or(format!("no wrong way is called {name}"))?;
+                let wrong = wrong::from_name(name);
+                options.wrong = wrong.ok_or(format!("no wrong way is called {name}"))?;
             }
             "--dump" => options.dump = Some(value()?.clone()),
-            "--self" => options.own = true,
-            "--write" => options.write = Some((value()?.clone(), value()?.clone())),
+            "--self" => options.task = Task::JudgeSelf,
+            "--write" => options.task = Task::Write(value()?.clone(), value()?.clone()),
+            "--ways" => options.task = Task::Ways,
             "--" => {
                 options.command = rest.cloned().collect();
                 break;
@@ -139,8 +188,12 @@ fn options(words: &[String]) -> Result<Options, String> {
             _ => return Err(format!("unknown word {word}")),
         }
     }
-    if options.command.is_empty() && !options.own && options.write.is_none() {
-        return Err("no program to judge".to_string());
+    let is_judge = matches!(options.task, Task::Judge);
+    if options.command.is_empty() == is_judge {
+        return Err("a program to judge is wanted, and only then".to_string());
+    }
+    if options.wrong != Wrong::Nothing && !is_judge {
+        return Err("--wrong wants a program".to_string());
     }
     Ok(options)
 }
@@ -150,17 +203,12 @@ fn number(word: &str) -> Result<u64, String> {
 }
 
 /// `--write`: a full-length book, after a look that all of it is accepted.
-fn write_book(kind: &str, path: &str) -> Result<bool, String> {
+fn write_book(kind: &str, path: &str) -> Result<Ending, String> {
     let case = generate::full_length(kind).ok_or(format!("no book is of kind {kind}"))?;
     let outcome = case.replay(Wrong::Nothing);
-    if let Some(words) = outcome.violation {
-        return Err(words);
-    }
-    if outcome.answer.number != 0 {
-        return Err(format!(
-            "the book was refused with {}",
-            outcome.answer.number
-        ));
+    if outcome.violation.is_some() || outcome.answer.number != 0 {
+        println!("{}: refused, or {:?}", case.name, outcome.violation);
+        return Ok(Ending::Failed);
     }
     std::fs::write(path, &case.book).map_err(|error| format!("cannot write {path}: {error}"))?;
     println!(
@@ -171,5 +219,5 @@ fn write_book(kind: &str, path: &str) -> Result<bool, String> {
         outcome.answer.lazy_calls,
         outcome.answer.eager_calls,
     );
-    Ok(true)
+    Ok(Ending::Agrees)
 }

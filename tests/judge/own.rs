@@ -1,67 +1,135 @@
-//! `--self`: the judge without a program. It runs the crane plan, the set
-//! pieces and the generated books through its own two schedulers with all
-//! demands on, and shows that each wrong way changes some answer.
+//! `--self`: the judge without a program. It runs the crane plan, all that was
+//! made by hand and all that is generated through its own schedulers with all
+//! demands on, and shows that each wrong way changes some answers.
 
-use crate::boundaries;
+use crate::by_hand::{self, tell};
+use crate::compare;
 use crate::crane;
-use crate::generate;
+use crate::generate::Case;
+use crate::judging::Ending;
+use crate::requests::{self, Ask};
+use crate::state_notation::reads_back;
+use crate::step_cases::StepCase;
+use crate::step_tally::StepTally;
 use crate::tally::Tally;
+use crate::trials::Trial;
 use crate::wrong::{Wrong, WRONG_WAYS};
 use crate::Options;
 
-/// True if all is right.
-pub fn judge_self(options: &Options) -> bool {
-    let mut right = true;
-    right &= tell("tests on the crane plan and on single steps", crane::test());
-    right &= tell("set pieces at the edges of the rules", boundaries::test());
-    right &= generated(options);
-    println!(
-        "{}",
-        if right {
-            "the judge agrees with itself"
-        } else {
-            "FAILED"
-        }
-    );
-    right
-}
+/// Of so many generated books and steps one is tried in each wrong way, and its
+/// state written and read back.
+const ONE_WRONG_IN: usize = 6;
 
-fn tell(what: &str, (done, failed): (usize, Vec<String>)) -> bool {
-    println!("{done} {what}, {} failed", failed.len());
-    for words in &failed {
-        println!("  {words}");
+pub fn judge_self(options: &Options) -> Ending {
+    let Some(by_hand) = by_hand::read() else {
+        return Ending::Failed;
+    };
+    let mut right = tell("runs of the crane plan and single steps", crane::test());
+    right &= tell("figures that are told apart", compare::test());
+    right &= by_hand.test();
+    let mut own = Own::default();
+    own.try_by_hand(&by_hand.steps);
+    own.try_generated(options);
+    right &= own.close(options);
+    if !right {
+        println!("FAILED");
+        return Ending::Failed;
     }
-    failed.is_empty()
+    println!("the judge agrees with itself");
+    Ending::Agrees
 }
 
-fn generated(options: &Options) -> bool {
-    let mut tally = Tally::default();
-    let mut violations = 0;
-    let mut changed = [0; WRONG_WAYS.len()];
-    let shorts = (0..options.count).map(|number| generate::short(options.seed, number));
-    let longs = (0..options.long).map(|number| generate::long(options.seed, number));
-    for case in shorts.chain(longs) {
+/// How often each wrong way gave another answer.
+type Changed = [usize; WRONG_WAYS.len()];
+
+/// Counts the wrong ways for which the answer is another one.
+fn count(changed: &mut Changed, is_other: impl Fn(Wrong) -> bool) {
+    for (times, (_, wrong)) in changed.iter_mut().zip(WRONG_WAYS) {
+        *times += usize::from(is_other(wrong));
+    }
+}
+
+#[derive(Default)]
+struct Own {
+    books: Tally,
+    steps: StepTally,
+    violations: usize,
+    changed_by_hand: Changed,
+    changed_books: Changed,
+    changed_steps: Changed,
+}
+
+impl Own {
+    fn try_by_hand(&mut self, steps: &[StepCase]) {
+        for case in steps {
+            let right = case.trial.step(Wrong::Nothing).stepped;
+            let is_other = |wrong| case.trial.step(wrong).stepped != right;
+            count(&mut self.changed_by_hand, is_other);
+        }
+    }
+
+    fn try_generated(&mut self, options: &Options) {
+        for (at, request) in requests::generated(options.amounts).enumerate() {
+            let goes_wrong = at % ONE_WRONG_IN == 0;
+            let violation = match &request.ask {
+                Ask::Replay(case) => self.try_book(case, goes_wrong),
+                // The reader is the same as that of the replay.
+                Ask::Check(_) => None,
+                Ask::Step(trial) => self.try_step(trial, goes_wrong),
+            };
+            if let Some(words) = violation {
+                self.violations += 1;
+                println!("{}: {words}", request.name());
+            }
+        }
+    }
+
+    fn try_book(&mut self, case: &Case, goes_wrong: bool) -> Option<String> {
         let outcome = case.replay(Wrong::Nothing);
-        tally.count(&outcome);
-        if let Some(words) = &outcome.violation {
-            violations += 1;
-            println!("{}: {words}", case.name);
+        self.books.count(&outcome);
+        if goes_wrong {
+            let is_other = |wrong| case.replay(wrong).answer != outcome.answer;
+            count(&mut self.changed_books, is_other);
         }
-        for (times, (_, wrong)) in changed.iter_mut().zip(WRONG_WAYS) {
-            *times += usize::from(case.replay(wrong).answer != outcome.answer);
-        }
+        outcome.violation
     }
-    tally.print_table();
-    println!(
-        "{}; {violations} violations of the demands",
-        tally.summary()
-    );
-    let mut right = violations == 0 && options.covers(&tally);
-    for (times, (name, _)) in changed.iter().zip(WRONG_WAYS) {
-        println!("gone wrong as `{name}`, {times} books get another answer");
-        if *times == 0 && options.is_full() {
-            right = false;
+
+    fn try_step(&mut self, trial: &Trial, goes_wrong: bool) -> Option<String> {
+        let outcome = trial.step(Wrong::Nothing);
+        self.steps.count(trial, &outcome);
+        if goes_wrong {
+            let is_other = |wrong| trial.step(wrong).stepped != outcome.stepped;
+            count(&mut self.changed_steps, is_other);
+            if !reads_back(&trial.given) {
+                return Some("it is not read back from its notation".to_string());
+            }
         }
+        outcome.violation
     }
-    right
+
+    /// Tells all; false if something is wrong or was not reached.
+    fn close(&self, options: &Options) -> bool {
+        self.books.print_table();
+        self.steps.print_table();
+        println!("{}", self.books.summary());
+        println!("{}", self.steps.summary());
+        println!("{} violations of the judge's own demands", self.violations);
+        let is_covered = options.is_covered(&self.books, &self.steps);
+        let are_told = self.tell_wrong_ways(options);
+        self.violations == 0 && is_covered && are_told
+    }
+
+    /// False if a wrong way changed no hand-made step or, in a full run, no
+    /// generated one. In books only some of them can show.
+    fn tell_wrong_ways(&self, options: &Options) -> bool {
+        let mut right = true;
+        println!("gone wrong, another answer to hand-made steps, generated steps and books:");
+        for (at, (name, _)) in WRONG_WAYS.iter().enumerate() {
+            let (by_hand, steps) = (self.changed_by_hand[at], self.changed_steps[at]);
+            let books = self.changed_books[at];
+            println!("  {by_hand:>4} {steps:>6} {books:>6}  {name}");
+            right &= by_hand > 0 && (steps > 0 || !options.is_full());
+        }
+        right
+    }
 }

@@ -1,10 +1,19 @@
-//! The recorder's plan: tasks, locks and uses, and the bound on a task's delay.
+//! The recorder's plan: tasks, locks and uses, and the bound on a task's delay;
+//! and the sizes of the rules. Each size stands here and nowhere else.
 
-/// The ranges of a plan and of a book's events.
+/// The most records of each kind in a book. A plan has at least one task.
 pub const MOST_TASKS: usize = 96;
 pub const MOST_LOCKS: usize = 32;
 pub const MOST_USES: usize = 3_072;
 pub const MOST_EVENTS: usize = 12_000;
+/// The most locks that one task may have open at once.
+pub const MOST_OPEN: usize = 8;
+/// The most events that a state may have accepted.
+pub const MOST_ACCEPTED: u32 = 1_000_000;
+/// The most units of a section, of one work and of a delay.
+pub const MOST_UNITS: u16 = 65_535;
+/// Stands where a task is named and nobody runs.
+pub const NOBODY: u8 = 255;
 
 #[derive(Clone, Copy, Debug, PartialEq, Eq)]
 pub struct Lock {
@@ -12,18 +21,19 @@ pub struct Lock {
     pub limit: u16,
 }
 
-/// "Tasks and locks are named by place, from 0."
+/// A task or a lock is named by its place, from 0.
 #[derive(Clone, Debug, PartialEq, Eq)]
 pub struct Plan {
-    /// The base priority of each task; the larger number is more urgent.
+    /// The base priority of each task; of two, the greater one is more urgent.
     pub bases: Vec<u8>,
     pub locks: Vec<Lock>,
-    /// Pairs of task and lock, "strictly increasing by task, then lock".
+    /// Pairs of task and lock: the task may take the lock. They rise by task,
+    /// and by lock for the same task.
     pub uses: Vec<(u8, u8)>,
 }
 
 impl Plan {
-    /// "A use says that one task may take one lock."
+    /// Whether the task is a user of the lock.
     pub fn declares(&self, task: usize, lock: usize) -> bool {
         self.uses.binary_search(&(task as u8, lock as u8)).is_ok()
     }
@@ -37,8 +47,9 @@ impl Plan {
             .max()
     }
 
-    /// "The bound for a task of base p is the greatest limit among locks with
-    /// ceiling at least p and a user of base below p; 0 if there are none."
+    /// Only locks whose ceiling reaches the task's base and that have a user of
+    /// lower base can delay it; the greatest limit of these is its bound, 0
+    /// where there is no such lock.
     pub fn bound(&self, task: usize) -> u16 {
         let p = self.bases[task];
         let mut greatest = 0;

@@ -1,12 +1,13 @@
 //! Random valid plans of all sizes. There are few distinct bases, so that ties
-//! are common, and most locks are shared, so that they are contended.
+//! are common, and most locks are contended. Every lock has at least two users.
 
-use crate::plan::{Lock, Plan, MOST_LOCKS, MOST_TASKS};
+use crate::plan::{Lock, Plan, MOST_LOCKS, MOST_OPEN, MOST_TASKS, MOST_UNITS};
 use crate::random::Random;
 
 /// What a random plan is made from.
 struct Shape {
     tasks: usize,
+    /// There are none where one task alone could use them.
     locks: usize,
     /// How many distinct bases there are at most.
     levels: usize,
@@ -17,6 +18,7 @@ struct Shape {
 
 /// A plan for a short list of events.
 pub fn any(random: &mut Random) -> Plan {
+    let greatest = usize::from(MOST_UNITS);
     let shape = match random.below(20) {
         // Small plans, where most of the interesting collisions happen.
         0..=7 => Shape {
@@ -31,53 +33,64 @@ pub fn any(random: &mut Random) -> Plan {
             locks: random.between(0, 10),
             levels: random.between(1, 5),
             one_user_in: random.between(1, 4),
-            greatest_limit: random.pick(&[4, 12, 40, 65_535]),
+            greatest_limit: random.pick(&[4, 12, 40, greatest]),
         },
         16..=18 => Shape {
             tasks: random.between(1, MOST_TASKS),
             locks: random.between(0, MOST_LOCKS),
             levels: random.between(1, 12),
             one_user_in: random.between(2, 24),
-            greatest_limit: random.pick(&[12, 400, 65_535]),
+            greatest_limit: random.pick(&[12, 400, greatest]),
         },
         _ => Shape {
-            tasks: random.pick(&[1, 2, 95, 96]),
-            locks: random.pick(&[0, 1, 31, 32]),
-            levels: random.pick(&[1, 2, 96]),
-            one_user_in: random.pick(&[1, 96]),
-            greatest_limit: random.pick(&[1, 65_535]),
+            tasks: random.pick(&[1, 2, MOST_TASKS - 1, MOST_TASKS]),
+            locks: random.pick(&[0, 1, MOST_LOCKS - 1, MOST_LOCKS]),
+            levels: random.pick(&[1, 2, MOST_TASKS]),
+            one_user_in: random.pick(&[1, MOST_TASKS]),
+            greatest_limit: random.pick(&[1, greatest]),
         },
     };
     build(random, &shape)
 }
 
-/// A plan whose tasks may open more than eight locks.
+/// A plan whose tasks may want more locks than they can have open.
 pub fn deep(random: &mut Random) -> Plan {
     let shape = Shape {
-        tasks: random.between(1, 8),
-        locks: random.between(9, 16),
+        tasks: random.between(2, 8),
+        locks: random.between(MOST_OPEN + 1, 2 * MOST_OPEN),
         levels: random.between(1, 5),
         one_user_in: 1,
-        greatest_limit: random.pick(&[6, 40, 65_535]),
+        greatest_limit: random.pick(&[6, 40, usize::from(MOST_UNITS)]),
     };
     build(random, &shape)
 }
 
-/// Many tasks and locks: 12 bases with eight tasks each, and each lock shared
-/// by about a third of the tasks up to its ceiling, which is seldom a low one.
+/// How many bases a contended plan has, and the first ceiling of a lock there.
+const LEVELS: usize = 12;
+const FIRST_CEILING: usize = 3;
+
+/// As many tasks and locks as can be: tasks of each base in turn, and each lock
+/// shared by about a third of the tasks up to its ceiling, which is never one
+/// of the lowest.
 pub fn contended(random: &mut Random) -> Plan {
-    let bases: Vec<u8> = (0..MOST_TASKS).map(|task| (task % 12) as u8 + 1).collect();
+    let bases: Vec<u8> = (0..MOST_TASKS)
+        .map(|task| (task % LEVELS) as u8 + 1)
+        .collect();
     let mut locks = Vec::new();
     let mut uses = Vec::new();
     for lock in 0..MOST_LOCKS {
-        let ceiling = (lock % 10) as u8 + 3;
+        let ceiling = FIRST_CEILING + lock % (LEVELS - FIRST_CEILING + 1);
         locks.push(Lock {
-            ceiling,
+            ceiling: ceiling as u8,
             limit: random.between(20, 200) as u16,
         });
-        let at_ceiling = usize::from(ceiling) - 1 + 12 * random.below(8);
+        // Two sure users: one at the ceiling and one below it.
+        let turn = LEVELS * random.below(MOST_TASKS / LEVELS);
+        let at_ceiling = turn + ceiling - 1;
+        let below = turn + random.below(ceiling - 1);
         for (task, base) in bases.iter().enumerate() {
-            if task == at_ceiling || (*base <= ceiling && random.one_in(3)) {
+            let may_join = usize::from(*base) <= ceiling && random.one_in(3);
+            if task == at_ceiling || task == below || may_join {
                 uses.push((task as u8, lock as u8));
             }
         }
@@ -86,20 +99,26 @@ pub fn contended(random: &mut Random) -> Plan {
     Plan { bases, locks, uses }
 }
 
-/// Many tasks, and locks of one user each: no lock is ever waited for.
+/// A plain plan has two tasks for each lock.
+const _: () = assert!(MOST_TASKS >= 2 * MOST_LOCKS);
+
+/// As many tasks and locks as can be, and each lock with two users of equal
+/// base: its ceiling raises nobody, and no lock is ever waited for.
 pub fn plain(random: &mut Random) -> Plan {
-    let bases: Vec<u8> = (0..MOST_TASKS)
+    let mut bases: Vec<u8> = (0..MOST_TASKS)
         .map(|_| random.between(1, 24) as u8)
         .collect();
     let mut locks = Vec::new();
     let mut uses = Vec::new();
     for lock in 0..MOST_LOCKS {
-        let user = 3 * lock;
+        let user = lock * (MOST_TASKS / MOST_LOCKS);
+        bases[user + 1] = bases[user];
         locks.push(Lock {
             ceiling: bases[user],
             limit: random.between(50, 500) as u16,
         });
         uses.push((user as u8, lock as u8));
+        uses.push((user as u8 + 1, lock as u8));
     }
     Plan { bases, locks, uses }
 }
@@ -109,23 +128,11 @@ fn build(random: &mut Random, shape: &Shape) -> Plan {
     let bases: Vec<u8> = (0..shape.tasks).map(|_| random.pick(&levels)).collect();
     let mut locks = Vec::new();
     let mut uses = Vec::new();
-    for lock in 0..shape.locks {
-        // Users come from the bases up to a top one, so that ceilings vary.
-        let top = random.pick(&bases);
-        let open_to: Vec<usize> = (0..shape.tasks)
-            .filter(|task| bases[*task] <= top)
-            .collect();
-        let mut users: Vec<usize> = Vec::new();
-        for task in &open_to {
-            if random.one_in(shape.one_user_in) {
-                users.push(*task);
-            }
-        }
-        if users.is_empty() {
-            users.push(random.pick(&open_to));
-        }
+    let count = if shape.tasks < 2 { 0 } else { shape.locks };
+    for lock in 0..count {
+        let users = users(random, &bases, shape.one_user_in);
         let greatest = users.iter().map(|task| bases[*task]).max();
-        let ceiling = greatest.expect("a lock has a user");
+        let ceiling = greatest.expect("a lock has users");
         let limit = random.between(1, shape.greatest_limit) as u16;
         locks.push(Lock { ceiling, limit });
         uses.extend(users.iter().map(|task| (*task as u8, lock as u8)));
@@ -134,14 +141,31 @@ fn build(random: &mut Random, shape: &Shape) -> Plan {
     Plan { bases, locks, uses }
 }
 
+/// Two users or more, from the bases up to a top one, so that ceilings vary.
+fn users(random: &mut Random, bases: &[u8], one_user_in: usize) -> Vec<usize> {
+    let mut by_base: Vec<usize> = (0..bases.len()).collect();
+    by_base.sort_unstable_by_key(|task| bases[*task]);
+    let top = bases[by_base[random.between(1, bases.len() - 1)]];
+    let mut open_to: Vec<usize> = by_base;
+    open_to.retain(|task| bases[*task] <= top);
+    random.shuffle(&mut open_to);
+    let mut joins = || random.one_in(one_user_in);
+    open_to
+        .into_iter()
+        .enumerate()
+        .filter(|(at, _)| *at < 2 || joins())
+        .map(|(_, task)| task)
+        .collect()
+}
+
 /// The bases to choose from: the lowest, the highest, or anywhere.
 fn levels(random: &mut Random, count: usize) -> Vec<u8> {
     let style = random.below(3);
     (0..count)
         .map(|level| match style {
             0 => level as u8 + 1,
-            1 => 255 - level as u8,
-            _ => random.between(1, 255) as u8,
+            1 => u8::MAX - level as u8,
+            _ => random.some_byte(),
         })
         .collect()
 }

@@ -1,123 +1,136 @@
-//! The program under judgement: it runs as a child process, gets every book on
-//! its standard input from a thread of its own, and each of its replies is
-//! compared with the judge's replay.
+//! The program under judgement: it runs as a child process and gets every
+//! request on its standard input from a thread of its own, while its replies are
+//! heard here. A third thread ends it if it stops replying.
 
-use crate::boundaries;
-use crate::compare;
-use crate::generate::{self, Case};
-use crate::replay::Answer;
-use crate::tally::Tally;
-use crate::wire;
-use crate::wrong::Wrong;
-use crate::Options;
+use crate::requests::Request;
+use crate::verdict::Verdict;
 use std::io::{BufReader, BufWriter, Read, Write};
-use std::process::{Child, ChildStdin, Command, Stdio};
-use std::sync::mpsc::{self, Sender};
-use std::sync::Arc;
-use std::thread;
+use std::process::{Child, ChildStdin, ChildStdout, Command, ExitStatus, Stdio};
+use std::sync::atomic::{AtomicUsize, Ordering};
+use std::sync::mpsc::{self, Receiver, RecvTimeoutError, Sender};
+use std::sync::{Arc, Mutex, MutexGuard, PoisonError};
+use std::thread::{self, JoinHandle};
 use std::time::Duration;
 
-/// So many differing books are told in words; the others are only counted.
-const TOLD: usize = 5;
+/// A program that gives no reply for so many looks, this long apart, is ended.
+const PATIENCE: usize = 60;
+const BETWEEN_WATCHES: Duration = Duration::from_secs(1);
 
-/// A book of up to so many bytes is told with its bytes.
-const SHORT_BOOK: usize = 1_024;
+/// A program whose output has ended is looked at so often, this long apart,
+/// until it has ended itself; then it is ended.
+const LOOKS: usize = 500;
+const BETWEEN_LOOKS: Duration = Duration::from_millis(10);
 
-/// Judges the program; true if nothing differs. An error is a program that
-/// could not be started, or a dump that could not be written.
-pub fn judge(options: &Options) -> Result<bool, String> {
-    let mut child = Command::new(&options.command[0])
-        .args(&options.command[1..])
-        .stdin(Stdio::piped())
-        .stdout(Stdio::piped())
-        .spawn()
-        .map_err(|error| format!("cannot start {}: {error}", options.command[0]))?;
-    let stdin = child.stdin.take().expect("a piped input");
-    let mut replies = BufReader::new(child.stdout.take().expect("a piped output"));
+/// So many bytes after the last reply are counted.
+const SPARE: u64 = 65_536;
 
-    // The writer sends each book here before it writes it to the program, and
-    // this channel never blocks, so neither side can wait for the other.
-    let (sender, cases) = mpsc::channel();
-    let (seed, count, long) = (options.seed, options.count, options.long);
-    let writer = thread::spawn(move || write_all_books(stdin, &sender, seed, count, long));
+/// The bytes that are kept for the pipes, in either direction.
+const BUFFER: usize = 65_536;
 
-    let mut verdict = Verdict {
-        options,
-        differing: 0,
-        set_pieces: 0,
-        tally: Tally::default(),
-    };
-    let mut stopped = false;
-    for (case, is_set_piece) in &cases {
-        match wire::read_reply(&mut replies, case.row_space) {
-            Ok(reply) => verdict.hear(&case, &reply, is_set_piece)?,
-            Err(error) => {
-                println!("{}: the program gave no whole reply: {error}", case.name);
-                stopped = true;
-                break;
+pub struct Program {
+    child: Arc<Mutex<Child>>,
+    replies: BufReader<ChildStdout>,
+    /// What was written to the program.
+    sent: Receiver<Request>,
+    writer: JoinHandle<()>,
+    /// How many replies were heard.
+    heard: Arc<AtomicUsize>,
+    /// Its end ends the watch.
+    need_of_watch: Sender<()>,
+    watch: JoinHandle<()>,
+}
+
+impl Program {
+    pub fn start(
+        command: &[String],
+        requests: impl Iterator<Item = Request> + Send + 'static,
+    ) -> Result<Program, String> {
+        let mut child = Command::new(&command[0])
+            .args(&command[1..])
+            .stdin(Stdio::piped())
+            .stdout(Stdio::piped())
+            .spawn()
+            .map_err(|error| format!("cannot start {}: {error}", command[0]))?;
+        let stdin = child.stdin.take().expect("a piped input");
+        let stdout = child.stdout.take().expect("a piped output");
+        let child = Arc::new(Mutex::new(child));
+        // The writer sends each request here before it writes it to the program,
+        // and this channel never blocks, so neither side can wait for the other.
+        let (sender, sent) = mpsc::channel();
+        let writer = thread::spawn(move || write_all(stdin, &sender, requests));
+        let heard = Arc::new(AtomicUsize::new(0));
+        let (need_of_watch, need) = mpsc::channel();
+        let watched = (Arc::clone(&child), Arc::clone(&heard));
+        let watch = thread::spawn(move || keep_watch(&watched.0, &watched.1, &need));
+        Ok(Program {
+            child,
+            replies: BufReader::with_capacity(BUFFER, stdout),
+            sent,
+            writer,
+            heard,
+            need_of_watch,
+            watch,
+        })
+    }
+
+    /// Hears the replies one after another, all of them or until one differs;
+    /// false if the program did not reply to all that it had to.
+    pub fn hear(&mut self, verdict: &mut Verdict, until_one_differs: bool) -> bool {
+        for request in &self.sent {
+            if let Err(error) = verdict.hear(&request, &mut self.replies) {
+                println!("{}: no whole reply: {error}", request.name());
+                return false;
+            }
+            self.heard.fetch_add(1, Ordering::Relaxed);
+            if until_one_differs && verdict.differing > 0 {
+                return true;
             }
         }
+        true
     }
-    drop(cases);
-    let mut spare = Vec::new();
-    if stopped {
-        end_soon(&mut child);
-    } else {
-        let _ = replies.by_ref().take(65_536).read_to_end(&mut spare);
+
+    /// Ends a program of which nothing more is wanted.
+    pub fn kill(self) {
+        let _ = locked(&self.child).kill();
+        drop((self.sent, self.replies, self.need_of_watch));
+        let _ = locked(&self.child).wait();
+        let _ = self.writer.join();
+        let _ = self.watch.join();
     }
-    drop(replies);
-    writer.join().map_err(|_| "the writer failed".to_string())?;
-    let status = child
-        .wait()
-        .map_err(|error| format!("cannot wait for the program: {error}"))?;
-    let mut right = !stopped && verdict.differing == 0;
-    if !spare.is_empty() {
-        println!(
-            "the program wrote {} bytes or more after its replies",
-            spare.len()
-        );
-        right = false;
+
+    /// Waits for the end of a program that was sent all requests; false if it
+    /// has more to say or ends in another way than it should.
+    pub fn end(self) -> bool {
+        drop(self.sent);
+        let mut spare = Vec::new();
+        let _ = self.replies.take(SPARE).read_to_end(&mut spare);
+        let status = wait(&self.child);
+        drop(self.need_of_watch);
+        let has_written = self.writer.join().is_ok();
+        let _ = self.watch.join();
+        if !has_written {
+            println!("the judge failed to make its requests");
+        }
+        if !spare.is_empty() {
+            println!("the program wrote {} bytes too many or more", spare.len());
+        }
+        let is_well = status.is_some_and(|status| status.success());
+        match status {
+            Some(status) if !is_well => println!("the program ended with {status}"),
+            None => println!("the program did not end"),
+            _ => {}
+        }
+        has_written && spare.is_empty() && is_well
     }
-    if !status.success() {
-        println!("the program ended with {status}");
-        right = false;
-    }
-    Ok(verdict.close(right))
 }
 
-/// A program that stopped replying gets a second to end by itself, so that its
-/// own status is told; then it is ended, so that the judge ends too.
-fn end_soon(child: &mut Child) {
-    for _ in 0..100 {
-        if !matches!(child.try_wait(), Ok(None)) {
-            return;
-        }
-        thread::sleep(Duration::from_millis(10));
-    }
-    let _ = child.kill();
-}
-
-/// Set pieces, then short books, then long ones. It ends early only where the
-/// program or the judge no longer listens, which the other side tells.
-fn write_all_books(
-    stdin: ChildStdin,
-    sender: &Sender<(Arc<Case>, bool)>,
-    seed: u64,
-    count: u64,
-    long: u64,
-) {
-    let mut out = BufWriter::new(stdin);
-    let set_pieces = boundaries::set_pieces()
-        .into_iter()
-        .map(|piece| (piece.case, true));
-    let shorts = (0..count).map(|number| (generate::short(seed, number), false));
-    let longs = (0..long).map(|number| (generate::long(seed, number), false));
-    for (case, is_set_piece) in set_pieces.chain(shorts).chain(longs) {
-        let case = Arc::new(case);
-        if sender.send((Arc::clone(&case), is_set_piece)).is_err() {
-            return;
-        }
-        if wire::write_request(&mut out, &case.book, case.row_space).is_err() {
+/// Writes the requests. It ends early only where the program or the judge no
+/// longer listens, which the other side tells.
+fn write_all(stdin: ChildStdin, sender: &Sender<Request>, requests: impl Iterator<Item = Request>) {
+    let mut out = BufWriter::with_capacity(BUFFER, stdin);
+    for request in requests {
+        let bytes = request.bytes();
+        if sender.send(request).is_err() || out.write_all(&bytes).is_err() {
             return;
         }
     }
@@ -125,85 +138,33 @@ fn write_all_books(
     let _ = out.flush();
 }
 
-struct Verdict<'o> {
-    options: &'o Options,
-    differing: usize,
-    set_pieces: usize,
-    tally: Tally,
-}
-
-impl Verdict<'_> {
-    /// One reply: compared with the judge's own replay of the book.
-    fn hear(&mut self, case: &Case, reply: &Answer, is_set_piece: bool) -> Result<(), String> {
-        let outcome = case.replay(self.options.wrong);
-        if is_set_piece {
-            self.set_pieces += 1;
-        } else {
-            self.tally.count(&outcome);
+/// Ends the program when no reply has come for long.
+fn keep_watch(child: &Mutex<Child>, heard: &AtomicUsize, need: &Receiver<()>) {
+    let (mut last, mut silent) = (0, 0);
+    while need.recv_timeout(BETWEEN_WATCHES) == Err(RecvTimeoutError::Timeout) {
+        let now = heard.load(Ordering::Relaxed);
+        silent = if now == last { silent + 1 } else { 0 };
+        last = now;
+        if silent == PATIENCE {
+            println!("no reply for long: the program is ended");
+            let _ = locked(child).kill();
         }
-        let mut found = compare::differences(&outcome.answer, reply);
-        found.extend(
-            outcome
-                .violation
-                .map(|words| format!("the judge's own demand: {words}")),
-        );
-        if found.is_empty() {
-            return Ok(());
-        }
-        self.differing += 1;
-        if self.differing <= TOLD {
-            tell(case, &found);
-        }
-        if self.differing == 1 {
-            if let Some(path) = &self.options.dump {
-                std::fs::write(path, &case.book)
-                    .map_err(|error| format!("cannot write {path}: {error}"))?;
-                println!("  the book is written to {path}");
-            }
-        }
-        Ok(())
-    }
-
-    /// The table and the summary; true if the program is right and, with the
-    /// default count or more, every number occurred.
-    fn close(&self, right: bool) -> bool {
-        self.tally.print_table();
-        let covered = self.options.covers(&self.tally);
-        println!(
-            "{}; {} set pieces; {} books differ: {}",
-            self.tally.summary(),
-            self.set_pieces,
-            self.differing,
-            if right && covered {
-                "the program agrees"
-            } else {
-                "FAILED"
-            },
-        );
-        if self.options.wrong != Wrong::Nothing {
-            println!(
-                "(the judge went wrong on purpose: {:?})",
-                self.options.wrong
-            );
-        }
-        right && covered
     }
 }
 
-fn tell(case: &Case, found: &[String]) {
-    println!(
-        "{}, {} bytes, row space {}:",
-        case.name,
-        case.book.len(),
-        case.row_space
-    );
-    for words in found.iter().take(6) {
-        println!("  {words}");
+/// How the program ended; nothing if it had to be ended here.
+fn wait(child: &Mutex<Child>) -> Option<ExitStatus> {
+    for _ in 0..LOOKS {
+        if let Ok(Some(status)) = locked(child).try_wait() {
+            return Some(status);
+        }
+        thread::sleep(BETWEEN_LOOKS);
     }
-    if found.len() > 6 {
-        println!("  and {} more fields", found.len() - 6);
-    }
-    if case.book.len() <= SHORT_BOOK {
-        print!("{}", compare::hex_dump(&case.book));
-    }
+    let _ = locked(child).kill();
+    let _ = locked(child).wait();
+    None
+}
+
+fn locked(child: &Mutex<Child>) -> MutexGuard<'_, Child> {
+    child.lock().unwrap_or_else(PoisonError::into_inner)
 }

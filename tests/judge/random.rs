@@ -1,5 +1,5 @@
 //! Random numbers for the generators: splitmix64, a fixed algorithm without
-//! any outside source, so that one seed gives the same books on every machine.
+//! any outside source, so that one seed gives the same cases on every machine.
 
 pub struct Random {
     state: u64,
@@ -10,9 +10,9 @@ impl Random {
         Random { state: seed }
     }
 
-    /// Each book has its own stream, so that one book can be made again
+    /// Each case has its own stream, so that one case can be made again
     /// without making those before it.
-    pub fn for_book(seed: u64, stream: u64, number: u64) -> Random {
+    pub fn for_case(seed: u64, stream: u64, number: u64) -> Random {
         let mut first = Random::new(seed);
         let mut second = Random::new(first.draw() ^ stream);
         Random::new(second.draw() ^ number)
@@ -44,7 +44,12 @@ impl Random {
     }
 
     pub fn byte(&mut self) -> u8 {
-        self.below(256) as u8
+        self.between(0, usize::from(u8::MAX)) as u8
+    }
+
+    /// A byte that isn't 0.
+    pub fn some_byte(&mut self) -> u8 {
+        self.between(1, usize::from(u8::MAX)) as u8
     }
 
     /// One of the items; there is at least one.
@@ -58,6 +63,13 @@ impl Random {
             None
         } else {
             Some(self.pick(items))
+        }
+    }
+
+    /// Puts the items into any order.
+    pub fn shuffle<T>(&mut self, items: &mut [T]) {
+        for end in (1..items.len()).rev() {
+            items.swap(end, self.below(end + 1));
         }
     }
 }

@@ -1,37 +1,48 @@
-//! The table of refusal numbers, in the document's words, and which of the
-//! numbers a whole book can be answered with.
+//! The refusal numbers in words, and which of them a whole book and a single
+//! step can be answered with.
 
-/// `WORDS[n]` is the document's text for number n; 0 stands for "not refused".
+/// `WORDS[n]` says when number n is given; 0 stands for no refusal.
 pub const WORDS: [&str; 23] = [
     "nothing refused",
-    "book under 32 bytes",
-    "a count out of range",
-    "a kind or offset wrong, or the end isn't the book's end",
-    "a task with base 0 or second byte not 0",
-    "a lock with ceiling 0, second byte not 0, or limit 0",
-    "a use with an unknown id, or out of order",
-    "a lock without users, or its ceiling isn't the greatest base",
-    "an event of kind outside 1 to 6, unused field not 0, or work of 0",
-    "row space under 4 bytes an event",
-    "state not sound",
-    "1,000,000 events already accepted",
-    "nobody runs",
-    "no such task or lock",
-    "task already released",
-    "not a declared user",
-    "lock already open for this task",
-    "lock open for another task",
-    "eight locks open for this task already",
-    "not this task's newest open lock",
-    "work of 0",
-    "an open section would pass its limit",
-    "finish with a lock open",
+    "the book is shorter than its contents",
+    "a count is out of its range",
+    "an entry's kind or offset, or the end of the book, is wrong",
+    "a task without a base or with a stray second byte",
+    "a lock without a ceiling or a limit, or with a stray second byte",
+    "a use of something unknown, or not after the use before it",
+    "a lock that nobody uses, or with another ceiling than its users give",
+    "an event of no kind, with a stray field, or that works nothing",
+    "fewer than four row bytes for each event",
+    "the state is not sound",
+    "as many events are accepted as can be",
+    "an act while nobody runs",
+    "an unknown task or lock",
+    "a release of a released task",
+    "an acquire by a task that is no user",
+    "an acquire of a lock that the task has open",
+    "an acquire of a lock that another task has open",
+    "an acquire with as many locks open as can be",
+    "an unlock of another than the newest open lock",
+    "a work of nothing",
+    "a work past the limit of an open section",
+    "a finish before all locks are closed",
 ];
 
-/// The answers that whole books can get. The others cannot occur there:
-/// 10 and 17 never occur from a fresh start, 11 needs more events than a book
-/// can hold, and a work of 0 in a book is already 8, so that 20 is left to the
-/// single step.
+/// The answers that whole books can get. The others cannot come up there: a
+/// fresh start leads to neither 10 nor 17, 11 needs more events than a book
+/// holds, and a book that works nothing is refused with 8, so that 20 is left to
+/// the single step.
 pub const FROM_BOOKS: [u8; 19] = [
     0, 1, 2, 3, 4, 5, 6, 7, 8, 9, 12, 13, 14, 15, 16, 18, 19, 21, 22,
 ];
+
+/// The answers that single steps can get.
+pub const FROM_STEPS: [u8; 14] = [0, 10, 11, 12, 13, 14, 15, 16, 17, 18, 19, 20, 21, 22];
+
+/// A number with its words.
+pub fn named(number: u8) -> String {
+    match WORDS.get(usize::from(number)) {
+        Some(words) => format!("{number} ({words})"),
+        None => format!("{number} (no such number)"),
+    }
+}

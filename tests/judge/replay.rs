@@ -1,10 +1,12 @@
-//! The replay of a book: the reader's tests 1 to 9, then "events run until the
-//! first refusal". Both schedulers take each event side by side.
+//! The replay of a book: the reader's tests 1 to 9, then event after event until
+//! one is refused. Both schedulers take each event side by side.
 
 use crate::book::{self, Book};
 use crate::demands;
 use crate::eager::Eager;
 use crate::lazy::Lazy;
+use crate::resume::figures;
+use crate::sound;
 use crate::wrong::Wrong;
 
 /// The byte that fills the row space before a replay.
@@ -36,7 +38,7 @@ pub struct Outcome {
 pub fn replay(bytes: &[u8], row_space: usize, wrong: Wrong) -> Outcome {
     match book::read(bytes, row_space) {
         Ok(book) => run(&book, row_space, wrong),
-        // "They return no state and leave the rows untouched."
+        // There is no state then, and no row is written.
         Err(refusal) => Outcome {
             answer: Answer {
                 number: refusal.number,
@@ -53,9 +55,9 @@ pub fn replay(bytes: &[u8], row_space: usize, wrong: Wrong) -> Outcome {
     }
 }
 
-/// "Then events run until the first refusal: the answer names its number, its
-/// event's place from 0 and the state before it. For each accepted event a row
-/// of four bytes is written ... All other row bytes stay."
+/// The answer names the number and the place of the first event that is
+/// refused, and has the figures of the state before it. Each accepted event
+/// writes its row; the rest of the row space keeps its fill.
 fn run(book: &Book, row_space: usize, wrong: Wrong) -> Outcome {
     let bounds = book.plan.bounds();
     let mut eager = Eager::new(&book.plan, wrong);
@@ -91,14 +93,16 @@ fn run(book: &Book, row_space: usize, wrong: Wrong) -> Outcome {
         }
     }
     if wrong == Wrong::Nothing && violation.is_none() {
-        let calls = (lazy.calls(), eager.calls());
-        violation = demands::after_run(book, accepted, &rows, calls, eager.delays()).err();
+        let calls = (lazy.calls, eager.calls());
+        violation = demands::after_run(book, accepted, &rows, calls, eager.delays())
+            .and_then(|()| is_sound(&lazy))
+            .err();
     }
     Outcome {
         answer: Answer {
             number,
             place,
-            lazy_calls: lazy.calls(),
+            lazy_calls: lazy.calls,
             eager_calls: eager.calls(),
             delays: eager.delays().to_vec(),
             bounds,
@@ -107,4 +111,13 @@ fn run(book: &Book, row_space: usize, wrong: Wrong) -> Outcome {
         accepted,
         violation,
     }
+}
+
+/// A state that is reached from a fresh start is sound.
+fn is_sound(lazy: &Lazy) -> Result<(), String> {
+    let broken = sound::names(&sound::broken(&figures(lazy)));
+    if broken.is_empty() {
+        return Ok(());
+    }
+    Err(format!("the last state is not sound: {broken:?}"))
 }

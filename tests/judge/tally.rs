@@ -10,9 +10,9 @@ pub struct Tally {
     accepted_events: usize,
     lazy_calls: u64,
     eager_calls: u64,
-    answers: [usize; 23],
+    answers: [usize; WORDS.len()],
     /// The least and the greatest place of each number.
-    places: [Option<(u32, u32)>; 23],
+    places: [Option<(u32, u32)>; WORDS.len()],
     /// Tasks whose delay isn't 0, and those whose delay equals their bound.
     delayed: usize,
     at_bound: usize,
@@ -35,26 +35,22 @@ impl Tally {
         }
     }
 
-    /// The numbers that a book can be answered with and none was.
-    pub fn missing(&self) -> Vec<u8> {
-        FROM_BOOKS
-            .iter()
-            .copied()
-            .filter(|n| self.answers[usize::from(*n)] == 0)
-            .collect()
-    }
-
-    /// What besides the numbers has to be met for the comparison to mean much.
-    pub fn never_met(&self) -> Vec<&'static str> {
-        let met = [
+    /// What no book met and has to be met for the comparison to mean much: each
+    /// number that a book can be answered with, and the rules that are easy to
+    /// miss.
+    pub fn missing(&self) -> Vec<String> {
+        let numbers = FROM_BOOKS.iter().map(|number| {
+            let times = self.answers[usize::from(*number)];
+            (format!("answer {number}"), times > 0)
+        });
+        let rules = [
             ("a lazy call", self.lazy_calls > 0),
             ("a delay", self.delayed > 0),
             ("a delay that reaches its bound", self.at_bound > 0),
         ];
-        met.iter()
-            .filter(|(_, met)| !met)
-            .map(|(what, _)| *what)
-            .collect()
+        let rules = rules.map(|(what, met)| (what.to_string(), met));
+        let all = numbers.chain(rules);
+        all.filter(|(_, met)| !met).map(|(what, _)| what).collect()
     }
 
     pub fn print_table(&self) {

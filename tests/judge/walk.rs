@@ -2,9 +2,10 @@
 //! step one of the sensible events is chosen, so that most are accepted; where
 //! a refusal is wanted, the walk makes it as soon as the state allows.
 
+use crate::aims;
 use crate::eager::Eager;
 use crate::event::Event;
-use crate::plan::Plan;
+use crate::plan::{Plan, MOST_OPEN, MOST_TASKS};
 use crate::random::Random;
 use crate::wrong::Wrong;
 
@@ -43,7 +44,7 @@ pub const MIXED: Style = Style {
     work: 5,
     finish: 3,
     tick: 1,
-    most_released: 96,
+    most_released: MOST_TASKS,
     seeks_raises: false,
 };
 
@@ -73,7 +74,7 @@ pub const DEEP: Style = Style {
     work: 2,
     finish: 1,
     tick: 1,
-    most_released: 96,
+    most_released: MOST_TASKS,
     seeks_raises: false,
 };
 
@@ -88,7 +89,7 @@ pub const PLAIN: Style = Style {
     work: 8,
     finish: 7,
     tick: 3,
-    most_released: 96,
+    most_released: MOST_TASKS,
     seeks_raises: false,
 };
 
@@ -101,8 +102,8 @@ pub struct Wanted {
     pub number: u8,
     /// Not before this place.
     pub from: usize,
-    /// Only while the running task has eight locks open.
-    pub with_eight_open: bool,
+    /// Only while the running task has as many locks open as it can.
+    pub with_most_open: bool,
 }
 
 impl Wanted {
@@ -110,7 +111,17 @@ impl Wanted {
         let open = eager
             .running()
             .map_or(0, |task| eager.open_locks(task).len());
-        place >= self.from && (open == 8 || !self.with_eight_open)
+        place >= self.from && (open == MOST_OPEN || !self.with_most_open)
+    }
+
+    /// An event that is refused as wanted, if the state has one. For 21 the walk
+    /// mostly goes on until an older section is the one that would be passed.
+    fn event(&self, random: &mut Random, plan: &Plan, eager: &Eager) -> Option<Event> {
+        let is_dull = self.number == 21 && !aims::outer_section_is_tightest(plan, eager);
+        if is_dull && !random.one_in(20) {
+            return None;
+        }
+        aims::refused(random, plan, eager, self.number)
     }
 }
 
@@ -128,7 +139,7 @@ pub fn walk(
     let mut events = Vec::new();
     while events.len() < length {
         if let Some(wanted) = wanted.filter(|wanted| wanted.is_due(events.len(), &eager)) {
-            if let Some(event) = refused(random, plan, &eager, wanted.number) {
+            if let Some(event) = wanted.event(random, plan, &eager) {
                 assert_eq!(eager.step(event), Err(wanted.number), "the wanted refusal");
                 events.push(event);
                 break;
@@ -154,17 +165,6 @@ fn arbitrary(random: &mut Random) -> Event {
         4 => Event::Finish,
         _ => Event::Tick,
     }
-}
-
-/// The units that every open section of a task still allows.
-fn room(plan: &Plan, eager: &Eager, task: usize) -> usize {
-    let left = |lock: &usize| usize::from(plan.locks[*lock].limit) - eager.units(*lock) as usize;
-    eager
-        .open_locks(task)
-        .iter()
-        .map(left)
-        .min()
-        .unwrap_or(65_535)
 }
 
 /// One of the events that the state accepts, chosen by the style's weights.
@@ -204,7 +204,7 @@ fn acts(
         .copied()
         .filter(|lock| plan.locks[*lock].ceiling > priority)
         .collect();
-    if open.len() < 8 {
+    if open.len() < MOST_OPEN {
         let raising = random.pick_any(&raises).filter(|_| style.seeks_raises);
         let is_dull = style.seeks_raises && raising.is_none();
         if let Some(lock) = raising.or_else(|| random.pick_any(&may_open)) {
@@ -223,7 +223,7 @@ fn acts(
         }
         Some(newest) => choices.push((style.unlock, Event::Unlock(*newest as u8))),
     }
-    let room = room(plan, eager, task);
+    let room = aims::room(plan, eager, task);
     if room > 0 {
         let amount = match random.below(8) {
             0 | 1 if !open.is_empty() => room,
@@ -277,108 +277,4 @@ fn releases(
             restored < base && base <= priority
         });
     }
-}
-
-/// An event that the state refuses with this number; nothing where the state
-/// has none.
-fn refused(random: &mut Random, plan: &Plan, eager: &Eager, number: u8) -> Option<Event> {
-    if number == 12 {
-        return match eager.running() {
-            Some(_) => None,
-            // Any id will do: 12 comes before 13.
-            None => Some(match random.below(4) {
-                0 => Event::Acquire(random.byte()),
-                1 => Event::Unlock(random.byte()),
-                2 => Event::Work(random.between(1, 65_535) as u16),
-                _ => Event::Finish,
-            }),
-        };
-    }
-    if number == 13 && (eager.running().is_none() || random.one_in(3)) {
-        return Some(Event::Release(unknown(random, plan.bases.len())));
-    }
-    if number == 14 {
-        let released: Vec<usize> = (0..plan.bases.len())
-            .filter(|task| eager.is_released(*task))
-            .collect();
-        return random
-            .pick_any(&released)
-            .map(|task| Event::Release(task as u8));
-    }
-    let task = eager.running()?;
-    let open = eager.open_locks(task);
-    let known = 0..plan.locks.len();
-    match number {
-        13 => {
-            let lock = unknown(random, plan.locks.len());
-            Some(if random.one_in(2) {
-                Event::Acquire(lock)
-            } else {
-                Event::Unlock(lock)
-            })
-        }
-        15 => {
-            let undeclared: Vec<usize> = known.filter(|lock| !plan.declares(task, *lock)).collect();
-            random
-                .pick_any(&undeclared)
-                .map(|lock| Event::Acquire(lock as u8))
-        }
-        16 => random.pick_any(open).map(|lock| Event::Acquire(lock as u8)),
-        18 => {
-            let ninth: Vec<usize> = known
-                .filter(|lock| plan.declares(task, *lock) && !open.contains(lock))
-                .collect();
-            let lock = random.pick_any(&ninth).filter(|_| open.len() == 8)?;
-            Some(Event::Acquire(lock as u8))
-        }
-        19 => {
-            let others: Vec<usize> = known.filter(|lock| open.last() != Some(lock)).collect();
-            // Best an open one that isn't the newest, then any other.
-            let older = &open[..open.len().saturating_sub(1)];
-            let lock = if random.one_in(2) {
-                random.pick_any(older)
-            } else {
-                None
-            };
-            lock.or_else(|| random.pick_any(&others))
-                .map(|lock| Event::Unlock(lock as u8))
-        }
-        21 => {
-            let least = room(plan, eager, task) + 1;
-            if open.is_empty() || least > 65_535 {
-                return None;
-            }
-            // Best where an outer section is the one that would pass: mostly
-            // the walk goes on until there is one.
-            let newest = *open.last()?;
-            let left = usize::from(plan.locks[newest].limit) - eager.units(newest) as usize;
-            if left < least && !random.one_in(20) {
-                return None;
-            }
-            let amount = match random.below(4) {
-                0 => random.between(least, 65_535),
-                1 => 65_535,
-                _ => least,
-            };
-            Some(Event::Work(amount as u16))
-        }
-        22 => {
-            if open.is_empty() {
-                None
-            } else {
-                Some(Event::Finish)
-            }
-        }
-        _ => None,
-    }
-}
-
-/// An id that no task or lock has, where there are `count` of them.
-fn unknown(random: &mut Random, count: usize) -> u8 {
-    let id = match random.below(4) {
-        0 | 1 => count,
-        2 => 255,
-        _ => random.between(count, 255),
-    };
-    id as u8
 }

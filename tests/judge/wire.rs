@@ -1,24 +1,50 @@
 //! The wire between the judge and the `batch` program under judgement. All
 //! numbers are little-endian.
 //!
-//! To the program, for each book: u32 length of the book in bytes, u32 row
-//! space in bytes, then the book. The end of the input ends the program.
+//! To the program, for each request: u32 command, u32 size, u32 room, then a
+//! payload of `size` bytes. The end of the input ends the program.
 //!
-//! From the program, for each book: u8 number, u32 place, u32 lazy calls, u32
-//! eager calls, u8 tasks of the plan (0 where 1 to 9 refused), u16 delay of
-//! each task, u16 bound of each task, then the whole row space, which the
-//! program fills with the byte 0xEE before the replay.
+//! 1, replay: the payload is a book, the room its row space in bytes. The reply
+//! is u8 number, u32 place, u32 lazy calls, u32 eager calls, u8 tasks of the
+//! plan (0 where 1 to 9 refused), u16 delay of each task, u16 bound of each
+//! task, then the whole row space, which the program fills with the byte 0xEE
+//! before the replay.
+//!
+//! 2, check: the payload and the room are as for 1. The reply is u8 number, u32
+//! place, u32 place of the event body in the book, then the plan, figure by
+//! figure; all 0 after the place where the book is refused.
+//!
+//! 3, step: the payload is a plan and a state, figure by figure, then the four
+//! bytes of an event; the room is 0. The reply is u8 number, u8 lazy call, then
+//! the state after the event, figure by figure.
 
+use crate::book::LARGEST_BOOK;
+use crate::check::Checked;
 use crate::replay::Answer;
-use std::io::{Read, Result, Write};
+use crate::step::Stepped;
+use crate::whole::Whole;
+use std::io::{Read, Result};
 
-pub fn write_request(out: &mut impl Write, book: &[u8], row_space: usize) -> Result<()> {
-    out.write_all(&(book.len() as u32).to_le_bytes())?;
-    out.write_all(&(row_space as u32).to_le_bytes())?;
-    out.write_all(book)
+/// Neither a payload nor a row space is ever greater than this.
+pub const MOST_BYTES: usize = 65_536;
+
+/// There are longer books than the largest right one.
+const _: () = assert!(LARGEST_BOOK < MOST_BYTES);
+
+#[derive(Clone, Copy)]
+pub enum Command {
+    Replay = 1,
+    Check = 2,
+    Step = 3,
 }
 
-pub fn read_reply(input: &mut impl Read, row_space: usize) -> Result<Answer> {
+pub fn request(command: Command, payload: &[u8], room: usize) -> Vec<u8> {
+    let head = [command as u32, payload.len() as u32, room as u32];
+    let head = head.map(u32::to_le_bytes).concat();
+    [&head[..], payload].concat()
+}
+
+pub fn read_replay(input: &mut impl Read, row_space: usize) -> Result<Answer> {
     let number = read_u8(input)?;
     let place = read_u32(input)?;
     let lazy_calls = read_u32(input)?;
@@ -36,6 +62,33 @@ pub fn read_reply(input: &mut impl Read, row_space: usize) -> Result<Answer> {
         delays,
         bounds,
         rows,
+    })
+}
+
+pub fn read_check(input: &mut impl Read) -> Result<Checked> {
+    let number = read_u8(input)?;
+    let place = read_u32(input)?;
+    let events_at = read_u32(input)?;
+    let mut plan = Whole::blank();
+    input.read_exact(plan.plan_bytes())?;
+    Ok(Checked {
+        number,
+        place,
+        events_at,
+        plan,
+    })
+}
+
+/// The plan isn't in the reply: it is the given one.
+pub fn read_step(input: &mut impl Read, given: &Whole) -> Result<Stepped> {
+    let number = read_u8(input)?;
+    let call = read_u8(input)?;
+    let mut after = given.clone();
+    input.read_exact(after.state_bytes())?;
+    Ok(Stepped {
+        number,
+        call,
+        after,
     })
 }
 

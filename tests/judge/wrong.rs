@@ -1,27 +1,46 @@
-//! The document's "Easy ways to go wrong". The judge can follow one of them on
-//! purpose; a right program must then differ from it, which shows that the
-//! judge is able to fail a program.
+//! Ways to go wrong on purpose: four that are known to be easy, and others that
+//! only single steps can show. The judge can follow one of them; a right
+//! program must then differ from it, which shows that the judge is able to fail
+//! a program.
 
 #[derive(Clone, Copy, Debug, PartialEq, Eq)]
 pub enum Wrong {
     /// The rules as they stand.
     Nothing,
-    /// "Putting a preempted task at the tail of its priority's queue."
+    /// A task that is preempted counts as released anew.
     Tail,
-    /// "Calling the kernel on 'at or above' at unlock."
+    /// An unlock calls also where the restored word equals the next word.
     AtOrAbove,
-    /// "Restoring the base at unlock instead of the saved word."
+    /// An unlock restores the base, and not the saved word.
     Base,
-    /// "Charging work to the newest section only."
+    /// Work counts for the newest section alone.
     Newest,
+    /// A release switches also where the base equals the user word.
+    ReleaseAtOrAbove,
+    /// A lock that another task has open can be acquired.
+    No17,
+    /// A work of 0 is like any other work.
+    No20,
+    /// A delay starts again from 0 when its two bytes are full.
+    DelayWraps,
+    /// One more lock can be open than the rules allow.
+    OneMoreOpen,
+    /// The word of a task that finishes stays as its kept priority.
+    KeptStays,
 }
 
-/// The four wrong ways under the names of the command line.
-pub const WRONG_WAYS: [(&str, Wrong); 4] = [
+/// The wrong ways under the names of the command line.
+pub const WRONG_WAYS: [(&str, Wrong); 10] = [
     ("tail", Wrong::Tail),
     ("at-or-above", Wrong::AtOrAbove),
     ("base", Wrong::Base),
     ("newest", Wrong::Newest),
+    ("release-at-or-above", Wrong::ReleaseAtOrAbove),
+    ("no-17", Wrong::No17),
+    ("no-20", Wrong::No20),
+    ("delay-wraps", Wrong::DelayWraps),
+    ("one-more-open", Wrong::OneMoreOpen),
+    ("kept-stays", Wrong::KeptStays),
 ];
 
 pub fn from_name(name: &str) -> Option<Wrong> {

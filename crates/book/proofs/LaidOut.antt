@@ -9,9 +9,9 @@ use native.Mathlib.Omega.{arith}
 use lib.Dec.{eqb, ltb}
 use lib.ListN.{length}
 use borrow.Author.Tests.{lt-ltb, le-ltb, eq-eqb, ne-eqb}
-use Rattle.rules.specs.Plan.{countFault}
-use Rattle.rules.specs.Book.{contents, kindAt, countAt, offsetAt, sizeOf, bodyAt, layoutFault}
-use Rattle.rules.proofs.Choice.{if-true, if-false}
+use Rattle.rules.specs.Books.Plan.{countFault}
+use Rattle.rules.specs.Books.Book.{contents, kindAt, countAt, offsetAt, sizeOf, bodyAt, layoutFault}
+use Rattle.rules.proofs.Numbers.Choice.{if-true, if-false}
 
 -- c records of s bytes
 pub size-small : (c s : ℕ) → c < 65536 → s ≤ 4 → c * s < 262144

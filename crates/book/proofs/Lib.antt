@@ -3,3 +3,6 @@ mod Records
 mod LaidOut
 mod Parts
 mod Order
+mod Where
+pub mod Accepted
+pub mod EventWalk

@@ -7,22 +7,22 @@ use lib.Dec.{ltb, eqb}
 use lib.ListN.{length, take, drop, length-drop}
 use lib.Seq.{take-all}
 use borrow.Author.Tests.{lt-ltb, le-ltb, ltb-false, eqb-true, not-false}
-use Rattle.rules.specs.Capacity.{maxTasks, maxLocks, maxUses}
-use Rattle.rules.specs.Choice.{if_then_else_}
-use Rattle.rules.specs.Place.{firstFrom}
-use Rattle.rules.specs.Refusal.{firstFault}
-use Rattle.rules.specs.Plan.{most, countFault}
-use Rattle.rules.specs.Load.{loadOf, loadChecks}
-use Rattle.rules.specs.Book.{contents, countAt, bodyAt, layoutFault, tasksOf, locksOf, usesOf, planIn, eventBody, recordFault, contentsChecks, eventChecks, checkOf, passedCheck, refusedCheck, checkedAs, checkedOf}
+use Rattle.rules.specs.Numbers.Capacity.{maxTasks, maxLocks, maxUses}
+use Rattle.rules.specs.Numbers.Choice.{if_then_else_}
+use Rattle.rules.specs.Numbers.Place.{firstFrom}
+use Rattle.rules.specs.Numbers.Refusal.{numberOf, firstFault, checkFor}
+use Rattle.rules.specs.Books.Plan.{most, countFault}
+use Rattle.rules.specs.Books.Load.{loadOf, loadChecks}
+use Rattle.rules.specs.Books.Book.{contents, countAt, bodyAt, layoutFault, tasksOf, locksOf, usesOf, planIn, eventBody, recordFault, contentsChecks, eventChecks, checkOf, passedCheck, refusedCheck, checkedAs, checkedOf}
 use Rattle.rules.specs.declared.plan.Plan.{Plan}
 use Rattle.rules.specs.declared.answer.Verdict.{Verdict}
 use Rattle.rules.specs.declared.answer.Loaded.{Loaded}
 use Rattle.rules.specs.declared.answer.Checked.{Checked}
 use Rattle.rules.specs.declared.refusal.Refusal.{Refusal}
 use Rattle.rules.specs.declared.refusal.Refusal.the-variants.{ShortBook, WrongCount, WrongLayout, WrongEvent, ShortRows}
-use Rattle.rules.proofs.Choice.{or-false}
-use Rattle.rules.proofs.Checks.{AllClean, clean, check-left, check-right, check-none, check-finds, check-passes, one-finds, one-passes}
-use Rattle.rules.proofs.Loaded.{load-refused, load-passed, load-plan}
+use Rattle.rules.proofs.Numbers.Choice.{or-false}
+use Rattle.rules.proofs.Numbers.Checks.{clean-for, check-left, check-right, check-none, check-finds, check-passes, one-finds, one-passes}
+use Rattle.rules.proofs.Books.Loaded.{load-refused, load-passed, load-plan}
 use Rattle.book.specs.Laid.{Laid}
 use Rattle.book.proofs.Parts.{event-size}
 
@@ -45,22 +45,23 @@ module _ (b : List ℕ) where
     module _ (counts : 4 ≤ e) (l : ℕ) (layout : l ≡ firstFrom (layoutFault b) 0 5) where
       pub wrong-layout : l < 5 → Verdict.Refused WrongLayout (l + 1) ≡ firstFault (contentsChecks b)
       unfolding contentsChecks
-      wrong-layout h = sym (check-passes _ _ 1 one (omega arith) ∙ check-passes _ _ e count counts ∙ check-finds _ _ l layout h ∙ ap (Verdict.Refused WrongLayout) (omega arith))
+      wrong-layout h = sym (check-passes _ _ 1 one (omega arith) ∙ check-passes _ _ e count counts ∙ check-finds _ _ l layout h
+          ∙ ap (Verdict.Refused WrongLayout) (omega arith))
 
       pub no-wrong : 5 ≤ l → Verdict.Passed ≡ firstFault (contentsChecks b)
       unfolding contentsChecks
       no-wrong h = sym (check-passes _ _ 1 one (omega arith) ∙ check-passes _ _ e count counts ∙ check-passes _ _ l layout h ∙ check-none)
 
   pub laid-out : (v : Verdict) → v ≡ firstFault (contentsChecks b) → v ≡ Verdict.Passed → Laid b
-  unfolding contentsChecks AllClean countFault most layoutFault if_then_else_
+  unfolding contentsChecks checkFor numberOf countFault most layoutFault if_then_else_
   laid-out v said passed =
-      let C : AllClean (contentsChecks b) = clean (contentsChecks b) (sym said ∙ passed) in
+      let clean = clean-for (contentsChecks b) (sym said ∙ passed) in
       record {
-        whole = ltb-false (length b) contents (C .0 0 (omega arith));
-        tasks = ltb-false maxTasks (countAt b 0) (or-false (eqb (countAt b 0) 0) _ (C .1 .0 0 (omega arith)) .1);
-        locks = ltb-false maxLocks (countAt b 1) (C .1 .0 1 (omega arith));
-        uses = ltb-false maxUses (countAt b 2) (C .1 .0 2 (omega arith));
-        ends = eqb-true (bodyAt b 4) (length b) (not-false (eqb (bodyAt b 4) (length b)) (C .1 .1 .0 4 (omega arith)));
+        whole = ltb-false (length b) contents (clean ShortBook 0 (omega arith));
+        tasks = ltb-false maxTasks (countAt b 0) (or-false (eqb (countAt b 0) 0) _ (clean WrongCount 0 (omega arith)) .1);
+        locks = ltb-false maxLocks (countAt b 1) (clean WrongCount 1 (omega arith));
+        uses = ltb-false maxUses (countAt b 2) (clean WrongCount 2 (omega arith));
+        ends = eqb-true (bodyAt b 4) (length b) (not-false (eqb (bodyAt b 4) (length b)) (clean WrongLayout 4 (omega arith)));
       }
 
   -- a verdict of the contents is the book's, and where they pass the rest decides
@@ -85,13 +86,15 @@ module _ (b : List ℕ) where
     refused-plan why place r e h =
         h
         ∙ ap (λ w. checkedAs w b)
-        (sym (check-left (loadChecks (tasksOf b) (locksOf b) (usesOf b)) (eventChecks b room) why place (load-refused (tasksOf b) (locksOf b) (usesOf b) why place (ap (λ v. v .verdict) (sym loaded) ∙ e))))
+        (sym (check-left (loadChecks (tasksOf b) (locksOf b) (usesOf b)) (eventChecks b room) why place
+        (load-refused (tasksOf b) (locksOf b) (usesOf b) why place (ap (λ v. v .verdict) (sym loaded) ∙ e))))
 
     pub passed-plan : (r : Checked) → l .verdict ≡ Verdict.Passed → r ≡ checkedAs (firstFault (eventChecks b room)) b → r ≡ checkedAs rest b
     passed-plan r e h =
         h
         ∙ ap (λ w. checkedAs w b)
-        (sym (check-right (loadChecks (tasksOf b) (locksOf b) (usesOf b)) (eventChecks b room) (load-passed (tasksOf b) (locksOf b) (usesOf b) (ap (λ v. v .verdict) (sym loaded) ∙ e))))
+        (sym (check-right (loadChecks (tasksOf b) (locksOf b) (usesOf b)) (eventChecks b room)
+        (load-passed (tasksOf b) (locksOf b) (usesOf b) (ap (λ v. v .verdict) (sym loaded) ∙ e))))
 
     pub plan-read : l .verdict ≡ Verdict.Passed → l .plan ≡ planIn b
     plan-read e = ap (λ v. v .plan) loaded ∙ load-plan (tasksOf b) (locksOf b) (usesOf b) (ap (λ v. v .verdict) (sym loaded) ∙ e)
@@ -120,11 +123,13 @@ module _ (b : List ℕ) where
       short-rows r h g =
           g
           ∙ ap (λ w. checkedAs w b)
-          (sym (check-passes _ _ k first (omega (arith, size)) ∙ check-finds _ _ 0 (one-finds (ltb room (countAt b 3 * 4)) (lt-ltb room (countAt b 3 * 4) (omega (arith, size)))) (omega arith)))
+          (sym (check-passes _ _ k first (omega (arith, size)) ∙ check-finds _ _ 0
+          (one-finds (ltb room (countAt b 3 * 4)) (lt-ltb room (countAt b 3 * 4) (omega (arith, size)))) (omega arith)))
 
       pub all-right : (p : Plan) → p ≡ planIn b → length body ≤ room → passedCheck p events ≡ checkedAs (firstFault (eventChecks b room)) b
       unfolding eventChecks checkedAs
       all-right p q h =
           ap₂ passedCheck q starts
           ∙ ap (λ w. checkedAs w b)
-          (sym (check-passes _ _ k first (omega (arith, size)) ∙ check-passes _ _ 1 (one-passes (ltb room (countAt b 3 * 4)) (le-ltb room (countAt b 3 * 4) (omega (arith, size)))) (omega arith) ∙ check-none))
+          (sym (check-passes _ _ k first (omega (arith, size)) ∙ check-passes _ _ 1
+          (one-passes (ltb room (countAt b 3 * 4)) (le-ltb room (countAt b 3 * 4) (omega (arith, size)))) (omega arith) ∙ check-none))

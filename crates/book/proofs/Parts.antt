@@ -4,15 +4,16 @@ use mathlib.Core.List.{List}
 use Prim.Native.Nat.{ℕ, _+_, _*_, _≤_}
 use native.Mathlib.Omega.{arith}
 use lib.ListN.{length, take, drop, length-drop}
-use Rattle.rules.specs.Choice.{if_then_else_}
-use Rattle.rules.specs.Place.{renewed}
-use Rattle.rules.specs.Book.{word, long, countAt, sizeOf, bodyAt, wordsAt, longsAt}
-use Rattle.rules.proofs.Place.{renewed-front}
+use Rattle.rules.specs.Numbers.Choice.{if_then_else_}
+use Rattle.rules.specs.Numbers.Place.{renewed}
+use Rattle.rules.specs.Books.Book.{word, long, countAt, sizeOf, bodyAt, wordsAt, longsAt}
+use Rattle.rules.proofs.Numbers.Place.{renewed-front}
 use Rattle.book.specs.Laid.{Laid}
 
 module _ (b : List ℕ) (laid : Laid b) where
   -- each body ends where the next one starts, and the last at the end
-  spans : (bodyAt b 1 ≡ bodyAt b 0 + countAt b 0 * 2) × (bodyAt b 2 ≡ bodyAt b 1 + countAt b 1 * 4) × (bodyAt b 3 ≡ bodyAt b 2 + countAt b 2 * 2) × (length b ≡ bodyAt b 3 + countAt b 3 * 4)
+  spans : (bodyAt b 1 ≡ bodyAt b 0 + countAt b 0 * 2) × (bodyAt b 2 ≡ bodyAt b 1 + countAt b 1 * 4) × (bodyAt b 3 ≡ bodyAt b 2 + countAt b 2 * 2)
+      × (length b ≡ bodyAt b 3 + countAt b 3 * 4)
   unfolding bodyAt sizeOf if_then_else_
   spans = (refl, refl, refl, sym (laid .ends))
 

@@ -3,8 +3,8 @@ use mathlib.Core.Path.{_≡_}
 use mathlib.Core.List.{List}
 use Prim.Native.Nat.{ℕ, _≤_}
 use lib.ListN.{length}
-use Rattle.rules.specs.Capacity.{maxTasks, maxLocks, maxUses}
-use Rattle.rules.specs.Book.{contents, countAt, bodyAt}
+use Rattle.rules.specs.Numbers.Capacity.{maxTasks, maxLocks, maxUses}
+use Rattle.rules.specs.Books.Book.{contents, countAt, bodyAt}
 
 pub record Laid (b : List ℕ) : Type 0 where
   pub whole : contents ≤ length b

@@ -13,11 +13,11 @@ use rules::capacity::MAX_USES;
 ghost use mathlib.Core.Path.{_≡_};
 ghost use Prim.Native.Nat.{_+_, _*_, _<_, _≤_};
 ghost use lib.ListN.{length, take};
-ghost use Rattle.rules.specs.Place.{renewed};
+ghost use Rattle.rules.specs.Numbers.Place.{renewed};
 ghost use mathlib.Core.List.{_++_};
-ghost use Rattle.rules.specs.Refusal.{firstFault};
-ghost use Rattle.rules.specs.Book.{contents, word, long, countAt, bodyAt, wordsAt, longsAt, tasksOf, locksOf, usesOf, eventChecks, checkedAs};
-ghost use Rattle.rules.specs.Load.{loadOf, loadChecks};
+ghost use Rattle.rules.specs.Numbers.Refusal.{firstFault};
+ghost use Rattle.rules.specs.Books.Book.{contents, word, long, countAt, bodyAt, wordsAt, longsAt, tasksOf, locksOf, usesOf, eventChecks, checkedAs};
+ghost use Rattle.rules.specs.Books.Load.{loadOf, loadChecks};
 ghost use Rattle.book.specs.Laid.{Laid};
 
 // The n numbers of two bytes from a place on.
@@ -92,7 +92,8 @@ fn load(b: &[u8]) -> Loaded
 // The rest of the check of a book whose contents pass.
 pub fn check(b: &[u8], room: usize) -> Checked
     requires { ⌜ Laid (now b) ⌝ }
-    ensures { λ r. ⌜ r ≡ checkedAs (firstFault (loadChecks (tasksOf (now (b .entry))) (locksOf (now (b .entry))) (usesOf (now (b .entry))) ++ eventChecks (now (b .entry)) room)) (now (b .entry)) ⌝ }
+    ensures { λ r. ⌜ r ≡ checkedAs (firstFault (loadChecks (tasksOf (now (b .entry))) (locksOf (now (b .entry))) (usesOf (now (b .entry))) ++ eventChecks
+        (now (b .entry)) room)) (now (b .entry)) ⌝ }
 {
     let loaded = load(b);
     let verdict = loaded.verdict;

@@ -10,10 +10,10 @@ use rules::refusal::Refusal;
 ghost use mathlib.Core.Path.{_≡_};
 ghost use Prim.Native.Nat.{_<_, _≤_};
 ghost use lib.ListN.{length};
-ghost use Rattle.rules.specs.Place.{firstFrom};
-ghost use Rattle.rules.specs.Refusal.{firstFault};
-ghost use Rattle.rules.specs.Plan.{countFault};
-ghost use Rattle.rules.specs.Book.{contents, countAt, layoutFault, contentsChecks};
+ghost use Rattle.rules.specs.Numbers.Place.{firstFrom};
+ghost use Rattle.rules.specs.Numbers.Refusal.{firstFault};
+ghost use Rattle.rules.specs.Books.Plan.{countFault};
+ghost use Rattle.rules.specs.Books.Book.{contents, countAt, layoutFault, contentsChecks};
 
 // The first entry whose count is out of range; 4 where there is none.
 fn first_count(b: &[u8]) -> usize

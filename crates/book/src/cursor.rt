@@ -5,7 +5,7 @@ use crate::record::event_of;
 use rules::answer::Found;
 use rules::refusal::Refusal;
 ghost use mathlib.Core.Path.{_≡_};
-ghost use Rattle.rules.specs.Book.{foundAt};
+ghost use Rattle.rules.specs.Books.Book.{foundAt};
 
 // What stands at record k: an event and the next place, a record that 8 refuses, or the end.
 pub fn cursor(body: &[u8], k: usize) -> Found

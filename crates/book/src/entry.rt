@@ -4,7 +4,7 @@ use crate::number::word_at;
 ghost use mathlib.Core.Path.{_≡_};
 ghost use Prim.Native.Nat.{_*_, _<_, _≤_};
 ghost use lib.ListN.{length};
-ghost use Rattle.rules.specs.Book.{contents, kindAt, countAt, offsetAt, sizeOf, bodyAt};
+ghost use Rattle.rules.specs.Books.Book.{contents, kindAt, countAt, offsetAt, sizeOf, bodyAt};
 
 // The length of the contents, and the place of the first body.
 pub const CONTENTS: usize = 32;

@@ -10,9 +10,9 @@ use rules::refusal::Refusal;
 ghost use mathlib.Core.Path.{_≡_};
 ghost use Prim.Native.Nat.{_<_, _/_};
 ghost use lib.ListN.{length};
-ghost use Rattle.rules.specs.Place.{firstFrom};
-ghost use Rattle.rules.specs.Refusal.{firstFault};
-ghost use Rattle.rules.specs.Book.{recordFault, planIn, eventChecks, refusedCheck, checkedAs};
+ghost use Rattle.rules.specs.Numbers.Place.{firstFrom};
+ghost use Rattle.rules.specs.Numbers.Refusal.{firstFault};
+ghost use Rattle.rules.specs.Books.Book.{recordFault, planIn, eventChecks, refusedCheck, checkedAs};
 ghost use Rattle.book.specs.Laid.{Laid};
 
 pub fn refused(why: Refusal, place: usize) -> Checked

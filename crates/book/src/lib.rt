@@ -6,12 +6,13 @@ pub mod cursor;
 mod entry;
 mod events;
 mod number;
+pub mod reader;
 pub mod record;
 
 use rules::answer::Checked;
 use rules::answer::Verdict;
 ghost use mathlib.Core.Path.{_≡_};
-ghost use Rattle.rules.specs.Book.{checkedOf};
+ghost use Rattle.rules.specs.Books.Book.{checkedOf};
 
 // The book's plan and the place of its event body, or the first offender of 1 to 9. Each event
 // needs four bytes of room for its row.

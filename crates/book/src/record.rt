@@ -1,7 +1,7 @@
 // An event's record: kind, id, amount.
 use rules::event::Event;
 ghost use mathlib.Core.Path.{_≡_};
-ghost use Rattle.rules.specs.Event.{eventFault, eventOf};
+ghost use Rattle.rules.specs.Books.Event.{eventFault, eventOf};
 
 // 8: a kind outside 1 to 6, an unused field that isn't 0, or work of 0.
 pub fn event_fault(kind: u8, id: u8, amount: u16) -> bool

@@ -1,55 +1,91 @@
--- The ways through the code that spells a check and a replay in numbers. Assumes nothing.
-use mathlib.Core.Path.{_≡_, sym, _∙_, ap}
+-- What is spelled in numbers is what the definitions answer. Assumes nothing.
+use mathlib.Core.Path.{_≡_, sym, _∙_, ap, ap₂}
+use mathlib.Core.Bool.{Bool, true, false, not}
 use mathlib.Core.List.{List}
 use Prim.Native.Nat.{ℕ}
+use lib.Dec.{eqb}
 use lib.ListN.{length}
-use Rattle.rules.specs.Refusal.{numberOf}
-use Rattle.rules.specs.Answer.{verdictNumber, verdictPlace}
-use Rattle.rules.specs.Book.{checkedOf}
-use Rattle.rules.specs.Bound.{boundOf}
-use Rattle.rules.specs.Run.{Ran}
-use Rattle.rules.specs.Replay.{ranAs, replayOf}
+use borrow.Author.Tests.{ne-eqb}
+use Rattle.rules.specs.Numbers.Choice.{if_then_else_}
+use Rattle.rules.specs.Numbers.Refusal.{numberOf}
+use Rattle.rules.specs.Numbers.Answer.{verdictNumber, verdictPlace, answerNumber, answerCalls}
+use Rattle.rules.specs.Books.Event.{eventFault, eventOf}
+use Rattle.rules.specs.Books.Book.{checkedOf}
+use Rattle.rules.specs.Demands.Bound.{boundOf}
+use Rattle.rules.specs.Replays.Step.{stepOf}
+use Rattle.rules.specs.Replays.Run.{Ran}
+use Rattle.rules.specs.Replays.Replay.{ranAs, replayOf}
 use Rattle.rules.specs.declared.plan.Plan.{Plan}
 use Rattle.rules.specs.declared.state.State.{State}
-use Rattle.rules.specs.declared.refusal.Refusal.{Refusal}
+use Rattle.rules.specs.declared.event.Event.{Event}
 use Rattle.rules.specs.declared.answer.Checked.{Checked}
+use Rattle.rules.specs.declared.answer.Loaded.{Loaded}
+use Rattle.rules.specs.declared.answer.Stepped.{Stepped}
 use Rattle.rules.specs.declared.answer.Replayed.{Replayed}
-use Rattle.rules.specs.declared.answer.Verdict.{Verdict}
-use Rattle.device.specs.Device.{checkWith, checkSpelled, replayWith, replaySpelled}
+use Rattle.rules.specs.declared.refusal.Refusal.the-variants.{WrongEvent}
+use Rattle.rules.proofs.Numbers.Choice.{if-true, if-false}
+use Rattle.device.specs.Device.{checkSpelled, loadSpelled, replaySpelled, stepSpelled, noEvent, notStepped, stepFrom}
 use Rattle.device.specs.declared.check.DeviceCheck.{DeviceCheck}
+use Rattle.device.specs.declared.load.DeviceLoad.{DeviceLoad}
 use Rattle.device.specs.declared.replay.DeviceReplay.{DeviceReplay}
+use Rattle.device.specs.declared.step.DeviceStep.{DeviceStep}
 
-module _ (c : Checked) (r : DeviceCheck) where
-  pub check-passed : c .verdict ≡ Verdict.Passed → r ≡ checkWith 0 0 c → r ≡ checkSpelled c
-  unfolding verdictNumber verdictPlace
-  check-passed e h = h ∙ ap (λ v. checkWith (verdictNumber v) (verdictPlace v) c) (sym e)
+-- ---- the answers with a number and a place, or calls, that the code has found
 
-  pub check-refused : (why : Refusal) (place n : ℕ) → c .verdict ≡ Verdict.Refused why place → n ≡ numberOf why → r ≡ checkWith n place c → r ≡ checkSpelled c
-  unfolding verdictNumber verdictPlace
-  check-refused why place n e g h = h ∙ ap (λ m. checkWith m place c) g ∙ ap (λ v. checkWith (verdictNumber v) (verdictPlace v) c) (sym e)
+abbrev checkWith : Checked → ℕ → ℕ → DeviceCheck
+checkWith c n i = record { number = n; place = i; plan = c .plan; events = c .events }
 
-module _ (v : Verdict) (p : Plan) (s : State) (r : DeviceReplay) where
-  pub replay-passed : v ≡ Verdict.Passed → r ≡ replayWith 0 0 p s → r ≡ replaySpelled v p s
-  unfolding verdictNumber verdictPlace
-  replay-passed e h = h ∙ ap (λ w. replaySpelled w p s) (sym e)
+abbrev loadWith : Loaded → ℕ → ℕ → DeviceLoad
+loadWith l n i = record { number = n; place = i; plan = l .plan }
 
-  pub replay-refused : (why : Refusal) (place n : ℕ) → v ≡ Verdict.Refused why place → n ≡ numberOf why → r ≡ replayWith n place p s → r ≡ replaySpelled v p s
-  unfolding verdictNumber verdictPlace
-  replay-refused why place n e g h = h ∙ ap (λ m. replayWith m place p s) g ∙ ap (λ w. replaySpelled w p s) (sym e)
+abbrev replayWith : Plan → State → ℕ → ℕ → DeviceReplay
+replayWith p s n i = record { number = n; place = i; plan = p; state = s }
 
--- what the replay answers is the definition's, field by field and row byte by row byte
-module _ (b rows out : List ℕ) (l : Replayed) (ran : ranAs l out ≡ replayOf b rows) where
-  pub replay-rows : out ≡ replayOf b rows .rows
-  replay-rows = ap (λ (k : Ran). k .rows) ran
+abbrev stepWith : State → ℕ → ℕ → DeviceStep
+stepWith s n k = record { number = n; calls = k; state = s }
 
-  pub replay-said : (r : DeviceReplay) → l .plan ≡ checkedOf b (length rows) .plan → r ≡ replaySpelled (l .verdict) (l .plan) (l .state)
-      → r ≡ replaySpelled (replayOf b rows .verdict) (checkedOf b (length rows) .plan) (replayOf b rows .state)
-  replay-said r q h = h ∙ ap (λ (k : Ran). replaySpelled (k .verdict) (l .plan) (k .state)) ran ∙ ap (λ p. replaySpelled (replayOf b rows .verdict) p (replayOf b rows .state)) q
+module _ (n i : ℕ) where
+  -- a book's check
+  pub check-said : (b : List ℕ) (room : ℕ) (c : Checked) → c ≡ checkedOf b room → n ≡ verdictNumber (c .verdict) → i ≡ verdictPlace (c .verdict)
+      → checkWith c n i ≡ checkSpelled (checkedOf b room)
+  check-said b room c reads e f = ap₂ (checkWith c) e f ∙ ap checkSpelled reads
 
--- a check's answer and a bound are those of the definition's check
-module _ (b : List ℕ) (room : ℕ) (c : Checked) (reads : c ≡ checkedOf b room) where
-  pub check-said : (r : DeviceCheck) → r ≡ checkSpelled c → r ≡ checkSpelled (checkedOf b room)
-  check-said r h = h ∙ ap checkSpelled reads
+  -- a load
+  pub load-said : (l : Loaded) → n ≡ verdictNumber (l .verdict) → i ≡ verdictPlace (l .verdict) → loadWith l n i ≡ loadSpelled l
+  load-said l e f = ap₂ (loadWith l) e f
 
-  pub bound-said : (n t : ℕ) → n ≡ boundOf (c .plan) t → n ≡ boundOf (checkedOf b room .plan) t
-  bound-said n t h = h ∙ ap (λ (k : Checked). boundOf (k .plan) t) reads
+  -- a replay, whose verdict and state are the definition's, and whose plan is the check's
+  pub replay-said : (b rows out : List ℕ) (l : Replayed) → ranAs l out ≡ replayOf b rows → l .plan ≡ checkedOf b (length rows) .plan
+      → n ≡ verdictNumber (l .verdict) → i ≡ verdictPlace (l .verdict)
+      → replayWith (l .plan) (l .state) n i ≡ replaySpelled (replayOf b rows .verdict) (checkedOf b (length rows) .plan) (replayOf b rows .state)
+  replay-said b rows out l ran q e f =
+      ap₂ (replayWith (l .plan) (l .state)) e f ∙ ap (λ (k : Ran). replaySpelled (k .verdict) (l .plan) (k .state)) ran
+      ∙ ap (λ p. replaySpelled (replayOf b rows .verdict) p (replayOf b rows .state)) q
+
+pub replay-rows : (b rows out : List ℕ) (l : Replayed) → ranAs l out ≡ replayOf b rows → out ≡ replayOf b rows .rows
+replay-rows b rows out l ran = ap (λ (k : Ran). k .rows) ran
+
+-- the bound of a task of a book's plan
+pub bound-said : (b : List ℕ) (room : ℕ) (c : Checked) → c ≡ checkedOf b room → (n t : ℕ) → n ≡ boundOf (c .plan) t → n ≡ boundOf (checkedOf b room .plan) t
+bound-said b room c reads n t h = h ∙ ap (λ (k : Checked). boundOf (k .plan) t) reads
+
+-- ---- a single step
+
+module _ (kind id amount : ℕ) where
+  pub work-handed : kind ≡ 4 → (z : Bool) → z ≡ not (eqb id 0) → z ≡ noEvent kind id amount
+  unfolding if_then_else_
+  work-handed e z h = h ∙ ap (λ (k : ℕ). if eqb k 4 then not (eqb id 0) else eventFault kind id amount) (sym e)
+
+  pub other-handed : ¬ (kind ≡ 4) → (z : Bool) → z ≡ eventFault kind id amount → z ≡ noEvent kind id amount
+  other-handed h z e = e ∙ sym (if-false (eqb kind 4) (not (eqb id 0)) (eventFault kind id amount) (ne-eqb kind 4 h))
+
+  module _ (p : Plan) (s : State) (z : Bool) (tests : z ≡ noEvent kind id amount) where
+    pub not-stepped : z ≡ true → (n : ℕ) → n ≡ numberOf WrongEvent → stepWith s n 0 ≡ stepFrom p s kind id amount
+    not-stepped h n e =
+        ap (λ m. stepWith s m 0) e ∙ sym (if-true (noEvent kind id amount) (notStepped s) (stepSpelled (stepOf p s (eventOf kind id amount))) (sym tests ∙ h))
+
+    pub step-said : z ≡ false → (e : Event) → e ≡ eventOf kind id amount → (d : Stepped) → d ≡ stepOf p s e
+        → (n k : ℕ) → n ≡ answerNumber (d .answer) → k ≡ answerCalls (d .answer) → stepWith (d .state) n k ≡ stepFrom p s kind id amount
+    step-said h e q d r n k f g =
+        ap₂ (stepWith (d .state)) f g ∙ ap stepSpelled (r ∙ ap (stepOf p s) q)
+        ∙ sym (if-false (noEvent kind id amount) (notStepped s) (stepSpelled (stepOf p s (eventOf kind id amount))) (sym tests ∙ h))

@@ -1,45 +1,49 @@
--- A check and a replay in numbers alone, for a host in another language: document 01's number and place of the verdict, and the figures. Assumes nothing.
+-- What the library answers a host in another language: a verdict by its number and place, an answer by its number and calls, and beside them what the function
+-- gives. Assumes nothing.
+use mathlib.Core.Bool.{Bool, not}
 use Prim.Native.Nat.{ℕ, _*_}
-use Rattle.rules.specs.Capacity.{maxEvents}
-use Rattle.rules.specs.Answer.{verdictNumber, verdictPlace}
+use lib.Dec.{eqb}
+use Rattle.rules.specs.Numbers.Capacity.{maxEvents}
+use Rattle.rules.specs.Numbers.Choice.{if_then_else_}
+use Rattle.rules.specs.Numbers.Refusal.{numberOf}
+use Rattle.rules.specs.Numbers.Answer.{verdictNumber, verdictPlace, answerNumber, answerCalls}
+use Rattle.rules.specs.Books.Event.{eventFault, eventOf}
+use Rattle.rules.specs.Replays.Step.{stepOf}
 use Rattle.rules.specs.declared.plan.Plan.{Plan}
 use Rattle.rules.specs.declared.state.State.{State}
 use Rattle.rules.specs.declared.answer.Checked.{Checked}
+use Rattle.rules.specs.declared.answer.Loaded.{Loaded}
+use Rattle.rules.specs.declared.answer.Stepped.{Stepped}
 use Rattle.rules.specs.declared.answer.Verdict.{Verdict}
+use Rattle.rules.specs.declared.refusal.Refusal.the-variants.{WrongEvent}
 use Rattle.device.specs.declared.check.DeviceCheck.{DeviceCheck}
+use Rattle.device.specs.declared.load.DeviceLoad.{DeviceLoad}
 use Rattle.device.specs.declared.replay.DeviceReplay.{DeviceReplay}
+use Rattle.device.specs.declared.step.DeviceStep.{DeviceStep}
 
--- "row space under 4 bytes an event": what a book of the greatest length needs
+-- the row space of a book of the greatest length
 abbrev pub fullRoom : ℕ
 fullRoom = maxEvents * 4
 
-abbrev pub checkWith : ℕ → ℕ → Checked → DeviceCheck
-checkWith number place c =
-    record {
-      number = number;
-      place = place;
-      tasks = c .plan .tasks;
-      locks = c .plan .locks;
-      events = c .events;
-    }
-
 abbrev pub checkSpelled : Checked → DeviceCheck
-checkSpelled c = checkWith (verdictNumber (c .verdict)) (verdictPlace (c .verdict)) c
+checkSpelled c = record { number = verdictNumber (c .verdict); place = verdictPlace (c .verdict); plan = c .plan; events = c .events }
 
-abbrev pub replayWith : ℕ → ℕ → Plan → State → DeviceReplay
-replayWith number place p s =
-    record {
-      number = number;
-      place = place;
-      accepted = s .head .accepted;
-      lazy = s .head .lazy;
-      eager = s .head .eager;
-      running = s .head .running;
-      user = s .head .user .0;
-      next = s .head .next .0;
-      tasks = p .tasks;
-      delay = s .delay;
-    }
+abbrev pub loadSpelled : Loaded → DeviceLoad
+loadSpelled l = record { number = verdictNumber (l .verdict); place = verdictPlace (l .verdict); plan = l .plan }
 
 abbrev pub replaySpelled : Verdict → Plan → State → DeviceReplay
-replaySpelled v p s = replayWith (verdictNumber v) (verdictPlace v) p s
+replaySpelled v p s = record { number = verdictNumber v; place = verdictPlace v; plan = p; state = s }
+
+abbrev pub stepSpelled : Stepped → DeviceStep
+stepSpelled s = record { number = answerNumber (s .answer); calls = answerCalls (s .answer); state = s .state }
+
+-- three numbers that are no event's: what 8 refuses in a book, but for work of 0, which is an event that a step refuses by 20
+abbrev pub noEvent : ℕ → ℕ → ℕ → Bool
+noEvent kind id amount = if eqb kind 4 then not (eqb id 0) else eventFault kind id amount
+
+abbrev pub notStepped : State → DeviceStep
+notStepped s = record { number = numberOf WrongEvent; calls = 0; state = s }
+
+-- 8 leaves the state as it is; an event is stepped
+abbrev pub stepFrom : Plan → State → ℕ → ℕ → ℕ → DeviceStep
+stepFrom p s kind id amount = if noEvent kind id amount then notStepped s else stepSpelled (stepOf p s (eventOf kind id amount))

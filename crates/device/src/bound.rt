@@ -1,8 +1,8 @@
 // The bound on a task's delay.
 use rules::capacity::MAX_EVENTS;
 ghost use mathlib.Core.Path.{_≡_};
-ghost use Rattle.rules.specs.Bound.{boundOf};
-ghost use Rattle.rules.specs.Book.{checkedOf};
+ghost use Rattle.rules.specs.Demands.Bound.{boundOf};
+ghost use Rattle.rules.specs.Books.Book.{checkedOf};
 ghost use Rattle.device.specs.Device.{fullRoom};
 
 // The row space that a full-length book needs, so that no book is refused for want of it.

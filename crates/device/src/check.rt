@@ -1,43 +1,19 @@
 // The check of a book.
-use rules::answer::Checked;
-use rules::answer::Verdict;
-use rules::refusal::number;
+use rules::answer::verdict_number;
+use rules::answer::verdict_place;
+use rules::plan::Plan;
 ghost use mathlib.Core.Path.{_≡_};
-ghost use Rattle.rules.specs.Book.{checkedOf};
-ghost use Rattle.device.specs.Device.{checkWith, checkSpelled};
+ghost use Rattle.rules.specs.Books.Book.{checkedOf};
+ghost use Rattle.device.specs.Device.{checkSpelled};
 
-// The refusal's number and place; how many tasks and locks the plan has, and where the event body
-// starts in the book, all 0 beside a refusal.
+// The refusal's number and place; the plan, and where the event body starts in the book, all 0 beside
+// a refusal.
 #[repr(C)]
 pub struct DeviceCheck {
     pub number: u8,
     pub place: usize,
-    pub tasks: usize,
-    pub locks: usize,
+    pub plan: Plan,
     pub events: usize,
-}
-
-fn spell_with(number: u8, place: usize, c: Checked) -> DeviceCheck
-    ensures { λ r. ⌜ r ≡ checkWith number place c ⌝ }
-{
-    let plan = c.plan;
-    DeviceCheck {
-        number,
-        place,
-        tasks: plan.tasks,
-        locks: plan.locks,
-        events: c.events,
-    }
-}
-
-fn spell(c: Checked) -> DeviceCheck
-    ensures { λ r. ⌜ r ≡ checkSpelled c ⌝ }
-{
-    let verdict = c.verdict;
-    match verdict {
-        Verdict::Passed => spell_with(0, 0, c),
-        Verdict::Refused(why, place) => spell_with(number(why), place, c),
-    }
 }
 
 // 1 to 9, for a book that is to be replayed with so many bytes of row space.
@@ -46,5 +22,12 @@ pub extern "C" fn recorder_check(book: &[u8], room: usize) -> DeviceCheck
     ensures { λ r. ⌜ r ≡ checkSpelled (checkedOf (now (book .entry)) room) ⌝ }
 {
     let c = book::check(book, room);
-    spell(c)
+    let verdict = c.verdict;
+    let plan = c.plan;
+    DeviceCheck {
+        number: verdict_number(verdict),
+        place: verdict_place(verdict),
+        plan: plan,
+        events: c.events,
+    }
 }

@@ -2,10 +2,10 @@
 use mathlib.Core.List.{List}
 use Prim.Native.Nat.{ℕ, _*_}
 use lib.ListN.{take, replicate}
-use Rattle.rules.specs.Book.{checkedOf}
-use Rattle.rules.specs.Capacity.{maxEvents}
-use Rattle.rules.specs.Replay.{replayOf}
-use Rattle.rules.specs.Run.{Ran}
+use Rattle.rules.specs.Books.Book.{checkedOf}
+use Rattle.rules.specs.Numbers.Capacity.{maxEvents}
+use Rattle.rules.specs.Replays.Replay.{replayOf}
+use Rattle.rules.specs.Replays.Run.{Ran}
 use Rattle.report.specs.Report.{reportOf}
 
 -- four row bytes for each event that a book may have, so 9 is never given

@@ -8,7 +8,7 @@ use scheduler::replay;
 ghost use mathlib.Core.Path.{_≡_};
 ghost use Prim.Native.Nat.{_≤_, min};
 ghost use lib.ListN.{length, take};
-ghost use Rattle.rules.specs.Capacity.{maxTasks};
+ghost use Rattle.rules.specs.Numbers.Capacity.{maxTasks};
 ghost use Rattle.report.specs.Page.{wrote};
 ghost use Rattle.report.specs.Report.{reportOf};
 ghost use Rattle.orbeshuri.specs.Text.{textOf};
@@ -29,8 +29,10 @@ fn report_state(
     tasks: usize,
 ) -> usize
     requires { ⌜ tasks ≤ maxTasks ⌝ }
-    ensures { λ _. ⌜ now (out .exit) ≡ wrote (now (out .entry)) 0 (reportOf verdict (head .accepted) (now (rows .entry)) (head .lazy) (head .eager) (take tasks delay)) ⌝ }
-    ensures { λ r. ⌜ r ≡ min (length (reportOf verdict (head .accepted) (now (rows .entry)) (head .lazy) (head .eager) (take tasks delay))) (length (now (out .entry))) ⌝ }
+    ensures { λ _. ⌜ now (out .exit) ≡ wrote (now (out .entry)) 0 (reportOf verdict (head .accepted) (now (rows .entry)) (head .lazy) (head .eager)
+        (take tasks delay)) ⌝ }
+    ensures { λ r. ⌜ r ≡ min (length (reportOf verdict (head .accepted) (now (rows .entry)) (head .lazy) (head .eager) (take tasks delay)))
+        (length (now (out .entry))) ⌝ }
 {
     let accepted = head.accepted as usize;
     report(

@@ -1,6 +1,5 @@
 -- The laws behind the proofs of this crate.
 mod Ways
-mod Bits
 mod Limits
 mod Order
 mod Masks

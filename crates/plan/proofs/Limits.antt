@@ -1,15 +1,18 @@
--- The loops that look for a lower user and for the longest limit. A plan's tables end before its counts do where a plan is unsound: past them no task is a user, and a limit is 0. Assumes nothing.
+-- The loops that look for a lower user and for the longest limit. A plan's tables end before its counts do where a plan is unsound: past them no task is a
+-- user, and a limit is 0. Assumes nothing.
 use mathlib.Core.Path.{_≡_, refl, sym, _∙_}
 use mathlib.Core.Bool.{Bool, true, false}
 use Prim.Native.Nat.{ℕ, _≤_, _<_, min}
+use lib.Dec.{ltb}
 use lib.ListN.{length}
-use Rattle.rules.specs.Place.{at, any}
-use Rattle.rules.specs.Plan.{declares}
-use Rattle.rules.specs.Bound.{lowerAt, lowerUser, mayBlock, limitIf, longestLimit}
+use Rattle.rules.specs.Numbers.Place.{at, any}
+use Rattle.rules.specs.Numbers.Mask.{hasBit}
+use Rattle.rules.specs.Books.Plan.{declares}
+use Rattle.rules.specs.Demands.Bound.{lowerAt, lowerUser, mayBlock, limitIf, longestLimit}
 use Rattle.rules.specs.declared.plan.Plan.{Plan}
-use Rattle.rules.proofs.Choice.{either}
-use Rattle.rules.proofs.Mask.{bit-none}
-use Rattle.rules.proofs.Place.{NoneSoFar, GreatestSoFar, any-clamped, greatest-clamped, any-found, any-ends, greatest-ends, none-past}
+use Rattle.rules.proofs.Numbers.Choice.{either}
+use Rattle.rules.proofs.Numbers.Mask.{bit-none}
+use Rattle.rules.proofs.Numbers.Place.{NoneSoFar, GreatestSoFar, any-clamped, greatest-clamped, any-found, any-ends, greatest-ends, none-past}
 use borrow.Author.Tests.{le-leb, lt-leb}
 
 low-past : (p : Plan) (b l x : ℕ) → length (p .uses) ≤ x → lowerAt p b l x ≡ false
@@ -48,3 +51,13 @@ module _ (p : Plan) (b l c : ℕ) (read : c ≡ at (p .ceiling) l) where
   pub block-no : c < b → false ≡ mayBlock p b l
   unfolding mayBlock
   block-no h = rw (← read, lt-leb b c h)
+
+-- a user of lock l, and a task that may not take it
+module _ (p : Plan) (b l x mask : ℕ) (r : Bool) (read : mask ≡ at (p .uses) x) (said : r ≡ hasBit mask l) where
+  pub low-yes : (base : ℕ) → r ≡ true → base ≡ at (p .base) x → ltb base b ≡ lowerAt p b l x
+  unfolding lowerAt declares
+  low-yes base e g = rw (← read, ← said, e, g)
+
+  pub low-no : r ≡ false → false ≡ lowerAt p b l x
+  unfolding lowerAt declares
+  low-no e = rw (← read, ← said, e)

@@ -4,19 +4,20 @@ use mathlib.Core.List.{List}
 use Prim.Native.Nat.{ℕ, _+_, _≤_, _<_}
 use native.Mathlib.Omega.{arith}
 use lib.ListN.{length, replicate}
-use Rattle.rules.specs.Capacity.{maxTasks, maxLocks}
-use Rattle.rules.specs.Place.{at, firstFrom, renewed, tabulate}
-use Rattle.rules.specs.Refusal.{firstFault}
-use Rattle.rules.specs.Plan.{ceilingFault}
-use Rattle.rules.specs.Load.{taskBase, lockCeiling, lockLimit, countFaultOf, taskFaultAt, lockFaultAt, useFault, masksOf, planOf, recordChecks, loadChecks, passedLoad, refusedLoad, loadedAs, loadOf}
+use Rattle.rules.specs.Numbers.Capacity.{maxTasks, maxLocks}
+use Rattle.rules.specs.Numbers.Place.{at, firstFrom, renewed, tabulate}
+use Rattle.rules.specs.Numbers.Choice.{if_then_else_}
+use Rattle.rules.specs.Numbers.Refusal.{numberOf, firstFault, checkFor}
+use Rattle.rules.specs.Books.Plan.{ceilingFault}
+use Rattle.rules.specs.Books.Load.{taskBase, lockCeiling, lockLimit, countFaultOf, taskFaultAt, lockFaultAt, useFault, masksOf, planOf, recordChecks, loadChecks, passedLoad, refusedLoad, loadedAs, loadOf}
 use Rattle.rules.specs.declared.plan.Plan.{Plan}
 use Rattle.rules.specs.declared.answer.Verdict.{Verdict}
 use Rattle.rules.specs.declared.answer.Loaded.{Loaded}
 use Rattle.rules.specs.declared.refusal.Refusal.{Refusal}
 use Rattle.rules.specs.declared.refusal.Refusal.the-variants.{WrongCount, WrongTask, WrongLock, WrongUse, WrongCeiling}
-use Rattle.rules.proofs.Place.{renewed-table, none-past}
-use Rattle.rules.proofs.Checks.{AllClean, clean, check-left, check-right, check-none, check-finds, check-passes}
-use Rattle.rules.proofs.Loaded.{tasks-fit, locks-fit, use-known}
+use Rattle.rules.proofs.Numbers.Place.{renewed-table, none-past}
+use Rattle.rules.proofs.Numbers.Checks.{Clean, clean-for, check-left, check-right, check-none, check-finds, check-passes}
+use Rattle.rules.proofs.Books.Loaded.{tasks-fit, locks-fit, use-known}
 use Rattle.plan.specs.Placed.{Placed}
 
 -- ---- the tables of the plan
@@ -30,9 +31,18 @@ pub as-plan : (tasks locks uses base ceiling limit masks : List ℕ) (few : (len
     → ceiling ≡ renewed (replicate maxLocks 0) (λ l. lockCeiling (at locks l)) (length locks)
     → limit ≡ renewed (replicate maxLocks 0) (λ l. lockLimit (at locks l)) (length locks)
     → masks ≡ masksOf uses (length uses)
-    → _≡_ {A = Plan} (record { tasks = length tasks; locks = length locks; base = base; ceiling = ceiling; limit = limit; uses = masks }) (planOf tasks locks uses)
+    → _≡_ {A = Plan} (record { tasks = length tasks; locks = length locks; base = base; ceiling = ceiling; limit = limit; uses = masks })
+    (planOf tasks locks uses)
 unfolding planOf
-as-plan tasks locks uses base ceiling limit masks few a b c d = rw (a, b, c, d, table taskBase maxTasks tasks refl (few .0), table lockCeiling maxLocks locks refl (few .1), table lockLimit maxLocks locks refl (few .1))
+as-plan tasks locks uses base ceiling limit masks few a b c d = rw (
+  a,
+  b,
+  c,
+  d,
+  table taskBase maxTasks tasks refl (few .0),
+  table lockCeiling maxLocks locks refl (few .1),
+  table lockLimit maxLocks locks refl (few .1),
+)
 
 -- ---- 2, 4, 5 and 6, in this order
 
@@ -50,17 +60,20 @@ module _ (tasks locks uses : List ℕ) (e : ℕ) (count : e ≡ firstFrom (count
     module _ (tasked : length tasks ≤ t) (l : ℕ) (lock : l ≡ firstFrom (lockFaultAt locks) 0 (length locks)) where
       pub wrong-lock : l < length locks → Verdict.Refused WrongLock l ≡ firstFault (recordChecks tasks locks uses)
       unfolding recordChecks
-      wrong-lock h = sym (check-passes _ _ e count counts ∙ check-passes _ _ t task tasked ∙ check-finds _ _ l lock h ∙ ap (Verdict.Refused WrongLock) (omega arith))
+      wrong-lock h = sym (check-passes _ _ e count counts ∙ check-passes _ _ t task tasked ∙ check-finds _ _ l lock h
+          ∙ ap (Verdict.Refused WrongLock) (omega arith))
 
       module _ (locked : length locks ≤ l) (u : ℕ) (use′ : u ≡ firstFrom (useFault (length tasks) (length locks) uses) 0 (length uses)) where
         pub wrong-use : u < length uses → Verdict.Refused WrongUse u ≡ firstFault (recordChecks tasks locks uses)
         unfolding recordChecks
         wrong-use h = sym
-            (check-passes _ _ e count counts ∙ check-passes _ _ t task tasked ∙ check-passes _ _ l lock locked ∙ check-finds _ _ u use′ h ∙ ap (Verdict.Refused WrongUse) (omega arith))
+            (check-passes _ _ e count counts ∙ check-passes _ _ t task tasked ∙ check-passes _ _ l lock locked ∙ check-finds _ _ u use′ h
+            ∙ ap (Verdict.Refused WrongUse) (omega arith))
 
         pub no-wrong : length uses ≤ u → Verdict.Passed ≡ firstFault (recordChecks tasks locks uses)
         unfolding recordChecks
-        no-wrong h = sym (check-passes _ _ e count counts ∙ check-passes _ _ t task tasked ∙ check-passes _ _ l lock locked ∙ check-passes _ _ u use′ h ∙ check-none)
+        no-wrong h = sym (check-passes _ _ e count counts ∙ check-passes _ _ t task tasked ∙ check-passes _ _ l lock locked ∙ check-passes _ _ u use′ h
+            ∙ check-none)
 
 -- ---- then 7
 
@@ -74,20 +87,20 @@ module _ (tasks locks uses : List ℕ) (v : Verdict) (said : v ≡ firstFault (r
   refused-record why place r e h = h ∙ ap (λ w. loadedAs w p) (sym (check-left (recordChecks tasks locks uses) _ why place (sym said ∙ e)))
 
   module _ (passed : v ≡ Verdict.Passed) where
-    right : AllClean (recordChecks tasks locks uses)
-    right = clean (recordChecks tasks locks uses) (sym said ∙ passed)
+    clean : (why : Refusal) → Clean (checkFor why (recordChecks tasks locks uses))
+    clean = clean-for (recordChecks tasks locks uses) (sym said ∙ passed)
 
     pub few-tasks : length tasks ≤ maxTasks
-    unfolding recordChecks AllClean
-    few-tasks = tasks-fit (length tasks) (length locks) (length uses) (right .0 0 (omega arith))
+    unfolding recordChecks checkFor numberOf if_then_else_
+    few-tasks = tasks-fit (length tasks) (length locks) (length uses) (clean WrongCount 0 (omega arith))
 
     pub few-locks : length locks ≤ maxLocks
-    unfolding recordChecks AllClean
-    few-locks = locks-fit (length tasks) (length locks) (length uses) (right .0 1 (omega arith))
+    unfolding recordChecks checkFor numberOf if_then_else_
+    few-locks = locks-fit (length tasks) (length locks) (length uses) (clean WrongCount 1 (omega arith))
 
     pub placed : Placed uses
-    unfolding recordChecks AllClean Placed
-    placed i b = let (t, l) = use-known (length tasks) (length locks) uses i (right .1 .1 .1 .0 i b) in (omega (arith, few-tasks), omega (arith, few-locks))
+    unfolding recordChecks checkFor numberOf if_then_else_ Placed
+    placed i b = let (t, l) = use-known (length tasks) (length locks) uses i (clean WrongUse i b) in (omega (arith, few-tasks), omega (arith, few-locks))
 
     -- q is the plan as built, and c its first lock of a wrong ceiling
     module _ (q : Plan) (built : q ≡ p) where
@@ -109,7 +122,8 @@ module _ (tasks locks uses : List ℕ) (v : Verdict) (said : v ≡ firstFault (r
         wrong-ceiling r h g =
             g
             ∙ ap (λ w. loadedAs w p)
-            (sym (check-right (recordChecks tasks locks uses) _ (sym said ∙ passed) ∙ check-finds _ _ c first h ∙ ap (Verdict.Refused WrongCeiling) (omega arith)))
+            (sym (check-right (recordChecks tasks locks uses) _ (sym said ∙ passed) ∙ check-finds _ _ c first h
+            ∙ ap (Verdict.Refused WrongCeiling) (omega arith)))
 
         pub all-right : (r : Loaded) → length locks ≤ c → r ≡ passedLoad q → r ≡ loadOf tasks locks uses
         unfolding loadOf loadedAs loadChecks

@@ -8,12 +8,12 @@ use native.Mathlib.Omega.{arith}
 use lib.Dec.{eqb, ltb}
 use lib.Pow.{pow-lt}
 use borrow.Author.Tests.{eq-eqb, ne-eqb, lt-ltb, ltb-false}
-use Rattle.rules.proofs.Choice.{or-false}
-use Rattle.rules.specs.Capacity.{maxTasks, maxLocks}
-use Rattle.rules.specs.Choice.{if_then_else_, allTrue}
-use Rattle.rules.specs.Plan.{most, countFault, taskFault, lockFault, ceilingFault}
-use Rattle.rules.specs.Place.{at}
-use Rattle.rules.specs.SoundTest.{lockObeys}
+use Rattle.rules.proofs.Numbers.Choice.{or-false}
+use Rattle.rules.specs.Numbers.Capacity.{maxTasks, maxLocks}
+use Rattle.rules.specs.Numbers.Choice.{if_then_else_, allTrue}
+use Rattle.rules.specs.Books.Plan.{most, countFault, taskFault, lockFault, ceilingFault}
+use Rattle.rules.specs.Numbers.Place.{at}
+use Rattle.rules.specs.Soundness.SoundTest.{lockObeys}
 use Rattle.rules.specs.declared.plan.Plan.{Plan}
 
 last : (t : Bool) → t ≡ allTrue (t ∷ [])
@@ -57,6 +57,8 @@ module _ (c u : ℕ) (w : Bool) where
   lock-limited n z a b = rw (ne-eqb c 0 n, ne-eqb u 0 z, lt-ltb c (2 ^ 8) a, lt-ltb u (2 ^ 16) b) (last (not w))
 
 -- the test of lock l, where w says what 7 says of its ceiling
-pub lock-tested : (p : Plan) (l : ℕ) (w r : Bool) → w ≡ ceilingFault p l → r ≡ allTrue (not (lockFault (at (p .ceiling) l) 0 (at (p .limit) l)) ∷ ltb (at (p .ceiling) l) (2 ^ 8) ∷ ltb (at (p .limit) l) (2 ^ 16) ∷ not w ∷ []) → r ≡ lockObeys p l
+pub lock-tested : (p : Plan) (l : ℕ) (w r : Bool) → w ≡ ceilingFault p l → r
+    ≡ allTrue (not (lockFault (at (p .ceiling) l) 0 (at (p .limit) l)) ∷ ltb (at (p .ceiling) l) (2 ^ 8) ∷ ltb (at (p .limit) l) (2 ^ 16) ∷ not w ∷ [])
+    → r ≡ lockObeys p l
 unfolding lockObeys
 lock-tested p l w r e d = rw (← e) d

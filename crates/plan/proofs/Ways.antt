@@ -6,11 +6,11 @@ use Prim.Native.Nat.{ℕ, _-_, _≤_, _<_}
 use lib.Dec.{eqb, leb, ltb}
 use borrow.Author.Tests.{eq-eqb, ne-eqb, le-leb, lt-leb, lt-ltb, le-ltb}
 use native.Mathlib.Omega.{arith}
-use Rattle.rules.specs.Choice.{if_then_else_}
-use Rattle.rules.specs.Place.{at}
-use Rattle.rules.specs.Plan.{most, countFault, taskFault, lockFault, users, usersBase, ceilingFault}
+use Rattle.rules.specs.Numbers.Choice.{if_then_else_}
+use Rattle.rules.specs.Numbers.Place.{at}
+use Rattle.rules.specs.Books.Plan.{most, countFault, taskFault, lockFault, users, usersBase, ceilingFault}
 use Rattle.rules.specs.declared.plan.Plan.{Plan}
-use Rattle.rules.specs.Load.{useTask, useLock, useKey, useFault, countFaultOf}
+use Rattle.rules.specs.Books.Load.{useTask, useLock, useKey, useFault, countFaultOf}
 
 and-with : (a : Bool) → (a && true) ≡ a
 and-with true = refl
@@ -75,7 +75,15 @@ module _ (n m i : ℕ) (uses : List ℕ) where
   pub use-else : (w t l v a b : ℕ) → w ≡ at uses i → t ≡ useTask w → l ≡ useLock w → t < n → l < m → (i ≡ 0 → ⊥)
       → v ≡ at uses (i - 1) → a ≡ useKey w → b ≡ useKey v → leb a b ≡ useFault n m uses i
   unfolding useFault
-  use-else w t l v a b e f g k h z x y u = rw (y, u, x, e, lt-leb n (useTask (at uses i)) (omega arith), lt-leb m (useLock (at uses i)) (omega arith), lt-ltb 0 i (omega arith))
+  use-else w t l v a b e f g k h z x y u = rw (
+    y,
+    u,
+    x,
+    e,
+    lt-leb n (useTask (at uses i)) (omega arith),
+    lt-leb m (useLock (at uses i)) (omega arith),
+    lt-ltb 0 i (omega arith),
+  )
 
 -- the test of an entry, of the count that is its own
 pub count-said : (n m u e c : ℕ) (r : Bool) → c ≡ (if eqb e 0 then n else if eqb e 1 then m else u) → r ≡ countFault e c → r ≡ countFaultOf n m u e

@@ -4,6 +4,7 @@ use crate::record::lock_limit;
 use crate::record::task_base;
 use crate::record::use_lock;
 use crate::record::use_task;
+use figures::mask::with_bit;
 use rules::answer::Loaded;
 use rules::answer::Verdict;
 use rules::capacity::MAX_LOCKS;
@@ -12,13 +13,12 @@ use rules::plan::Plan;
 use rules::plan::blank;
 use rules::refusal::Refusal;
 ghost use mathlib.Core.Path.{_≡_};
-ghost use Prim.Native.Nat.{_<_, _≤_};
+ghost use Prim.Native.Nat.{_≤_};
 ghost use lib.ListN.{length};
-ghost use Rattle.rules.specs.Place.{at, renewed};
-ghost use Rattle.rules.specs.Capacity.{maxTasks, maxLocks};
-ghost use Rattle.rules.specs.Mask.{withBit};
+ghost use Rattle.rules.specs.Numbers.Place.{at, renewed};
+ghost use Rattle.rules.specs.Numbers.Capacity.{maxTasks, maxLocks};
 ghost use Rattle.plan.specs.Placed.{Placed};
-ghost use Rattle.rules.specs.Load.{taskBase, lockCeiling, lockLimit, masksOf, planOf, refusedLoad, passedLoad};
+ghost use Rattle.rules.specs.Books.Load.{taskBase, lockCeiling, lockLimit, masksOf, planOf, refusedLoad, passedLoad};
 
 // The blank plan beside a refusal.
 pub fn refused(why: Refusal, place: usize) -> Loaded
@@ -71,18 +71,6 @@ fn fill_limits(locks: &[u32], limit: &mut [u16; MAX_LOCKS])
         limit[l] = lock_limit(locks[l]);
         l += 1;
     }
-}
-
-// The set with lock l in it.
-fn with_bit(mask: u32, l: u8) -> u32
-    requires { ⌜ l < maxLocks ⌝ }
-    ensures { λ r. ⌜ r ≡ withBit mask l ⌝ }
-{
-    if crate::mask::has_bit(mask, l) {
-        return mask;
-    }
-    let bit = 1u32 << l;
-    mask + bit
 }
 
 fn fill_masks(uses: &[u16], masks: &mut [u32; MAX_TASKS])

@@ -1,14 +1,15 @@
 // Refusal 7: a lock without users, or whose ceiling isn't the greatest base among them.
-use crate::mask::has_bit;
+use figures::mask::has_bit;
+use figures::number::greater_byte;
 use rules::capacity::MAX_TASKS;
 use rules::plan::Plan;
 ghost use mathlib.Core.Path.{_≡_};
-ghost use Prim.Native.Nat.{_<_, _≤_, _+_, max};
-ghost use Rattle.rules.specs.Capacity.{maxTasks, maxLocks};
-ghost use Rattle.rules.specs.Choice.{if_then_else_};
-ghost use Rattle.rules.specs.Place.{at, firstFrom};
-ghost use Rattle.rules.specs.Mask.{hasBit};
-ghost use Rattle.rules.specs.Plan.{users, usersBase, ceilingFault};
+ghost use Prim.Native.Nat.{_<_, _≤_, _+_};
+ghost use Rattle.rules.specs.Numbers.Capacity.{maxTasks, maxLocks};
+ghost use Rattle.rules.specs.Numbers.Choice.{if_then_else_};
+ghost use Rattle.rules.specs.Numbers.Place.{at, firstFrom};
+ghost use Rattle.rules.specs.Numbers.Mask.{hasBit};
+ghost use Rattle.rules.specs.Books.Plan.{users, usersBase, ceilingFault};
 
 // Whether task x may take lock l.
 fn declared(uses: &[u32; MAX_TASKS], x: usize, l: u8) -> bool
@@ -56,15 +57,6 @@ fn user_base(base: &[u8; MAX_TASKS], uses: &[u32; MAX_TASKS], x: usize, l: u8) -
     0
 }
 
-fn greater(a: u8, b: u8) -> u8
-    ensures { λ r. ⌜ r ≡ max a b ⌝ }
-{
-    if a < b {
-        return b;
-    }
-    a
-}
-
 // The greatest base among its users, and 0 without any.
 fn users_base(p: Plan, l: u8) -> u8
     requires { ⌜ p .tasks ≤ maxTasks ⌝ }
@@ -77,7 +69,7 @@ fn users_base(p: Plan, l: u8) -> u8
     let mut x: usize = 0;
     while x < n {
         let b = user_base(&base, &uses, x, l);
-        top = greater(top, b);
+        top = greater_byte(top, b);
         x += 1;
     }
     top

@@ -4,7 +4,7 @@ use rules::capacity::MAX_LOCKS;
 use rules::capacity::MAX_TASKS;
 use rules::capacity::MAX_USES;
 ghost use mathlib.Core.Path.{_≡_};
-ghost use Rattle.rules.specs.Plan.{most, countFault};
+ghost use Rattle.rules.specs.Books.Plan.{most, countFault};
 
 // The most records that entry e may have.
 fn most_of(e: usize) -> usize

@@ -13,11 +13,11 @@ ghost use mathlib.Core.Path.{_≡_};
 ghost use Prim.Native.Nat.{_<_};
 ghost use lib.Dec.{eqb};
 ghost use lib.ListN.{length};
-ghost use Rattle.rules.specs.Choice.{if_then_else_};
-ghost use Rattle.rules.specs.Place.{firstFrom};
-ghost use Rattle.rules.specs.Plan.{taskFault, lockFault};
-ghost use Rattle.rules.specs.Load.{taskBase, taskSecond, lockCeiling, lockSecond, lockLimit, useKey, countFaultOf, taskFaultAt, lockFaultAt, useFault, recordChecks};
-ghost use Rattle.rules.specs.Refusal.{firstFault};
+ghost use Rattle.rules.specs.Numbers.Choice.{if_then_else_};
+ghost use Rattle.rules.specs.Numbers.Place.{firstFrom};
+ghost use Rattle.rules.specs.Books.Plan.{taskFault, lockFault};
+ghost use Rattle.rules.specs.Books.Load.{taskBase, taskSecond, lockCeiling, lockSecond, lockLimit, useKey, countFaultOf, taskFaultAt, lockFaultAt, useFault, recordChecks};
+ghost use Rattle.rules.specs.Numbers.Refusal.{firstFault};
 
 fn count_of(n: usize, m: usize, u: usize, e: usize) -> usize
     ensures { λ r. ⌜ r ≡ (if eqb e 0 then n else if eqb e 1 then m else u) ⌝ }

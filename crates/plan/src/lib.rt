@@ -4,19 +4,17 @@ mod ceilings;
 pub mod count;
 mod faults;
 mod lower;
-pub mod mask;
 mod obey;
 mod record;
-pub mod spare;
 
 use rules::answer::Loaded;
 use rules::answer::Verdict;
 use rules::plan::Plan;
 use rules::refusal::Refusal;
 ghost use mathlib.Core.Path.{_≡_};
-ghost use Rattle.rules.specs.Load.{loadOf};
-ghost use Rattle.rules.specs.Bound.{boundOf};
-ghost use Rattle.rules.specs.SoundTest as SoundTest;
+ghost use Rattle.rules.specs.Books.Load.{loadOf};
+ghost use Rattle.rules.specs.Demands.Bound.{boundOf};
+ghost use Rattle.rules.specs.Soundness.SoundTest as SoundTest;
 
 // One number for a record, little-endian: a task's two bytes, a lock's four, a use's two. The answer
 // is the plan, or the first offender of 2 and 4 to 7.

@@ -1,15 +1,17 @@
 // Locks that may hold up a task: of ceiling at least its base, with a user of lower base. Whatever
 // the plan says of itself, only the places that it has are looked at.
-use crate::mask::has_bit;
+use figures::mask::has_bit;
+use figures::number::greater_word;
+use figures::number::least;
 use rules::capacity::MAX_LOCKS;
 use rules::capacity::MAX_TASKS;
 use rules::plan::Plan;
 ghost use mathlib.Core.Path.{_≡_};
-ghost use Prim.Native.Nat.{_<_, _≤_, min, max};
+ghost use Prim.Native.Nat.{_<_, _≤_};
 ghost use lib.ListN.{length};
-ghost use Rattle.rules.specs.Capacity.{maxTasks, maxLocks};
-ghost use Rattle.rules.specs.Place.{at};
-ghost use Rattle.rules.specs.Bound.{lowerAt, lowerUser, mayBlock, limitIf, longestLimit};
+ghost use Rattle.rules.specs.Numbers.Capacity.{maxTasks, maxLocks};
+ghost use Rattle.rules.specs.Numbers.Place.{at};
+ghost use Rattle.rules.specs.Demands.Bound.{lowerAt, lowerUser, mayBlock, limitIf, longestLimit};
 
 fn base_in(base: &[u8; MAX_TASKS], t: usize) -> u8
     requires { ⌜ length (now base) ≡ maxTasks ⌝ }
@@ -42,15 +44,6 @@ fn lock_places(limit: &[u16; MAX_LOCKS]) -> usize
     ensures { λ r. ⌜ (r ≡ length (now (limit .entry))) × (r ≤ maxLocks) ⌝ }
 {
     MAX_LOCKS
-}
-
-fn least(a: usize, b: usize) -> usize
-    ensures { λ r. ⌜ r ≡ min a b ⌝ }
-{
-    if a < b {
-        return a;
-    }
-    b
 }
 
 // Whether task x may take lock l and has a base below b.
@@ -103,15 +96,6 @@ fn limit_if(p: Plan, b: u8, l: usize) -> u16
     0
 }
 
-fn greater(a: u16, b: u16) -> u16
-    ensures { λ r. ⌜ r ≡ max a b ⌝ }
-{
-    if a < b {
-        return b;
-    }
-    a
-}
-
 // The greatest of these limits.
 pub fn longest(p: Plan, b: u8) -> u16
     ensures { λ r. ⌜ r ≡ longestLimit p b ⌝ }
@@ -122,7 +106,7 @@ pub fn longest(p: Plan, b: u8) -> u16
     let mut l: usize = 0;
     while l < m {
         let units = limit_if(p, b, l);
-        top = greater(top, units);
+        top = greater_word(top, units);
         l += 1;
     }
     top

@@ -1,19 +1,19 @@
 // Whether a plan that is handed in obeys 2 and 4 to 7, and holds 0 in its unused places.
 use crate::ceilings::ceiling_fault;
-use crate::spare::spare8;
-use crate::spare::spare16;
-use crate::spare::spare32;
+use figures::spare::spare8;
+use figures::spare::spare16;
+use figures::spare::spare32;
 use rules::plan::Plan;
 ghost use mathlib.Core.Path.{_≡_};
 ghost use mathlib.Core.Bool.{not};
 ghost use mathlib.Core.List.{[], _∷_};
 ghost use Prim.Native.Nat.{_≤_, _<_, _^_};
 ghost use lib.Dec.{ltb};
-ghost use Rattle.rules.specs.Capacity.{maxLocks, maxTasks};
-ghost use Rattle.rules.specs.Choice.{allTrue};
-ghost use Rattle.rules.specs.Place.{every};
-ghost use Rattle.rules.specs.Plan.{lockFault, taskFault};
-ghost use Rattle.rules.specs.SoundTest.{lockObeys, spareObeys, taskObeys};
+ghost use Rattle.rules.specs.Numbers.Capacity.{maxLocks, maxTasks};
+ghost use Rattle.rules.specs.Numbers.Choice.{allTrue};
+ghost use Rattle.rules.specs.Numbers.Place.{every};
+ghost use Rattle.rules.specs.Books.Plan.{lockFault, taskFault};
+ghost use Rattle.rules.specs.Soundness.SoundTest.{lockObeys, spareObeys, taskObeys};
 
 fn legal_task(base: u8, uses: u32, m: usize) -> bool
     requires { ⌜ m ≤ maxLocks ⌝ }

@@ -1,6 +1,6 @@
 // The parts of a record.
 ghost use mathlib.Core.Path.{_≡_};
-ghost use Rattle.rules.specs.Load.{taskBase, taskSecond, lockCeiling, lockSecond, lockLimit, useTask, useLock};
+ghost use Rattle.rules.specs.Books.Load.{taskBase, taskSecond, lockCeiling, lockSecond, lockLimit, useTask, useLock};
 
 pub fn task_base(w: u16) -> u8
     ensures { λ r. ⌜ r ≡ taskBase w ⌝ }

@@ -5,8 +5,8 @@ use mathlib.Core.List.{List}
 use Prim.Native.Nat.{ℕ}
 use contract.Lifetimes.{Lfts}
 use denote.Ref.{now}
-use Rattle.rules.specs.Run.{Ran}
-use Rattle.rules.specs.Replay.{ranAs}
+use Rattle.rules.specs.Replays.Run.{Ran}
+use Rattle.rules.specs.Replays.Replay.{ranAs}
 use Rattle.rules.specs.declared.plan.Plan.{Plan}
 use Rattle.rules.specs.declared.state.State.{State}
 use Rattle.rules.specs.declared.event.Event.{Event}
@@ -35,7 +35,8 @@ one-obeys p r q h k = h ∙ sym k
 pub one-sound : (p : Plan) (s : State) (r q : Bool) → sound.Post tt (p, (s, tt)) r (p, (s, tt)) → sound.Post tt (p, (s, tt)) q (p, (s, tt)) → r ≡ q
 one-sound p s r q h k = h ∙ sym k
 
-pub one-step : (p : Plan) (s : State) (e : Event) (r q : Stepped) → step.Post tt (p, (s, (e, tt))) r (p, (s, (e, tt))) → step.Post tt (p, (s, (e, tt))) q (p, (s, (e, tt))) → r ≡ q
+pub one-step : (p : Plan) (s : State) (e : Event) (r q : Stepped) → step.Post tt (p, (s, (e, tt))) r (p, (s, (e, tt)))
+    → step.Post tt (p, (s, (e, tt))) q (p, (s, (e, tt))) → r ≡ q
 one-step p s e r q h k = h ∙ sym k
 
 -- of functions that lend it to read; a are the arguments, b and c what is lent as it was left

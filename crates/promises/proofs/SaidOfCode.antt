@@ -7,16 +7,16 @@ use Prim.Native.Nat.{ℕ, suc, _≤_}
 use lib.ListN.{length}
 use contract.Lifetimes.{Lfts}
 use denote.Ref.{now}
-use Rattle.rules.specs.Answer.{answerNumber, answerCalls, testedNumber}
-use Rattle.rules.specs.Book.{planIn, eventsOf, checkOf}
-use Rattle.rules.specs.Plan.{Obeys}
-use Rattle.rules.specs.Eager.{eagerTest}
-use Rattle.rules.specs.Figures.{figuresOf}
-use Rattle.rules.specs.History.{eventAt, eagerAt, lazyAt, runnerAt, acceptedAt}
-use Rattle.rules.specs.Run.{Ran}
-use Rattle.rules.specs.Replay.{ranAs}
-use Rattle.rules.specs.Demand2.{Outranked, Demand2}
-use Rattle.rules.specs.Replayed.{Untouched, RanUpTo}
+use Rattle.rules.specs.Numbers.Answer.{answerNumber, answerCalls, testedNumber}
+use Rattle.rules.specs.Books.Book.{planIn, eventsOf, checkOf}
+use Rattle.rules.specs.Books.Plan.{Obeys}
+use Rattle.rules.specs.Schedulers.Eager.{eagerTest}
+use Rattle.rules.specs.Schedulers.Figures.{figuresOf}
+use Rattle.rules.specs.Demands.History.{eventAt, eagerAt, lazyAt, runnerAt, acceptedAt}
+use Rattle.rules.specs.Replays.Run.{Ran}
+use Rattle.rules.specs.Replays.Replay.{ranAs}
+use Rattle.rules.specs.Demands.Demand2.{Outranked, Demand2}
+use Rattle.rules.specs.Demands.Replayed.{Untouched, RanUpTo}
 use Rattle.rules.specs.declared.plan.Plan.{Plan}
 use Rattle.rules.specs.declared.event.Event.{Event}
 use Rattle.rules.specs.declared.event.Event.the-variants.{Acquire, Unlock}
@@ -24,8 +24,8 @@ use Rattle.rules.specs.declared.refusal.Refusal.{Refusal}
 use Rattle.rules.specs.declared.answer.Stepped.{Stepped}
 use Rattle.rules.specs.declared.answer.Replayed.{Replayed}
 use Rattle.rules.specs.declared.answer.Verdict.{Verdict}
-use Rattle.rules.proofs.Demand2.{demand2}
-use Rattle.rules.proofs.Replayed.{replayed}
+use Rattle.rules.proofs.Demands.Demand2.{demand2}
+use Rattle.rules.proofs.Demands.Replayed.{replayed}
 use Rattle.scheduler.proofs.step.Reads as step
 use Rattle.scheduler.proofs.replay.Reads as replay
 
@@ -65,10 +65,12 @@ step-keeps {p} O es k r h =
 -- what `replay` returns, and the row bytes as it leaves them: 1 to 9 leave them untouched; else every row, the verdict, both counts and every delay are
 -- what demands 2 and 3 ask
 pub replay-keeps : (κs : Lfts 2) (a : _) (b : _) (r : Replayed) → replay.Post κs a r b
-    → ((why : Refusal) (place : ℕ) → checkOf (now (a .0)) (length (now (a .1 .0))) ≡ Verdict.Refused why place → Untouched (now (a .1 .0)) (ranAs r (now (b .1 .0))) why place)
+    → ((why : Refusal) (place : ℕ) → checkOf (now (a .0)) (length (now (a .1 .0))) ≡ Verdict.Refused why place
+    → Untouched (now (a .1 .0)) (ranAs r (now (b .1 .0))) why place)
     × (checkOf (now (a .0)) (length (now (a .1 .0))) ≡ Verdict.Passed
     → RanUpTo (planIn (now (a .0))) (eventsOf (now (a .0))) (now (a .1 .0)) (ranAs r (now (b .1 .0))) (r .state .head .accepted))
 replay-keeps κs a b r h = (
   λ why place e. subst (λ (x : Ran). Untouched (now (a .1 .0)) x why place) (sym (h .0)) (replayed (now (a .0)) (now (a .1 .0)) .untouched why place e),
-  λ e. subst (λ (x : Ran). RanUpTo (planIn (now (a .0))) (eventsOf (now (a .0))) (now (a .1 .0)) x (x .state .head .accepted)) (sym (h .0)) (replayed (now (a .0)) (now (a .1 .0)) .ran e),
+  λ e. subst (λ (x : Ran). RanUpTo (planIn (now (a .0))) (eventsOf (now (a .0))) (now (a .1 .0)) x (x .state .head .accepted)) (sym (h .0))
+      (replayed (now (a .0)) (now (a .1 .0)) .ran e),
 )

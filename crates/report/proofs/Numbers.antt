@@ -7,7 +7,7 @@ use native.Mathlib.Nat.{not-suc-le-zero}
 use native.Mathlib.Omega.{arith}
 use lib.Dec.{ltb}
 use borrow.Author.Tests.{lt-ltb, le-ltb}
-use Rattle.rules.proofs.Choice.{if-true, if-false, lt-or-le}
+use Rattle.rules.proofs.Numbers.Choice.{if-true, if-false, lt-or-le}
 use Rattle.report.specs.Page.{Page, typed}
 use Rattle.report.specs.Report.{digit, digitsIn, digits}
 use Rattle.report.proofs.Typed.{typed-two}

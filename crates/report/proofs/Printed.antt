@@ -9,12 +9,12 @@ use lib.Dec.{eqb}
 use lib.ListN.{length, drop, drop-of-length-le, List·getD-eq-default}
 use lib.Seq.{drop-cons}
 use borrow.Author.Tests.{eq-eqb, ne-eqb}
-use Rattle.rules.specs.Capacity.{nobody}
-use Rattle.rules.specs.Place.{at}
-use Rattle.rules.specs.Refusal.{numberOf}
+use Rattle.rules.specs.Numbers.Capacity.{nobody}
+use Rattle.rules.specs.Numbers.Place.{at}
+use Rattle.rules.specs.Numbers.Refusal.{numberOf}
 use Rattle.rules.specs.declared.refusal.Refusal.{Refusal}
 use Rattle.rules.specs.declared.answer.Verdict.{Verdict}
-use Rattle.rules.proofs.Choice.{if-true, if-false}
+use Rattle.rules.proofs.Numbers.Choice.{if-true, if-false}
 use Rattle.report.specs.Page.{Page, typed}
 use Rattle.report.specs.Report.{newline, space, dash, calls, delayed, refused, digits, spaced, line, header, runner, rowWords, rowLine, rowLines, callsLine, delayedLine, refusedLine, reportOf}
 use Rattle.report.proofs.Typed.{typed-on, typed-two, typed-cons}
@@ -61,7 +61,8 @@ pub task-typed : (p q r : Page) (t : ℕ) → r ≡ typed q (digits t) → q ≡
 unfolding runner
 task-typed p q r t h g n = typed-cons p q r space (runner t) g (h ∙ ap (typed q) (sym (if-false (eqb t nobody) dash (digits t) (ne-eqb t nobody n))))
 
-pub four-typed : (p a b r : Page) (task user next call : ℕ) → r ≡ typed b (space ∷ digits call) → b ≡ typed a (spaced (digits user ∷ digits next ∷ [])) → a ≡ typed p (space ∷ runner task)
+pub four-typed : (p a b r : Page) (task user next call : ℕ) → r ≡ typed b (space ∷ digits call) → b ≡ typed a (spaced (digits user ∷ digits next ∷ []))
+    → a ≡ typed p (space ∷ runner task)
     → r ≡ typed p (spaced (runner task ∷ digits user ∷ digits next ∷ digits call ∷ []))
 four-typed p a b r task user next call hr hb ha =
     one-more p a r (runner task) (digits user ∷ digits next ∷ digits call ∷ []) (more-after a b r (digits user ∷ digits next ∷ []) (digits call) hb hr) ha
@@ -71,7 +72,8 @@ pub words-typed : (p r : Page) (rows : List ℕ) (k task user next call : ℕ) �
 unfolding rowWords
 words-typed p r rows k task user next call h a b c d = h ∙ rw (a, b, c, d, add-zero (k * 4))
 
-pub row-typed : (p a b r : Page) (rows : List ℕ) (k : ℕ) → r ≡ typed b (newline ∷ []) → b ≡ typed a (spaced (rowWords rows k)) → a ≡ typed p (digits (k + 1)) → r ≡ typed p (rowLine rows k)
+pub row-typed : (p a b r : Page) (rows : List ℕ) (k : ℕ) → r ≡ typed b (newline ∷ []) → b ≡ typed a (spaced (rowWords rows k)) → a ≡ typed p (digits (k + 1))
+    → r ≡ typed p (rowLine rows k)
 unfolding rowLine
 row-typed p a b r rows k hr hb ha = whole-line p a b r (digits (k + 1)) (rowWords rows k) hr hb ha
 
@@ -100,7 +102,8 @@ pub calls-typed : (p r : Page) (lazy eager : ℕ) → r ≡ typed p (line calls 
 unfolding callsLine
 calls-typed p r lazy eager h = h
 
-pub refused-typed : (p r : Page) (why : Refusal) (wide number place : ℕ) → r ≡ typed p (line refused (digits wide ∷ digits place ∷ [])) → wide ≡ number → number ≡ numberOf why
+pub refused-typed : (p r : Page) (why : Refusal) (wide number place : ℕ) → r ≡ typed p (line refused (digits wide ∷ digits place ∷ [])) → wide ≡ number
+    → number ≡ numberOf why
     → r ≡ typed p (refusedLine why place)
 unfolding refusedLine
 refused-typed p r why wide number place h g e = h ∙ ap (λ n. typed p (line refused (digits n ∷ digits place ∷ []))) (g ∙ e)
@@ -111,15 +114,18 @@ refused-typed p r why wide number place h g e = h ∙ ap (λ n. typed p (line re
 abbrev pub FieldsSoFar : Page → List ℕ → Page → ℕ → Type 0
 FieldsSoFar p xs q k = typed q (spaced (map digits (drop k xs))) ≡ typed p (spaced (map digits xs))
 
-pub fields-next : (p q r : Page) (xs : List ℕ) (k x : ℕ) → FieldsSoFar p xs q k → k < length xs → r ≡ typed q (space ∷ digits x) → x ≡ at xs k → FieldsSoFar p xs r (k + 1)
+pub fields-next : (p q r : Page) (xs : List ℕ) (k x : ℕ) → FieldsSoFar p xs q k → k < length xs → r ≡ typed q (space ∷ digits x) → x ≡ at xs k
+    → FieldsSoFar p xs r (k + 1)
 fields-next p q r xs k x e l h g = rw (add-one k)
-    (one-more q r (typed r (spaced (map digits (drop (suc k) xs)))) (digits (at xs k)) (map digits (drop (suc k) xs)) refl (h ∙ ap (λ v. typed q (space ∷ digits v)) g)
+    (one-more q r (typed r (spaced (map digits (drop (suc k) xs)))) (digits (at xs k)) (map digits (drop (suc k) xs)) refl
+    (h ∙ ap (λ v. typed q (space ∷ digits v)) g)
     ∙ ap (λ v. typed q (spaced (map digits v))) (sym (drop-cons xs k 0 l)) ∙ e)
 
 pub fields-ends : (p q : Page) (xs : List ℕ) (k : ℕ) → FieldsSoFar p xs q k → length xs ≤ k → q ≡ typed p (spaced (map digits xs))
 fields-ends p q xs k e l = no-more q ∙ ap (λ v. typed q (spaced (map digits v))) (sym (drop-of-length-le xs l)) ∙ e
 
-pub list-typed : (p a b r : Page) (w xs : List ℕ) → r ≡ typed b (newline ∷ []) → b ≡ typed a (spaced (map digits xs)) → a ≡ typed p w → r ≡ typed p (line w (map digits xs))
+pub list-typed : (p a b r : Page) (w xs : List ℕ) → r ≡ typed b (newline ∷ []) → b ≡ typed a (spaced (map digits xs)) → a ≡ typed p w
+    → r ≡ typed p (line w (map digits xs))
 list-typed p a b r w xs hr hb ha = whole-line p a b r w (map digits xs) hr hb ha
 
 pub delayed-typed : (p r : Page) (xs : List ℕ) → r ≡ typed p (line delayed (map digits xs)) → r ≡ typed p (delayedLine xs)
@@ -129,13 +135,15 @@ delayed-typed p r xs h = h
 -- ---- the whole report
 
 pub refused-report : (p a r : Page) (verdict : Verdict) (why : Refusal) (place n : ℕ) (rows : List ℕ) (lazy eager : ℕ) (delay : List ℕ)
-    → r ≡ typed a (refusedLine why place) → a ≡ typed p (header ++ rowLines rows n) → verdict ≡ Verdict.Refused why place → r ≡ typed p (reportOf verdict n rows lazy eager delay)
+    → r ≡ typed a (refusedLine why place) → a ≡ typed p (header ++ rowLines rows n) → verdict ≡ Verdict.Refused why place
+    → r ≡ typed p (reportOf verdict n rows lazy eager delay)
 unfolding reportOf
 refused-report p a r verdict why place n rows lazy eager delay h g e =
     typed-two p a r (header ++ rowLines rows n) (refusedLine why place) g h ∙ ap (λ v. typed p (reportOf v n rows lazy eager delay)) (sym e)
 
 pub passed-report : (p a r : Page) (verdict : Verdict) (n : ℕ) (rows : List ℕ) (lazy eager : ℕ) (delay : List ℕ)
-    → r ≡ typed a (callsLine lazy eager ++ delayedLine delay) → a ≡ typed p (header ++ rowLines rows n) → verdict ≡ Verdict.Passed → r ≡ typed p (reportOf verdict n rows lazy eager delay)
+    → r ≡ typed a (callsLine lazy eager ++ delayedLine delay) → a ≡ typed p (header ++ rowLines rows n) → verdict ≡ Verdict.Passed
+    → r ≡ typed p (reportOf verdict n rows lazy eager delay)
 unfolding reportOf
 passed-report p a r verdict n rows lazy eager delay h g e =
     typed-two p a r (header ++ rowLines rows n) (callsLine lazy eager ++ delayedLine delay) g h

@@ -9,7 +9,7 @@ use lib.Dec.{ltb}
 use lib.ListN.{length, getD, set, drop, length-set, drop-of-length-le}
 use lib.Seq.{set-out, drop-cons}
 use borrow.Author.Tests.{lt-ltb, le-ltb}
-use Rattle.rules.proofs.Choice.{if-true, if-false, lt-or-le}
+use Rattle.rules.proofs.Numbers.Choice.{if-true, if-false, lt-or-le}
 use Rattle.report.specs.Page.{wrote, Page, page, put, typed}
 -- every proof rests on this file, so the block of P1 is checked before them all: a wrong text that it shows is refused there first
 use Rattle.report.specs.Shown
@@ -40,7 +40,8 @@ typed-cons p q r x b g h = typed-two p q r (x ∷ []) b g h
 abbrev pub TypedSoFar : Page → List ℕ → Page → ℕ → Type 0
 TypedSoFar p text q k = typed q (drop k text) ≡ typed p text
 
-pub text-next : (p q r : Page) (text : List ℕ) (k : ℕ) → TypedSoFar p text q k → k < length text → r ≡ typed q (getD text k 0 ∷ []) → TypedSoFar p text r (k + 1)
+pub text-next : (p q r : Page) (text : List ℕ) (k : ℕ) → TypedSoFar p text q k → k < length text → r ≡ typed q (getD text k 0 ∷ [])
+    → TypedSoFar p text r (k + 1)
 text-next p q r text k e l h =
     rw (add-one k) (typed-cons q r (typed r (drop (suc k) text)) (getD text k 0) (drop (suc k) text) h refl ∙ ap (typed q) (sym (drop-cons text k 0 l)) ∙ e)
 
@@ -55,7 +56,8 @@ unfolding wrote
 wrote-past out i [] l = refl
 wrote-past out i (b ∷ bs) l = ap (λ o. wrote o (suc i) bs) (set-out out i b l) ∙ wrote-past out (suc i) bs (omega arith)
 
-pub typed-wrote : (out : List ℕ) (i : ℕ) (text : List ℕ) → i ≤ length out → typed (page out i) text ≡ page (wrote out i text) (min (i + length text) (length out))
+pub typed-wrote : (out : List ℕ) (i : ℕ) (text : List ℕ) → i ≤ length out
+    → typed (page out i) text ≡ page (wrote out i text) (min (i + length text) (length out))
 unfolding typed wrote
 typed-wrote out i [] l = ap (page out) (omega arith)
 typed-wrote out i (b ∷ bs) l = ⊎-elim

@@ -3,7 +3,7 @@ use mathlib.Core.List.{List, [], _∷_}
 use Prim.Native.Nat.{ℕ, suc, _+_}
 use lib.Dec.{ltb}
 use lib.ListN.{length, set}
-use Rattle.rules.specs.Choice.{if_then_else_}
+use Rattle.rules.specs.Numbers.Choice.{if_then_else_}
 
 -- the bytes with a text from place i on; a place past the end is not written
 unfoldable pub wrote : List ℕ → ℕ → List ℕ → List ℕ

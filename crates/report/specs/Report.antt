@@ -2,10 +2,10 @@
 use mathlib.Core.List.{List, [], _∷_, _++_, map}
 use Prim.Native.Nat.{ℕ, zero, suc, _+_, _*_, _/_, _%_}
 use lib.Dec.{eqb, ltb}
-use Rattle.rules.specs.Capacity.{nobody}
-use Rattle.rules.specs.Choice.{if_then_else_}
-use Rattle.rules.specs.Place.{at}
-use Rattle.rules.specs.Refusal.{numberOf}
+use Rattle.rules.specs.Numbers.Capacity.{nobody}
+use Rattle.rules.specs.Numbers.Choice.{if_then_else_}
+use Rattle.rules.specs.Numbers.Place.{at}
+use Rattle.rules.specs.Numbers.Refusal.{numberOf}
 use Rattle.rules.specs.declared.refusal.Refusal.{Refusal}
 use Rattle.rules.specs.declared.answer.Verdict.{Verdict}
 

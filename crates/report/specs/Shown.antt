@@ -3,8 +3,8 @@ use mathlib.Core.Bool.{Bool, true, false, _&&_}
 use mathlib.Core.List.{List, [], _∷_}
 use Prim.Native.Nat.{ℕ}
 use lib.Dec.{T, eqb}
-use Rattle.rules.specs.Choice.{if_then_else_}
-use Rattle.rules.specs.Refusal.{numberOf}
+use Rattle.rules.specs.Numbers.Choice.{if_then_else_}
+use Rattle.rules.specs.Numbers.Refusal.{numberOf}
 use Rattle.rules.specs.declared.refusal.Refusal.the-variants.{PastLimit}
 use Rattle.rules.specs.declared.answer.Verdict.{Verdict}
 use Rattle.report.specs.Report.{digitsIn, digits, spaced, line, header, runner, rowWords, rowLine, rowLines, callsLine, delayedLine, refusedLine, reportOf}
@@ -22,7 +22,8 @@ rows = 0 ∷ 1 ∷ 0 ∷ 0 ∷ 0 ∷ 5 ∷ 0 ∷ 0 ∷ 0 ∷ 5 ∷ 3 ∷ 0 ∷ 0
 block : List ℕ
 block =
     -- event running user next call
-    101 ∷ 118 ∷ 101 ∷ 110 ∷ 116 ∷ 32 ∷ 114 ∷ 117 ∷ 110 ∷ 110 ∷ 105 ∷ 110 ∷ 103 ∷ 32 ∷ 117 ∷ 115 ∷ 101 ∷ 114 ∷ 32 ∷ 110 ∷ 101 ∷ 120 ∷ 116 ∷ 32 ∷ 99 ∷ 97 ∷ 108 ∷ 108 ∷ 10
+    101 ∷ 118 ∷ 101 ∷ 110 ∷ 116 ∷ 32 ∷ 114 ∷ 117 ∷ 110 ∷ 110 ∷ 105 ∷ 110 ∷ 103 ∷ 32 ∷ 117 ∷ 115 ∷ 101 ∷ 114 ∷ 32 ∷ 110 ∷ 101 ∷ 120 ∷ 116 ∷ 32 ∷ 99 ∷ 97 ∷ 108
+    ∷ 108 ∷ 10
     -- 1 0 1 0 0
     ∷ 49 ∷ 32 ∷ 48 ∷ 32 ∷ 49 ∷ 32 ∷ 48 ∷ 32 ∷ 48 ∷ 10
     -- 2 0 5 0 0
@@ -50,7 +51,8 @@ rowsOfRefused = 0 ∷ 1 ∷ 0 ∷ 0 ∷ 0 ∷ 5 ∷ 0 ∷ 0 ∷ 0 ∷ 5 ∷ 0 �
 blockOfRefused : List ℕ
 blockOfRefused =
     -- event running user next call
-    101 ∷ 118 ∷ 101 ∷ 110 ∷ 116 ∷ 32 ∷ 114 ∷ 117 ∷ 110 ∷ 110 ∷ 105 ∷ 110 ∷ 103 ∷ 32 ∷ 117 ∷ 115 ∷ 101 ∷ 114 ∷ 32 ∷ 110 ∷ 101 ∷ 120 ∷ 116 ∷ 32 ∷ 99 ∷ 97 ∷ 108 ∷ 108 ∷ 10
+    101 ∷ 118 ∷ 101 ∷ 110 ∷ 116 ∷ 32 ∷ 114 ∷ 117 ∷ 110 ∷ 110 ∷ 105 ∷ 110 ∷ 103 ∷ 32 ∷ 117 ∷ 115 ∷ 101 ∷ 114 ∷ 32 ∷ 110 ∷ 101 ∷ 120 ∷ 116 ∷ 32 ∷ 99 ∷ 97 ∷ 108
+    ∷ 108 ∷ 10
     -- 1 0 1 0 0
     ∷ 49 ∷ 32 ∷ 48 ∷ 32 ∷ 49 ∷ 32 ∷ 48 ∷ 32 ∷ 48 ∷ 10
     -- 2 0 5 0 0
@@ -63,5 +65,6 @@ blockOfRefused =
 
 shown : T (same (reportOf Verdict.Passed 7 rows 1 2 (0 ∷ 2 ∷ 0 ∷ 0 ∷ [])) block
     && same (reportOf (Verdict.Refused PastLimit 3) 3 rowsOfRefused 0 1 (0 ∷ 0 ∷ 0 ∷ 0 ∷ [])) blockOfRefused)
-unfolding same rows block rowsOfRefused blockOfRefused if_then_else_ numberOf digitsIn digits spaced line header runner rowWords rowLine rowLines callsLine delayedLine refusedLine reportOf
+unfolding same rows block rowsOfRefused blockOfRefused if_then_else_ numberOf digitsIn digits spaced line header runner rowWords rowLine rowLines callsLine
+    delayedLine refusedLine reportOf
 shown = tt

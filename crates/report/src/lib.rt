@@ -35,7 +35,8 @@ fn put_report(
     eager: u32,
     delay: &[u16],
 ) -> usize
-    ensures { λ r. ⌜ page (now (out .exit)) r ≡ typed (page (now (out .entry)) 0) (reportOf verdict accepted (now (rows .entry)) lazy eager (now (delay .entry))) ⌝ }
+    ensures { λ r. ⌜ page (now (out .exit)) r ≡ typed (page (now (out .entry)) 0)
+        (reportOf verdict accepted (now (rows .entry)) lazy eager (now (delay .entry))) ⌝ }
 {
     let i = put_front(out, rows, accepted);
     match verdict {

@@ -8,7 +8,7 @@ use rules::refusal::Refusal;
 ghost use mathlib.Core.Path.{_≡_};
 ghost use mathlib.Core.List.{[], _∷_, map};
 ghost use Prim.Native.Nat.{_+_, _*_, _^_, _<_};
-ghost use Rattle.rules.specs.Place.{at};
+ghost use Rattle.rules.specs.Numbers.Place.{at};
 ghost use Rattle.report.specs.Page.{page, typed};
 ghost use Rattle.report.specs.Report.{space, digits, spaced, line, header, runner, rowWords, rowLine, rowLines, callsLine, delayedLine, refusedLine};
 

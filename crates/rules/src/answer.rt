@@ -1,7 +1,10 @@
 use crate::event::Event;
 use crate::plan::Plan;
 use crate::refusal::Refusal;
+use crate::refusal::number;
 use crate::state::State;
+ghost use mathlib.Core.Path.{_≡_};
+ghost use Rattle.rules.specs.Numbers.Answer.{answerCalls, answerNumber, verdictNumber, verdictPlace};
 
 // What the tests of an event come to.
 pub enum Tested {
@@ -57,4 +60,47 @@ pub struct Replayed {
     pub verdict: Verdict,
     pub plan: Plan,
     pub state: State,
+}
+
+// A verdict in the paper's number and place; both 0 where nothing is refused.
+pub fn verdict_number(v: Verdict) -> u8
+    ensures { λ r. ⌜ r ≡ verdictNumber v ⌝ }
+{
+    match v {
+        Verdict::Passed => 0,
+        Verdict::Refused(why, _) => number(why),
+    }
+}
+
+pub fn verdict_place(v: Verdict) -> usize
+    ensures { λ r. ⌜ r ≡ verdictPlace v ⌝ }
+{
+    match v {
+        Verdict::Passed => 0,
+        Verdict::Refused(_, place) => place,
+    }
+}
+
+// An answer in the paper's number, 0 where the event is accepted, and its lazy calls.
+pub fn answer_number(a: Answer) -> u8
+    ensures { λ r. ⌜ r ≡ answerNumber a ⌝ }
+{
+    match a {
+        Answer::Accepted(_) => 0,
+        Answer::Refused(why) => number(why),
+    }
+}
+
+pub fn answer_calls(a: Answer) -> u8
+    ensures { λ r. ⌜ r ≡ answerCalls a ⌝ }
+{
+    match a {
+        Answer::Accepted(call) => {
+            if call {
+                return 1;
+            }
+            0
+        }
+        Answer::Refused(_) => 0,
+    }
 }

@@ -1,10 +1,11 @@
 use crate::capacity::MAX_LOCKS;
 use crate::capacity::MAX_TASKS;
 ghost use mathlib.Core.Path.{_≡_};
-ghost use Rattle.rules.specs.Load.{blankPlan};
+ghost use Rattle.rules.specs.Books.Load.{blankPlan};
 
 // A recorder's plan. Tasks and locks are named by place, from 0; places past the last one hold 0.
 // Bit l of a task's uses says that the task may take lock l.
+#[repr(C)]
 pub struct Plan {
     pub tasks: usize,
     pub locks: usize,

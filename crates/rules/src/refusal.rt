@@ -1,5 +1,5 @@
 ghost use mathlib.Core.Path.{_≡_};
-ghost use Rattle.rules.specs.Refusal.{numberOf};
+ghost use Rattle.rules.specs.Numbers.Refusal.{numberOf};
 
 // Why a book, a plan, a state or an event is refused, in the order of document 01's table.
 pub enum Refusal {

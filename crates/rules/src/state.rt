@@ -4,9 +4,10 @@ use crate::capacity::NOBODY;
 use crate::priority::KernelPriority;
 use crate::priority::UserPriority;
 ghost use mathlib.Core.Path.{_≡_};
-ghost use Rattle.rules.specs.State.{freshOf};
+ghost use Rattle.rules.specs.Schedulers.State.{freshOf};
 
 // The counts of accepted events and of calls, who runs, and the two words shared with the kernel.
+#[repr(C)]
 pub struct Head {
     pub accepted: u32,
     pub running: u8,
@@ -20,13 +21,14 @@ pub struct Head {
 // priority that the kernel keeps for it, its delay, how many locks it has open, these locks and the
 // words saved when they were taken. Of a lock: its section's units, and the task that has it open,
 // plus one, or 0. A row of open locks or of saved words is a number in base 256, newest first.
+#[repr(C)]
 pub struct State {
     pub head: Head,
     pub released: [u32; MAX_TASKS],
     pub kept: [u8; MAX_TASKS],
     pub delay: [u16; MAX_TASKS],
-    pub held: [u8; MAX_TASKS],
-    pub locks: [u64; MAX_TASKS],
+    pub depth: [u8; MAX_TASKS],
+    pub takes: [u64; MAX_TASKS],
     pub saved: [u64; MAX_TASKS],
     pub units: [u16; MAX_LOCKS],
     pub owner: [u8; MAX_LOCKS],
@@ -49,8 +51,8 @@ pub fn fresh() -> State
         released: [0u32; MAX_TASKS],
         kept: [0u8; MAX_TASKS],
         delay: [0u16; MAX_TASKS],
-        held: [0u8; MAX_TASKS],
-        locks: [0u64; MAX_TASKS],
+        depth: [0u8; MAX_TASKS],
+        takes: [0u64; MAX_TASKS],
         saved: [0u64; MAX_TASKS],
         units: [0u16; MAX_LOCKS],
         owner: [0u8; MAX_LOCKS],

@@ -1,41 +1,96 @@
--- A replay under way. Assumes nothing.
+-- A run of events under way: what one turn comes to, and what is left to run. Assumes nothing.
 use mathlib.Core.Path.{_≡_}
-use mathlib.Core.Bool.{Bool, true, false}
+use mathlib.Core.Bool.{Bool, false}
 use mathlib.Core.List.{List}
-use Prim.Native.Nat.{ℕ, _-_, _≤_, _<_}
+use Prim.Native.Nat.{ℕ, _+_, _-_, _*_, _/_, _^_, _≤_, _<_}
+use lib.Dec.{ltb}
 use lib.ListN.{length}
-use Rattle.rules.specs.Book.{recordFault, recordEvent}
-use Rattle.rules.specs.Place.{from}
-use Rattle.rules.specs.Run.{withRow, runFrom}
-use Rattle.rules.specs.Sound.{Steady}
-use Rattle.rules.specs.State.{freshOf}
+use Rattle.rules.specs.Numbers.Capacity.{maxLocks}
+use Rattle.rules.specs.Books.Book.{recordFault, recordEvent}
+use Rattle.rules.specs.Numbers.Place.{from}
+use Rattle.rules.specs.Replays.Run.{Ran, withRow, runFrom}
+use Rattle.rules.specs.Soundness.Sound.{SoundAndSized}
+use Rattle.rules.specs.Schedulers.State.{freshOf}
+use Rattle.rules.specs.Replays.Step.{actOf}
+use Rattle.rules.specs.Schedulers.Whole.{stateWith}
 use Rattle.rules.specs.declared.plan.Plan.{Plan}
 use Rattle.rules.specs.declared.state.Head.{Head}
 use Rattle.rules.specs.declared.state.State.{State}
+use Rattle.rules.specs.declared.refusal.Refusal.{Refusal}
 use Rattle.rules.specs.declared.answer.Answer.{Answer}
+use Rattle.rules.specs.declared.answer.Replayed.{Replayed}
+use Rattle.rules.specs.declared.answer.Stepped.{Stepped}
 use Rattle.rules.specs.declared.answer.Verdict.{Verdict}
+use Rattle.scheduler.specs.declared.turn.Ended.{Ended}
 
--- the rows after the answer to the event at place k, with the head after it
+-- what a run has come to and its head, beside the arrays and the rows
+abbrev pub endedAs : Ended → List ℕ → List ℕ → List ℕ → List ℕ → List ℕ → List ℕ → List ℕ → List ℕ → List ℕ → Ran
+endedAs r released kept delay depth takes saved units owner rows =
+    record { verdict = r .verdict; state = stateWith (r .head) released kept delay depth takes saved units owner; rows = rows }
+
+-- what a refusal of 1 to 9 leaves: no state but a fresh one
+abbrev pub untouchedAs : Refusal → ℕ → Plan → Replayed
+untouchedAs why place p = record { verdict = Verdict.Refused why place; plan = p; state = freshOf }
+
+-- ---- one turn
+
+-- the rows after the answer to the event at place k, with the head after it; and what the run then comes to
 unfoldable pub rowsAfter : Answer → Head → ℕ → List ℕ → List ℕ
 rowsAfter (Answer.Accepted call) h k rows = withRow rows k h call
 rowsAfter (Answer.Refused why) h k rows = rows
-
--- whether the replay goes on after an answer, and what it comes to where it does not
-unfoldable pub goesOn : Answer → Bool
-goesOn (Answer.Accepted call) = true
-goesOn (Answer.Refused why) = false
 
 unfoldable pub stoppedAt : Answer → ℕ → Verdict
 stoppedAt (Answer.Accepted call) k = Verdict.Passed
 stoppedAt (Answer.Refused why) k = Verdict.Refused why k
 
+-- the turn of the event at place k
+unfoldable pub turnedAs : Stepped → ℕ → List ℕ → Ran
+turnedAs r k rows = record { verdict = stoppedAt (r .answer) k; state = r .state; rows = rowsAfter (r .answer) (r .state .head) k rows }
+
+abbrev pub turnOf : Plan → State → List ℕ → ℕ → List ℕ → Ran
+turnOf p s body k rows = turnedAs (actOf p s (recordEvent body k)) k rows
+
+-- what a turn asks for: a sound state, an event at place k, and room for its row
+pub record TurnReady (p : Plan) (s : State) (body rows : List ℕ) (k : ℕ) : Type 0 where
+  pub sound : SoundAndSized p s
+  pub limits : length (p .limit) ≡ maxLocks
+  pub within : k < length body / 4
+  pub clean : recordFault body k ≡ false
+  pub room : k * 4 + 4 ≤ length rows
+
+-- ---- all turns
+
 -- 8 lets all of the first n records of a body pass
 unfoldable pub Readable : List ℕ → ℕ → Type 0
 Readable body n = (k : ℕ) → k < n → recordFault body k ≡ false
 
--- at place k, in state s, what is left to run of n events comes to what all of them come to from a fresh start
-pub record Going (p : Plan) (body : List ℕ) (n : ℕ) (start : List ℕ) (k : ℕ) (s : State) (rows : List ℕ) : Type 0 where
+-- what a run of n events asks for
+pub record RunReady (p : Plan) (s : State) (body : List ℕ) (n : ℕ) (rows : List ℕ) : Type 0 where
+  pub sound : SoundAndSized p s
+  pub limits : length (p .limit) ≡ maxLocks
+  pub records : n * 4 ≤ length body
+  pub room : n * 4 ≤ length rows
+  pub readable : Readable body n
+
+-- it goes on where nothing was refused and an event is left
+unfoldable pub goesOn : Verdict → ℕ → ℕ → Bool
+goesOn Verdict.Passed k n = ltb k n
+goesOn (Verdict.Refused why place) k n = false
+
+-- what is left at place k of n events
+unfoldable pub leftFrom : Plan → List ℕ → ℕ → ℕ → Verdict → State → List ℕ → Ran
+leftFrom p body n k Verdict.Passed s rows = runFrom p (from (recordEvent body) k (n - k)) k s rows
+leftFrom p body n k (Verdict.Refused why place) s rows = record { verdict = Verdict.Refused why place; state = s; rows = rows }
+
+-- at place k, what is left comes to what all n events come to from the first state
+pub record Underway (p : Plan) (body : List ℕ) (n : ℕ) (first : State) (start : List ℕ) (k : ℕ) (ran : Ran) : Type 0 where
+  pub asked : RunReady p first body n start
+  pub few : n < 2 ^ 64
   pub within : k ≤ n
-  pub rest : runFrom p (from (recordEvent body) k (n - k)) k s rows ≡ runFrom p (from (recordEvent body) 0 n) 0 freshOf start
-  pub steady : Steady p s
-  pub same : length rows ≡ length start
+  pub rest : leftFrom p body n k (ran .verdict) (ran .state) (ran .rows) ≡ runFrom p (from (recordEvent body) 0 n) 0 first start
+  pub sound : SoundAndSized p (ran .state)
+  pub same : length (ran .rows) ≡ length start
+
+-- the same, shut: a search takes it whole
+unfoldable pub Going : Plan → List ℕ → ℕ → State → List ℕ → ℕ → Ran → Type 0
+Going p body n first start k ran = Underway p body n first start k ran

@@ -1,5 +1,2 @@
--- The state as the code lends it, and the tests as the code makes them.
-pub mod Whole
-pub mod Along
-pub mod Ready
+-- A run of events under way, and what a refused book leaves.
 pub mod Going

@@ -1,18 +1,7 @@
 // The step and the replay.
-mod acquire;
-mod act;
-mod acted;
 mod by_value;
-mod finish;
-mod release;
-mod row;
 mod run;
-mod switch;
-mod tests;
 mod turn;
-mod unlock;
-mod words;
-mod work;
 
 use book::check;
 use rules::answer::Replayed;
@@ -26,10 +15,10 @@ use rules::state::fresh;
 use sound::sound;
 ghost use mathlib.Core.Path.{_≡_};
 ghost use lib.ListN.{length};
-ghost use Rattle.rules.specs.Book.{checkedOf};
-ghost use Rattle.rules.specs.Replay.{ranAs, replayOf};
-ghost use Rattle.rules.specs.Step.{stepOf};
-ghost use Rattle.scheduler.specs.Whole.{untouchedAs};
+ghost use Rattle.rules.specs.Books.Book.{checkedOf};
+ghost use Rattle.rules.specs.Replays.Replay.{ranAs, replayOf};
+ghost use Rattle.rules.specs.Replays.Step.{stepOf};
+ghost use Rattle.scheduler.specs.Going.{untouchedAs};
 
 // Any plan, any state, any event: 10, or the answer of 11 to 22 or of an accepted event, and the
 // state after it, which is the given one where the event is refused.
@@ -57,7 +46,8 @@ fn untouched(why: Refusal, place: usize, plan: Plan) -> Replayed
 // The replay of a book: 1 to 9 first, leaving the rows untouched; then its events until the first
 // refusal, with four row bytes for each accepted one. All other row bytes stay.
 pub fn replay(book: &[u8], rows: &mut [u8]) -> Replayed
-    ensures { λ r. ⌜ (ranAs r (now (rows .exit)) ≡ replayOf (now (book .entry)) (now (rows .entry))) × (r .plan ≡ checkedOf (now (book .entry)) (length (now (rows .entry))) .plan) ⌝ }
+    ensures { λ r. ⌜ (ranAs r (now (rows .exit)) ≡ replayOf (now (book .entry)) (now (rows .entry)))
+        × (r .plan ≡ checkedOf (now (book .entry)) (length (now (rows .entry))) .plan) ⌝ }
 {
     let checked = check(book, rows.len());
     let verdict = checked.verdict;

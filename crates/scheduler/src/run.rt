@@ -1,124 +1,159 @@
 // The events of a book that was accepted, from a fresh start until the first refusal.
+use crate::turn::Ended;
 use crate::turn::turn;
-use rules::answer::Answer;
 use rules::answer::Replayed;
 use rules::answer::Verdict;
+use rules::capacity::MAX_LOCKS;
+use rules::capacity::MAX_TASKS;
 use rules::plan::Plan;
+use rules::state::Head;
 use rules::state::State;
 use rules::state::fresh;
 ghost use mathlib.Core.Path.{_≡_};
-ghost use Prim.Native.Nat.{_*_, _≤_};
-ghost use lib.ListN.{length};
-ghost use Rattle.rules.specs.Book.{recordEvent};
-ghost use Rattle.rules.specs.Capacity.{maxLocks};
-ghost use Rattle.rules.specs.Place.{from};
-ghost use Rattle.rules.specs.Plan.{Obeys};
-ghost use Rattle.rules.specs.Replay.{ranAs};
-ghost use Rattle.rules.specs.Run.{runFrom};
-ghost use Rattle.rules.specs.State.{freshOf};
-ghost use Rattle.scheduler.specs.Going.{goesOn, Readable, stoppedAt};
+ghost use Rattle.rules.specs.Books.Book.{recordEvent};
+ghost use Rattle.rules.specs.Numbers.Place.{from};
+ghost use Rattle.rules.specs.Replays.Replay.{ranAs};
+ghost use Rattle.rules.specs.Replays.Run.{runFrom};
+ghost use Rattle.rules.specs.Schedulers.State.{freshOf};
+ghost use Rattle.rules.specs.Schedulers.Whole.{planWith, stateWith};
+ghost use Rattle.scheduler.specs.Going.{RunReady, endedAs, goesOn};
 
-// Whether the run goes on after an answer.
-fn goes_on(answer: Answer) -> bool
-    ensures { λ r. ⌜ r ≡ goesOn answer ⌝ }
+// Whether the run goes on at place k of c events.
+fn goes_on(ended: Ended, k: usize, c: usize) -> bool
+    ensures { λ r. ⌜ r ≡ goesOn (ended .verdict) k c ⌝ }
 {
-    match answer {
-        Answer::Accepted(_) => true,
-        Answer::Refused(_) => false,
+    let verdict = ended.verdict;
+    match verdict {
+        Verdict::Passed => k < c,
+        Verdict::Refused(_, _) => false,
     }
 }
 
-// What the run comes to where it stops at place k.
-fn stopped_at(answer: Answer, k: usize) -> Verdict
-    ensures { λ r. ⌜ r ≡ stoppedAt answer k ⌝ }
+// The turns of the first c records, from any sound state.
+fn turns(
+    h: Head,
+    n: usize,
+    m: usize,
+    base: &[u8; MAX_TASKS],
+    ceiling: &[u8; MAX_LOCKS],
+    limit: &[u16; MAX_LOCKS],
+    uses: &[u32; MAX_TASKS],
+    released: &mut [u32; MAX_TASKS],
+    kept: &mut [u8; MAX_TASKS],
+    delay: &mut [u16; MAX_TASKS],
+    depth: &mut [u8; MAX_TASKS],
+    takes: &mut [u64; MAX_TASKS],
+    saved: &mut [u64; MAX_TASKS],
+    units: &mut [u16; MAX_LOCKS],
+    owner: &mut [u8; MAX_LOCKS],
+    body: &[u8],
+    rows: &mut [u8],
+    c: usize,
+) -> Ended
+    requires { ⌜ RunReady (planWith n m (now base) (now ceiling) (now limit) (now uses))
+        (stateWith h (now released) (now kept) (now delay) (now depth) (now takes) (now saved) (now units) (now owner)) (now body) c (now rows) ⌝ }
+    ensures { λ r. ⌜ endedAs r (now (released .exit)) (now (kept .exit)) (now (delay .exit)) (now (depth .exit)) (now (takes .exit)) (now (saved .exit))
+        (now (units .exit)) (now (owner .exit)) (now (rows .exit))
+        ≡ runFrom (planWith n m (now (base .entry)) (now (ceiling .entry)) (now (limit .entry)) (now (uses .entry)))
+        (from (recordEvent (now (body .entry))) 0 c) 0
+        (stateWith h (now (released .entry)) (now (kept .entry)) (now (delay .entry)) (now (depth .entry)) (now (takes .entry)) (now (saved .entry))
+        (now (units .entry)) (now (owner .entry))) (now (rows .entry)) ⌝ }
 {
-    match answer {
-        Answer::Accepted(_) => Verdict::Passed,
-        Answer::Refused(why) => Verdict::Refused(why, k),
-    }
-}
-
-// The arrays are unpacked once and lent to each turn; the state is put together where the run ends.
-pub fn run(p: Plan, body: &[u8], n: usize, rows: &mut [u8]) -> Replayed
-    requires { ⌜ Obeys p × (length (p .limit) ≡ maxLocks) × (n * 4 ≤ length (now body)) × (n * 4 ≤ length (now rows)) × Readable (now body) n ⌝ }
-    ensures { λ r. ⌜ (ranAs r (now (rows .exit)) ≡ runFrom p (from (recordEvent (now (body .entry))) 0 n) 0 freshOf (now (rows .entry))) × (r .plan ≡ p) ⌝ }
-{
-    let tasks = p.tasks;
-    let lock_count = p.locks;
-    let base = p.base;
-    let ceiling = p.ceiling;
-    let limit = p.limit;
-    let uses = p.uses;
-    let start = fresh();
-    let mut head = start.head;
-    let mut released = start.released;
-    let mut kept = start.kept;
-    let mut delay = start.delay;
-    let mut held = start.held;
-    let mut locks = start.locks;
-    let mut saved = start.saved;
-    let mut units = start.units;
-    let mut owner = start.owner;
+    let mut ended = Ended {
+        verdict: Verdict::Passed,
+        head: h,
+    };
     let mut k: usize = 0;
-    while k < n {
-        let acted = turn(
+    while goes_on(ended, k, c) {
+        let head = ended.head;
+        ended = turn(
             head,
-            tasks,
-            lock_count,
-            &base,
-            &ceiling,
-            &limit,
-            &uses,
-            &mut released,
-            &mut kept,
-            &mut delay,
-            &mut held,
-            &mut locks,
-            &mut saved,
-            &mut units,
-            &mut owner,
+            n,
+            m,
+            base,
+            ceiling,
+            limit,
+            uses,
+            released,
+            kept,
+            delay,
+            depth,
+            takes,
+            saved,
+            units,
+            owner,
             body,
             rows,
             k,
         );
-        let answer = acted.answer;
-        let after = acted.head;
-        head = after;
-        if !goes_on(answer) {
-            let verdict = stopped_at(answer, k);
-            let state = State {
-                head: after,
-                released: released,
-                kept: kept,
-                delay: delay,
-                held: held,
-                locks: locks,
-                saved: saved,
-                units: units,
-                owner: owner,
-            };
-            return Replayed {
-                verdict: verdict,
-                plan: p,
-                state: state,
-            };
-        }
         k += 1;
     }
+    ended
+}
+
+// The arrays are unpacked once and lent to the turns; the state is put together where the run ends.
+fn run_from(p: Plan, start: State, body: &[u8], n: usize, rows: &mut [u8]) -> Replayed
+    requires { ⌜ RunReady p start (now body) n (now rows) ⌝ }
+    ensures { λ r. ⌜ (ranAs r (now (rows .exit)) ≡ runFrom p (from (recordEvent (now (body .entry))) 0 n) 0 start (now (rows .entry))) × (r .plan ≡ p) ⌝ }
+{
+    let base = p.base;
+    let ceiling = p.ceiling;
+    let limit = p.limit;
+    let uses = p.uses;
+    let head = start.head;
+    let mut released = start.released;
+    let mut kept = start.kept;
+    let mut delay = start.delay;
+    let mut depth = start.depth;
+    let mut takes = start.takes;
+    let mut saved = start.saved;
+    let mut units = start.units;
+    let mut owner = start.owner;
+    let ended = turns(
+        head,
+        p.tasks,
+        p.locks,
+        &base,
+        &ceiling,
+        &limit,
+        &uses,
+        &mut released,
+        &mut kept,
+        &mut delay,
+        &mut depth,
+        &mut takes,
+        &mut saved,
+        &mut units,
+        &mut owner,
+        body,
+        rows,
+        n,
+    );
+    let verdict = ended.verdict;
+    let last = ended.head;
     let state = State {
-        head: head,
+        head: last,
         released: released,
         kept: kept,
         delay: delay,
-        held: held,
-        locks: locks,
+        depth: depth,
+        takes: takes,
         saved: saved,
         units: units,
         owner: owner,
     };
     Replayed {
-        verdict: Verdict::Passed,
+        verdict: verdict,
         plan: p,
         state: state,
     }
+}
+
+// From a fresh start.
+pub fn run(p: Plan, body: &[u8], n: usize, rows: &mut [u8]) -> Replayed
+    requires { ⌜ RunReady p freshOf (now body) n (now rows) ⌝ }
+    ensures { λ r. ⌜ (ranAs r (now (rows .exit)) ≡ runFrom p (from (recordEvent (now (body .entry))) 0 n) 0 freshOf (now (rows .entry))) × (r .plan ≡ p) ⌝ }
+{
+    let start = fresh();
+    run_from(p, start, body, n, rows)
 }

@@ -1,9 +1,11 @@
 // One turn of the replay: the event at its place, where it lies, and its row.
-use crate::act::act;
-use crate::acted::Acted;
-use book::cursor::cursor;
+use book::reader::read;
+use figures::priority::kernel_byte;
+use figures::priority::user_byte;
+use kernel::act::act;
 use rules::answer::Answer;
 use rules::answer::Found;
+use rules::answer::Verdict;
 use rules::capacity::MAX_LOCKS;
 use rules::capacity::MAX_TASKS;
 use rules::event::Event;
@@ -12,22 +14,24 @@ ghost use mathlib.Core.Path.{_≡_};
 ghost use mathlib.Core.Bool.{false};
 ghost use Prim.Native.Nat.{_+_, _*_, _/_, _<_, _≤_};
 ghost use lib.ListN.{length};
-ghost use Rattle.rules.specs.Book.{recordEvent, recordFault};
-ghost use Rattle.rules.specs.Capacity.{maxLocks};
-ghost use Rattle.rules.specs.Choice.{if_then_else_};
-ghost use Rattle.rules.specs.Run.{withRow};
-ghost use Rattle.rules.specs.Sound.{Steady};
-ghost use Rattle.rules.specs.Step.{actOf};
-ghost use Rattle.rules.specs.Whole.{planWith, stateWith};
-ghost use Rattle.scheduler.specs.Whole.{steppedAs};
-ghost use Rattle.scheduler.specs.Going.{rowsAfter};
+ghost use Rattle.rules.specs.Books.Book.{recordEvent, recordFault};
+ghost use Rattle.rules.specs.Numbers.Choice.{if_then_else_};
+ghost use Rattle.rules.specs.Replays.Run.{withRow};
+ghost use Rattle.rules.specs.Schedulers.Whole.{planWith, stateWith};
+ghost use Rattle.scheduler.specs.Going.{TurnReady, endedAs, rowsAfter, stoppedAt, turnOf};
+
+// What the run has come to, beside the arrays that it is lent.
+pub struct Ended {
+    pub verdict: Verdict,
+    pub head: Head,
+}
 
 // The event of record k, which 8 has let pass.
 fn event_at(body: &[u8], k: usize) -> Event
     requires { ⌜ (k < length (now body) / 4) × (recordFault (now body) k ≡ false) ⌝ }
     ensures { λ r. ⌜ r ≡ recordEvent (now (body .entry)) k ⌝ }
 {
-    match cursor(body, k) {
+    match read(body, k) {
         Found::Got(e, _) => e,
         Found::Refused(_, _) => Event::Tick,
         Found::End => Event::Tick,
@@ -44,16 +48,18 @@ fn call_byte(call: bool) -> u8
     0
 }
 
-// "Running task, user word, next word, 1 for a lazy call or else 0."
+// Who runs, the user word, the next word, and the call.
 fn put_row(rows: &mut [u8], k: usize, h: Head, call: bool)
     requires { ⌜ k * 4 + 4 ≤ length (now rows) ⌝ }
     ensures { λ _. ⌜ now (rows .exit) ≡ withRow (now (rows .entry)) k h call ⌝ }
 {
     let i = k * 4;
     let last = call_byte(call);
+    let user = h.user;
+    let next = h.next;
     rows[i] = h.running;
-    rows[i + 1] = h.user.0;
-    rows[i + 2] = h.next.0;
+    rows[i + 1] = user_byte(user);
+    rows[i + 2] = kernel_byte(next);
     rows[i + 3] = last;
 }
 
@@ -65,6 +71,16 @@ fn put_after(rows: &mut [u8], k: usize, answer: Answer, h: Head)
     match answer {
         Answer::Accepted(call) => put_row(rows, k, h, call),
         Answer::Refused(_) => {}
+    }
+}
+
+// What the run comes to after the answer at place k.
+fn stopped_at(answer: Answer, k: usize) -> Verdict
+    ensures { λ r. ⌜ r ≡ stoppedAt answer k ⌝ }
+{
+    match answer {
+        Answer::Accepted(_) => Verdict::Passed,
+        Answer::Refused(why) => Verdict::Refused(why, k),
     }
 }
 
@@ -80,23 +96,23 @@ pub fn turn(
     released: &mut [u32; MAX_TASKS],
     kept: &mut [u8; MAX_TASKS],
     delay: &mut [u16; MAX_TASKS],
-    held: &mut [u8; MAX_TASKS],
-    locks: &mut [u64; MAX_TASKS],
+    depth: &mut [u8; MAX_TASKS],
+    takes: &mut [u64; MAX_TASKS],
     saved: &mut [u64; MAX_TASKS],
     units: &mut [u16; MAX_LOCKS],
     owner: &mut [u8; MAX_LOCKS],
     body: &[u8],
     rows: &mut [u8],
     k: usize,
-) -> Acted
-    requires { ⌜ Steady (planWith n m (now base) (now ceiling) (now limit) (now uses))
-        (stateWith h (now released) (now kept) (now delay) (now held) (now locks) (now saved) (now units) (now owner)) ⌝ }
-    requires { ⌜ (length (now limit) ≡ maxLocks) × (k < length (now body) / 4) × (recordFault (now body) k ≡ false) × (k * 4 + 4 ≤ length (now rows)) ⌝ }
-    ensures { λ r. ⌜ steppedAs r (now (released .exit)) (now (kept .exit)) (now (delay .exit)) (now (held .exit)) (now (locks .exit)) (now (saved .exit)) (now (units .exit)) (now (owner .exit))
-        ≡ actOf (planWith n m (now (base .entry)) (now (ceiling .entry)) (now (limit .entry)) (now (uses .entry)))
-        (stateWith h (now (released .entry)) (now (kept .entry)) (now (delay .entry)) (now (held .entry)) (now (locks .entry)) (now (saved .entry)) (now (units .entry)) (now (owner .entry)))
-        (recordEvent (now (body .entry)) k) ⌝ }
-    ensures { λ r. ⌜ now (rows .exit) ≡ rowsAfter (r .answer) (r .head) k (now (rows .entry)) ⌝ }
+) -> Ended
+    requires { ⌜ TurnReady (planWith n m (now base) (now ceiling) (now limit) (now uses))
+        (stateWith h (now released) (now kept) (now delay) (now depth) (now takes) (now saved) (now units) (now owner)) (now body) (now rows) k ⌝ }
+    ensures { λ r. ⌜ endedAs r (now (released .exit)) (now (kept .exit)) (now (delay .exit)) (now (depth .exit)) (now (takes .exit)) (now (saved .exit))
+        (now (units .exit)) (now (owner .exit)) (now (rows .exit))
+        ≡ turnOf (planWith n m (now (base .entry)) (now (ceiling .entry)) (now (limit .entry)) (now (uses .entry)))
+        (stateWith h (now (released .entry)) (now (kept .entry)) (now (delay .entry)) (now (depth .entry)) (now (takes .entry)) (now (saved .entry))
+        (now (units .entry)) (now (owner .entry)))
+        (now (body .entry)) k (now (rows .entry)) ⌝ }
 {
     let e = event_at(body, k);
     let acted = act(
@@ -110,8 +126,8 @@ pub fn turn(
         released,
         kept,
         delay,
-        held,
-        locks,
+        depth,
+        takes,
         saved,
         units,
         owner,
@@ -120,5 +136,9 @@ pub fn turn(
     let answer = acted.answer;
     let head = acted.head;
     put_after(rows, k, answer, head);
-    acted
+    let verdict = stopped_at(answer, k);
+    Ended {
+        verdict: verdict,
+        head: head,
+    }
 }

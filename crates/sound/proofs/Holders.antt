@@ -6,13 +6,13 @@ use native.Mathlib.Numerals.{add-one}
 use native.Mathlib.Omega.{arith}
 use lib.Dec.{ltb}
 use borrow.Author.Tests.{lt-ltb, le-ltb}
-use Rattle.rules.specs.Capacity.{maxTasks}
-use Rattle.rules.specs.Choice.{if_then_else_}
-use Rattle.rules.specs.Figures.{Figures, holds, priorityOf, rankOf}
-use Rattle.rules.specs.Sound.{ownerOf}
-use Rattle.rules.specs.Place.{at}
+use Rattle.rules.specs.Numbers.Capacity.{maxTasks}
+use Rattle.rules.specs.Numbers.Choice.{if_then_else_}
+use Rattle.rules.specs.Schedulers.Figures.{Figures, holds, priorityOf, rankOf}
+use Rattle.rules.specs.Soundness.Sound.{ownerOf}
+use Rattle.rules.specs.Numbers.Place.{at}
 use Rattle.rules.specs.declared.plan.Plan.{Plan}
-use Rattle.rules.proofs.Choice.{if-yes, if-no}
+use Rattle.rules.proofs.Numbers.Choice.{if-yes, if-no}
 use Rattle.sound.specs.Placed.{Stands}
 
 module _ (f : Figures) (l : ℕ) where

@@ -1,43 +1,31 @@
 -- The ways through a row of open locks. Assumes nothing.
 use mathlib.Core.Path.{_≡_, refl, sym, _∙_, ap, ap₂, subst}
-use mathlib.Core.Bool.{Bool, true, false, not, _||_}
+use mathlib.Core.Bool.{Bool, true, false, not}
 use mathlib.Core.List.{List, [], _∷_}
-use Prim.Native.Nat.{ℕ, zero, suc, _+_, _-_, _^_, _≤_, _<_, max}
+use Prim.Native.Nat.{ℕ, suc, _+_, _-_, _%_, _^_, _≤_, _<_, max}
 use native.Mathlib.Nat.{lt-of-lt-of-le, zero-lt-suc, pow-le-pow-right}
 use native.Mathlib.Omega.{arith}
 use lib.Dec.{eqb, ltb}
 use borrow.Author.Tests.{eq-eqb, ne-eqb, lt-ltb, le-ltb, not-true, not-false}
-use Rattle.rules.specs.Choice.{allTrue}
-use Rattle.rules.specs.Place.{at}
-use Rattle.rules.specs.Mask.{hasBit}
-use Rattle.rules.specs.Row.{newest, under, pushed, has, priority, saves}
-use Rattle.rules.specs.SoundTest.{rowTest, ownTest}
-use Rattle.rules.proofs.Row.{has-none, has-suc, priority-none, priority-suc, places-pushed}
-use Rattle.rules.proofs.Choice.{all-fails, all-next, all-last}
-
--- a number above 0 is one more than the number before it
-one-more : (k : ℕ) → (k ≡ 0 → ⊥) → k ≡ suc (k - 1)
-one-more zero n = absurd (n refl)
-one-more (suc j) n = ap suc (omega arith)
+use Rattle.rules.specs.Numbers.Choice.{allTrue}
+use Rattle.rules.specs.Numbers.Place.{at}
+use Rattle.rules.specs.Numbers.Mask.{hasBit}
+use Rattle.rules.specs.Numbers.Row.{newest, under, pushed, has, priority, saves}
+use Rattle.rules.specs.Soundness.SoundTest.{rowTest, ownTest}
+use Rattle.rules.proofs.Numbers.Row.{priority-none, priority-suc, places-pushed}
+use Rattle.rules.proofs.Numbers.Choice.{all-fails, all-next, all-last}
+use Rattle.figures.proofs.Rows.{one-more, push-fits}
 
 powers-rise : (k : ℕ) → k ≤ 7 → 256 ^ k ≤ 256 ^ 7
 powers-rise k h = pow-le-pow-right (zero-lt-suc 255) h
 
-saves-suc : (ceiling : ℕ → ℕ) (base row k : ℕ) → saves ceiling base row (suc k) ≡ pushed (saves ceiling base (under row) k) (priority ceiling base (under row) k)
+saves-suc : (ceiling : ℕ → ℕ) (base row k : ℕ) → saves ceiling base row (suc k)
+    ≡ pushed (saves ceiling base (under row) k) (priority ceiling base (under row) k)
 unfolding saves
 saves-suc ceiling base row k = refl
 
--- ---- a loop that looks for l: what is left of the row gives the same answer
-
-module _ (row k l rest left x : ℕ) (same : has rest left l ≡ has row k l) where
-  pub has-hit : (left ≡ 0 → ⊥) → x ≡ newest rest → x ≡ l → true ≡ has row k l
-  has-hit n e h = sym (ap (λ m. has rest m l) (one-more left n) ∙ has-suc rest (left - 1) l ∙ ap (λ b. b || has (under rest) (left - 1) l) (eq-eqb (newest rest) l (sym e ∙ h))) ∙ same
-
-  pub has-miss : (u : ℕ) → (left ≡ 0 → ⊥) → x ≡ newest rest → (x ≡ l → ⊥) → u ≡ under rest → has u (left - 1) l ≡ has row k l
-  has-miss u n e h d = ap (λ v. has v (left - 1) l) d ∙ sym (ap (λ m. has rest m l) (one-more left n) ∙ has-suc rest (left - 1) l ∙ ap (λ b. b || has (under rest) (left - 1) l) (ne-eqb (newest rest) l (λ q. h (e ∙ q)))) ∙ same
-
-  pub has-ends : left ≡ 0 → false ≡ has row k l
-  has-ends e = sym (ap (λ m. has rest m l) e ∙ has-none rest l) ∙ same
+saves-room : (k below : ℕ) → (k ≡ 0 → ⊥) → k ≤ 8 → below < 256 ^ (k - 1) → below < 256 ^ 7
+saves-room k below n h l = lt-of-lt-of-le l (powers-rise (k - 1) (omega arith))
 
 -- ---- the priority of a row, and the words saved for it
 
@@ -45,10 +33,10 @@ module _ (ceiling : List ℕ) (base row k : ℕ) where
   pub priority-ends : k ≡ 0 → base ≡ priority (at ceiling) base row k
   priority-ends e = sym (ap (priority (at ceiling) base row) e ∙ priority-none (at ceiling) base row)
 
-  pub priority-more : (u l below top r : ℕ) → (k ≡ 0 → ⊥) → u ≡ under row → l ≡ newest row → below ≡ priority (at ceiling) base u (k - 1)
-      → top ≡ at ceiling l → r ≡ max top below → r ≡ priority (at ceiling) base row k
-  priority-more u l below top r n d e h g f =
-      f ∙ ap₂ max (g ∙ ap (at ceiling) e) (h ∙ ap (λ v. priority (at ceiling) base v (k - 1)) d)
+  pub priority-more : (u l below top word r : ℕ) → (k ≡ 0 → ⊥) → u ≡ under row → l ≡ newest row → below ≡ priority (at ceiling) base u (k - 1)
+      → top ≡ at ceiling l → word ≡ top → r ≡ max word below → r ≡ priority (at ceiling) base row k
+  priority-more u l below top word r n d e h g w f =
+      f ∙ ap₂ max (w ∙ g ∙ ap (at ceiling) e) (h ∙ ap (λ v. priority (at ceiling) base v (k - 1)) d)
       ∙ sym (ap (priority (at ceiling) base row) (one-more k n) ∙ priority-suc (at ceiling) base row (k - 1))
 
   pub saves-ends : k ≡ 0 → 0 ≡ saves (at ceiling) base row k
@@ -58,18 +46,18 @@ module _ (ceiling : List ℕ) (base row k : ℕ) where
   pub saves-fits : k ≡ 0 → 0 < 256 ^ k
   saves-fits e = rw e (omega arith)
 
-  pub saves-room : (below : ℕ) → (k ≡ 0 → ⊥) → k ≤ 8 → below < 256 ^ (k - 1) → below < 256 ^ 7
-  saves-room below n h l = lt-of-lt-of-le l (powers-rise (k - 1) (omega arith))
-
-  pub saves-more : (u below word r : ℕ) → (k ≡ 0 → ⊥) → r ≡ pushed below word → u ≡ under row → below ≡ saves (at ceiling) base u (k - 1)
+  pub saves-more : (u below word r : ℕ) → (k ≡ 0 → ⊥) → k ≤ 8 → r ≡ pushed (below % 256 ^ 7) word → below < 256 ^ (k - 1) → u ≡ under row
+      → below ≡ saves (at ceiling) base u (k - 1)
       → word ≡ priority (at ceiling) base u (k - 1) → r ≡ saves (at ceiling) base row k
-  saves-more u below word r n f d h g =
-      f ∙ ap₂ pushed (h ∙ ap (λ v. saves (at ceiling) base v (k - 1)) d) (g ∙ ap (λ v. priority (at ceiling) base v (k - 1)) d)
+  saves-more u below word r n few f b d h g =
+      push-fits below word r (saves-room k below n few b) f ∙ ap₂ pushed (h ∙ ap (λ v. saves (at ceiling) base v (k - 1)) d)
+      (g ∙ ap (λ v. priority (at ceiling) base v (k - 1)) d)
       ∙ sym (ap (saves (at ceiling) base row) (one-more k n) ∙ saves-suc (at ceiling) base row (k - 1))
 
-pub saves-fit : (k below word r : ℕ) → (k ≡ 0 → ⊥) → r ≡ pushed below word → below < 256 ^ (k - 1) → word < 256 → r < 256 ^ k
-saves-fit k below word r n f b w =
-    subst (λ v. v < 256 ^ k) (sym f) (subst (λ v. pushed below word < 256 ^ v) (sym (one-more k n)) (places-pushed below (k - 1) word w b))
+pub saves-fit : (k below word r : ℕ) → (k ≡ 0 → ⊥) → k ≤ 8 → r ≡ pushed (below % 256 ^ 7) word → below < 256 ^ (k - 1) → word < 256 → r < 256 ^ k
+saves-fit k below word r n few f b w =
+    subst (λ v. v < 256 ^ k) (sym (push-fits below word r (saves-room k below n few b) f))
+    (subst (λ v. pushed below word < 256 ^ v) (sym (one-more k n)) (places-pushed below (k - 1) word w b))
 
 -- ---- a loop along a row: what is left of it is tested as the whole row is
 
@@ -110,7 +98,8 @@ module _ (owner : List ℕ) (x row k rest left : ℕ) (same : ownTest owner x re
   pub own-other : (l o : ℕ) → (left ≡ 0 → ⊥) → l ≡ newest rest → o ≡ at owner l → (o ≡ x + 1 → ⊥) → false ≡ ownTest owner x row k
   own-other l o n e d h = all-fails (eqb (at owner l) (x + 1)) _ (ne-eqb (at owner l) (x + 1) (λ q. h (d ∙ q))) ∙ own-parts l (under rest) n e refl
 
-  pub own-next : (l o u : ℕ) → (left ≡ 0 → ⊥) → l ≡ newest rest → o ≡ at owner l → o ≡ x + 1 → u ≡ under rest → ownTest owner x u (left - 1) ≡ ownTest owner x row k
+  pub own-next : (l o u : ℕ) → (left ≡ 0 → ⊥) → l ≡ newest rest → o ≡ at owner l → o ≡ x + 1 → u ≡ under rest
+      → ownTest owner x u (left - 1) ≡ ownTest owner x row k
   own-next l o u n e d h g =
       all-next (eqb (at owner l) (x + 1)) _ _ (eq-eqb (at owner l) (x + 1) (sym d ∙ h)) (all-last (ownTest owner x u (left - 1)) _ refl) ∙ own-parts l u n e g
 

@@ -1,7 +1,7 @@
 // Whether tests all hold.
 ghost use mathlib.Core.Path.{_≡_};
 ghost use mathlib.Core.List.{[], _∷_};
-ghost use Rattle.rules.specs.Choice.{allTrue};
+ghost use Rattle.rules.specs.Numbers.Choice.{allTrue};
 
 pub fn all_four(a: bool, b: bool, c: bool, d: bool) -> bool
     ensures { λ r. ⌜ r ≡ allTrue (a ∷ b ∷ c ∷ d ∷ []) ⌝ }

@@ -2,11 +2,14 @@
 use crate::all::all_six;
 use crate::rank::greatest_of;
 use crate::rank::priority_of;
+use figures::priority::same_record;
+use figures::priority::same_word;
 use rules::capacity::MAX_ACCEPTED;
 use rules::capacity::MAX_TASKS;
 use rules::capacity::NOBODY;
 use rules::plan::Plan;
 use rules::priority::KernelPriority;
+use rules::priority::UserPriority;
 use rules::state::Head;
 use rules::state::State;
 ghost use mathlib.Core.Path.{_≡_};
@@ -14,12 +17,12 @@ ghost use mathlib.Core.List.{[], _∷_};
 ghost use Prim.Native.Nat.{_≤_};
 ghost use lib.Dec.{eqb, leb};
 ghost use lib.ListN.{length};
-ghost use Rattle.rules.specs.Capacity.{maxAccepted, maxTasks};
-ghost use Rattle.rules.specs.Choice.{allTrue};
-ghost use Rattle.rules.specs.Figures.{figuresOf, rankOf};
-ghost use Rattle.rules.specs.Lazy.{wordsOf};
-ghost use Rattle.rules.specs.Place.{at, every};
-ghost use Rattle.rules.specs.SoundTest.{headTest, runsTest};
+ghost use Rattle.rules.specs.Numbers.Capacity.{maxAccepted, maxTasks};
+ghost use Rattle.rules.specs.Numbers.Choice.{allTrue};
+ghost use Rattle.rules.specs.Schedulers.Figures.{figuresOf, rankOf};
+ghost use Rattle.rules.specs.Schedulers.Lazy.{wordsOf};
+ghost use Rattle.rules.specs.Numbers.Place.{at, every};
+ghost use Rattle.rules.specs.Soundness.SoundTest.{headTest, runsTest};
 ghost use Rattle.sound.specs.Placed.{Stands};
 
 fn none_released(released: &[u32; MAX_TASKS], n: usize) -> bool
@@ -63,7 +66,7 @@ fn number_at(released: &[u32; MAX_TASKS], x: usize) -> u32
 }
 
 // The running task's priority, and 0 with nobody.
-fn running_rank(p: Plan, s: State) -> KernelPriority
+fn running_rank(p: Plan, s: State) -> UserPriority
     ensures { λ r. ⌜ r .0 ≡ rankOf p (figuresOf s) (s .head .running) ⌝ }
 {
     let x = s.head.running as usize;
@@ -72,11 +75,11 @@ fn running_rank(p: Plan, s: State) -> KernelPriority
     if 0 < number {
         return priority_of(p, s, x);
     }
-    KernelPriority(0)
+    UserPriority(0)
 }
 
 // The counts are in range, the running task is one that may run, and both words are what they must be.
-fn head_fits(h: Head, runs: bool, user: KernelPriority, next: KernelPriority) -> bool
+fn head_fits(h: Head, runs: bool, user: UserPriority, next: KernelPriority) -> bool
     ensures { λ r. ⌜
         r ≡ allTrue
         (leb (h .accepted) maxAccepted
@@ -88,13 +91,15 @@ fn head_fits(h: Head, runs: bool, user: KernelPriority, next: KernelPriority) ->
         ∷ [])
         ⌝ }
 {
+    let word = h.user;
+    let second = h.next;
     all_six(
         h.accepted <= MAX_ACCEPTED,
         h.eager <= h.accepted,
         h.lazy <= h.accepted,
         runs,
-        h.user.0 == user.0,
-        h.next.0 == next.0,
+        same_word(word, user),
+        same_record(second, next),
     )
 }
 

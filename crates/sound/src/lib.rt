@@ -4,7 +4,6 @@ mod head;
 mod lock;
 mod priority;
 mod rank;
-pub mod row;
 mod task;
 mod unused;
 
@@ -12,7 +11,7 @@ use plan::obeys;
 use rules::plan::Plan;
 use rules::state::State;
 ghost use mathlib.Core.Path.{_≡_};
-ghost use Rattle.rules.specs.SoundTest.{soundTest};
+ghost use Rattle.rules.specs.Soundness.SoundTest.{soundTest};
 
 // Whether every condition of soundness holds of any plan and any state.
 pub fn sound(p: Plan, s: State) -> bool

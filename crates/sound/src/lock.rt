@@ -1,5 +1,5 @@
 // Whether the figures of one lock are sound.
-use crate::row::has_lock;
+use figures::row::has_lock;
 use rules::plan::Plan;
 use rules::state::State;
 ghost use mathlib.Core.Path.{_≡_};
@@ -7,19 +7,19 @@ ghost use mathlib.Core.Bool.{true};
 ghost use mathlib.Core.List.{[], _∷_};
 ghost use Prim.Native.Nat.{_+_, _≤_, _<_};
 ghost use lib.Dec.{eqb, leb};
-ghost use Rattle.rules.specs.Capacity.{maxLocks, maxTasks};
-ghost use Rattle.rules.specs.Choice.{if_then_else_, allTrue};
-ghost use Rattle.rules.specs.Figures.{figuresOf, holds};
-ghost use Rattle.rules.specs.Lazy.{wordsOf};
-ghost use Rattle.rules.specs.Place.{every};
-ghost use Rattle.rules.specs.Sound.{ownerOf};
-ghost use Rattle.rules.specs.SoundTest.{lockTest};
+ghost use Rattle.rules.specs.Numbers.Capacity.{maxLocks, maxTasks};
+ghost use Rattle.rules.specs.Numbers.Choice.{if_then_else_, allTrue};
+ghost use Rattle.rules.specs.Schedulers.Figures.{figuresOf, holds};
+ghost use Rattle.rules.specs.Schedulers.Lazy.{wordsOf};
+ghost use Rattle.rules.specs.Numbers.Place.{every};
+ghost use Rattle.rules.specs.Soundness.Sound.{ownerOf};
+ghost use Rattle.rules.specs.Soundness.SoundTest.{lockTest};
 
 fn has_open(s: State, x: usize, l: u8) -> bool
     requires { ⌜ x < maxTasks ⌝ }
     ensures { λ r. ⌜ r ≡ holds (figuresOf s) x l ⌝ }
 {
-    has_lock(s.locks[x], s.held[x], l)
+    has_lock(s.takes[x], s.depth[x], l)
 }
 
 fn owner_after(owner: usize, x: usize, yes: bool) -> usize

@@ -1,15 +1,18 @@
 // The priority of a task with a row of open locks, and the words that were saved when they were
 // taken: both fall on the number open.
-use crate::row::newest_of;
-use crate::row::under_of;
+use figures::priority::raised;
+use figures::priority::user_of;
+use figures::row::newest_of;
+use figures::row::push_word;
+use figures::row::under_of;
 use rules::capacity::MAX_LOCKS;
-use rules::priority::KernelPriority;
+use rules::priority::UserPriority;
 ghost use mathlib.Core.Path.{_≡_};
-ghost use Prim.Native.Nat.{_≤_, _<_, _^_, max};
+ghost use Prim.Native.Nat.{_≤_, _<_, _^_};
 ghost use lib.ListN.{length};
-ghost use Rattle.rules.specs.Capacity.{maxLocks, maxOpen};
-ghost use Rattle.rules.specs.Place.{at};
-ghost use Rattle.rules.specs.Row.{priority, pushed, saves};
+ghost use Rattle.rules.specs.Numbers.Capacity.{maxLocks, maxOpen};
+ghost use Rattle.rules.specs.Numbers.Place.{at};
+ghost use Rattle.rules.specs.Numbers.Row.{priority, saves};
 
 // The ceiling of lock l, and 0 where there is no such place.
 fn ceiling_at(ceiling: &[u8; MAX_LOCKS], l: u8) -> u8
@@ -23,22 +26,8 @@ fn ceiling_at(ceiling: &[u8; MAX_LOCKS], l: u8) -> u8
     0
 }
 
-fn greater(a: u8, b: u8) -> u8
-    ensures { λ r. ⌜ r ≡ max a b ⌝ }
-{
-    if a < b {
-        return b;
-    }
-    a
-}
-
-// "The greater of the newest ceiling and the priority under it, down to the base."
-pub fn row_priority(
-    base: KernelPriority,
-    ceiling: &[u8; MAX_LOCKS],
-    row: u64,
-    k: u8,
-) -> KernelPriority
+// The greater of the newest ceiling and the priority under it, down to the base.
+pub fn row_priority(base: UserPriority, ceiling: &[u8; MAX_LOCKS], row: u64, k: u8) -> UserPriority
     requires { ⌜ length (now ceiling) ≡ maxLocks ⌝ }
     ensures { λ r. ⌜ r .0 ≡ priority (at (now (ceiling .entry))) (base .0) row k ⌝ }
 {
@@ -47,18 +36,11 @@ pub fn row_priority(
     }
     let below = row_priority(base, ceiling, under_of(row), k - 1);
     let top = ceiling_at(ceiling, newest_of(row));
-    KernelPriority(greater(top, below.0))
-}
-
-fn push_on(row: u64, x: u8) -> u64
-    requires { ⌜ row < 256 ^ 7 ⌝ }
-    ensures { λ r. ⌜ (r ≡ pushed row x) × (x < 256) ⌝ }
-{
-    row * 256 + x as u64
+    raised(user_of(top), below)
 }
 
 // Beside each open lock the priority under it.
-pub fn row_saves(base: KernelPriority, ceiling: &[u8; MAX_LOCKS], row: u64, k: u8) -> u64
+pub fn row_saves(base: UserPriority, ceiling: &[u8; MAX_LOCKS], row: u64, k: u8) -> u64
     requires { ⌜ (length (now ceiling) ≡ maxLocks) × (k ≤ maxOpen) ⌝ }
     ensures { λ r. ⌜ (r ≡ saves (at (now (ceiling .entry))) (base .0) row k) × (r < 256 ^ k) ⌝ }
 {
@@ -68,5 +50,5 @@ pub fn row_saves(base: KernelPriority, ceiling: &[u8; MAX_LOCKS], row: u64, k: u
     let rest = under_of(row);
     let below = row_saves(base, ceiling, rest, k - 1);
     let word = row_priority(base, ceiling, rest, k - 1);
-    push_on(below, word.0)
+    push_word(below, word)
 }

@@ -2,27 +2,31 @@
 // the words saved for it.
 use crate::priority::row_priority;
 use crate::priority::row_saves;
+use figures::priority::higher;
+use figures::priority::recorded;
+use figures::priority::user_of;
 use rules::plan::Plan;
 use rules::priority::KernelPriority;
+use rules::priority::UserPriority;
 use rules::state::State;
 ghost use mathlib.Core.Path.{_≡_};
-ghost use Prim.Native.Nat.{_≤_, _<_, max};
-ghost use Rattle.rules.specs.Capacity.{maxOpen, maxTasks};
-ghost use Rattle.rules.specs.Figures.{figuresOf, priorityOf, rankOf};
-ghost use Rattle.rules.specs.Place.{at, greatest};
-ghost use Rattle.rules.specs.Sound.{keptOf, savedOf};
+ghost use Prim.Native.Nat.{_≤_, _<_};
+ghost use Rattle.rules.specs.Numbers.Capacity.{maxOpen, maxTasks};
+ghost use Rattle.rules.specs.Schedulers.Figures.{figuresOf, priorityOf, rankOf};
+ghost use Rattle.rules.specs.Numbers.Place.{at, greatest};
+ghost use Rattle.rules.specs.Soundness.Sound.{keptOf, savedOf};
 
-pub fn priority_of(p: Plan, s: State, x: usize) -> KernelPriority
+pub fn priority_of(p: Plan, s: State, x: usize) -> UserPriority
     requires { ⌜ x < maxTasks ⌝ }
     ensures { λ r. ⌜ r .0 ≡ priorityOf p (figuresOf s) x ⌝ }
 {
-    let base = KernelPriority(p.base[x]);
+    let base = user_of(p.base[x]);
     let ceiling = p.ceiling;
-    row_priority(base, &ceiling, s.locks[x], s.held[x])
+    row_priority(base, &ceiling, s.takes[x], s.depth[x])
 }
 
 // A released task's priority, and 0 for any other.
-fn rank_of(p: Plan, s: State, x: usize) -> KernelPriority
+fn rank_of(p: Plan, s: State, x: usize) -> UserPriority
     requires { ⌜ x < maxTasks ⌝ }
     ensures { λ r. ⌜ r .0 ≡ rankOf p (figuresOf s) x ⌝ }
 {
@@ -30,7 +34,7 @@ fn rank_of(p: Plan, s: State, x: usize) -> KernelPriority
     if 0 < number {
         return priority_of(p, s, x);
     }
-    KernelPriority(0)
+    UserPriority(0)
 }
 
 // The kept priority of task x: 0 for the running task.
@@ -42,25 +46,16 @@ pub fn kept_of(p: Plan, s: State, x: usize) -> KernelPriority
     if x == r {
         return KernelPriority(0);
     }
-    rank_of(p, s, x)
+    recorded(rank_of(p, s, x))
 }
 
 pub fn saved_of(p: Plan, s: State, x: usize) -> u64
-    requires { ⌜ (x < maxTasks) × (at (s .held) x ≤ maxOpen) ⌝ }
+    requires { ⌜ (x < maxTasks) × (at (s .depth) x ≤ maxOpen) ⌝ }
     ensures { λ r. ⌜ r ≡ savedOf p (figuresOf s) x ⌝ }
 {
-    let base = KernelPriority(p.base[x]);
+    let base = user_of(p.base[x]);
     let ceiling = p.ceiling;
-    row_saves(base, &ceiling, s.locks[x], s.held[x])
-}
-
-fn higher(a: KernelPriority, b: KernelPriority) -> KernelPriority
-    ensures { λ r. ⌜ r .0 ≡ max (a .0) (b .0) ⌝ }
-{
-    if a.0 < b.0 {
-        return b;
-    }
-    a
+    row_saves(base, &ceiling, s.takes[x], s.depth[x])
 }
 
 // The greatest kept priority: what the next word has to be.

@@ -2,10 +2,13 @@
 use crate::all::all_six;
 use crate::rank::kept_of;
 use crate::rank::saved_of;
-use crate::row::has_lock;
-use crate::row::newest_of;
-use crate::row::under_of;
-use plan::mask::has_bit;
+use figures::mask::has_bit;
+use figures::number::place_of;
+use figures::priority::kernel_of;
+use figures::priority::same_record;
+use figures::row::has_lock;
+use figures::row::newest_of;
+use figures::row::under_of;
 use rules::capacity::MAX_DELAY;
 use rules::capacity::MAX_LOCKS;
 use rules::capacity::MAX_OPEN;
@@ -16,12 +19,12 @@ ghost use mathlib.Core.Path.{_≡_};
 ghost use Prim.Native.Nat.{_≤_, _<_};
 ghost use lib.Dec.{eqb, leb};
 ghost use lib.ListN.{length};
-ghost use Rattle.rules.specs.Capacity.{maxDelay, maxLocks, maxOpen, maxTasks};
-ghost use Rattle.rules.specs.Figures.{figuresOf};
-ghost use Rattle.rules.specs.Lazy.{wordsOf};
-ghost use Rattle.rules.specs.Place.{at, every};
-ghost use Rattle.rules.specs.Sound.{keptOf, savedOf};
-ghost use Rattle.rules.specs.SoundTest.{numberNew, numberTest, ownTest, rowTest, taskTest};
+ghost use Rattle.rules.specs.Numbers.Capacity.{maxDelay, maxLocks, maxOpen, maxTasks};
+ghost use Rattle.rules.specs.Schedulers.Figures.{figuresOf};
+ghost use Rattle.rules.specs.Schedulers.Lazy.{wordsOf};
+ghost use Rattle.rules.specs.Numbers.Place.{at, every};
+ghost use Rattle.rules.specs.Soundness.Sound.{keptOf, savedOf};
+ghost use Rattle.rules.specs.Soundness.SoundTest.{numberNew, numberTest, ownTest, rowTest, taskTest};
 
 // Each of the k newest of a row is one of m locks, declared, and stands once; after them there is 0.
 fn row_sound(m: usize, uses: u32, row: u64, k: u8) -> bool
@@ -70,15 +73,9 @@ fn owner_at(owner: &[u8; MAX_LOCKS], l: u8) -> usize
 {
     let k = l as usize;
     if k < MAX_LOCKS {
-        return wide(owner[k]);
+        return place_of(owner[k]);
     }
     0
-}
-
-fn wide(x: u8) -> usize
-    ensures { λ r. ⌜ r ≡ x ⌝ }
-{
-    x as usize
 }
 
 // No task before x has the release number y.
@@ -98,13 +95,13 @@ fn number_new(released: &[u32; MAX_TASKS], y: u32, x: usize) -> bool
 
 // A task is not released and has no lock open, or its release number is in range and no earlier
 // task's.
-fn number_sound(accepted: u32, released: &[u32; MAX_TASKS], held: u8, x: usize) -> bool
+fn number_sound(accepted: u32, released: &[u32; MAX_TASKS], depth: u8, x: usize) -> bool
     requires { ⌜ (length (now released) ≡ maxTasks) × (x < maxTasks) ⌝ }
-    ensures { λ r. ⌜ r ≡ numberTest accepted (now (released .entry)) held x ⌝ }
+    ensures { λ r. ⌜ r ≡ numberTest accepted (now (released .entry)) depth x ⌝ }
 {
     let y = released[x];
     if y == 0 {
-        return held == 0;
+        return depth == 0;
     }
     if accepted < y {
         return false;
@@ -119,11 +116,11 @@ fn owners_sound(owner: [u8; MAX_LOCKS], x: usize, row: u64, k: u8) -> bool
     own_sound(&owner, x, row, k)
 }
 
-fn numbers_sound(accepted: u32, released: [u32; MAX_TASKS], held: u8, x: usize) -> bool
+fn numbers_sound(accepted: u32, released: [u32; MAX_TASKS], depth: u8, x: usize) -> bool
     requires { ⌜ x < maxTasks ⌝ }
-    ensures { λ r. ⌜ r ≡ numberTest accepted released held x ⌝ }
+    ensures { λ r. ⌜ r ≡ numberTest accepted released depth x ⌝ }
 {
-    number_sound(accepted, &released, held, x)
+    number_sound(accepted, &released, depth, x)
 }
 
 fn kept_sound(p: Plan, s: State, x: usize) -> bool
@@ -131,11 +128,11 @@ fn kept_sound(p: Plan, s: State, x: usize) -> bool
     ensures { λ r. ⌜ r ≡ eqb (at (s .kept) x) (keptOf p (figuresOf s) (s .head .running) x) ⌝ }
 {
     let kept = kept_of(p, s, x);
-    s.kept[x] == kept.0
+    same_record(kernel_of(s.kept[x]), kept)
 }
 
 fn saved_sound(p: Plan, s: State, x: usize) -> bool
-    requires { ⌜ (x < maxTasks) × (at (s .held) x ≤ maxOpen) ⌝ }
+    requires { ⌜ (x < maxTasks) × (at (s .depth) x ≤ maxOpen) ⌝ }
     ensures { λ r. ⌜ r ≡ eqb (at (s .saved) x) (savedOf p (figuresOf s) x) ⌝ }
 {
     let saved = saved_of(p, s, x);
@@ -153,16 +150,16 @@ fn task_sound(p: Plan, s: State, x: usize) -> bool
     requires { ⌜ x < maxTasks ⌝ }
     ensures { λ r. ⌜ r ≡ taskTest p (figuresOf s) (wordsOf s) x ⌝ }
 {
-    let held = s.held[x];
-    if MAX_OPEN < held {
+    let depth = s.depth[x];
+    if MAX_OPEN < depth {
         return false;
     }
-    let row = s.locks[x];
-    let listed = row_sound(p.locks, p.uses[x], row, held);
+    let row = s.takes[x];
+    let listed = row_sound(p.locks, p.uses[x], row, depth);
     let owner = s.owner;
-    let owned = owners_sound(owner, x, row, held);
+    let owned = owners_sound(owner, x, row, depth);
     let released = s.released;
-    let numbered = numbers_sound(s.head.accepted, released, held, x);
+    let numbered = numbers_sound(s.head.accepted, released, depth, x);
     let delayed = delay_sound(s, x);
     let kept = kept_sound(p, s, x);
     let saved = saved_sound(p, s, x);

@@ -1,17 +1,17 @@
 // Whether the places past the last task and the last lock hold 0.
 use crate::all::all_eight;
-use plan::spare::spare8;
-use plan::spare::spare16;
-use plan::spare::spare32;
-use plan::spare::spare64;
+use figures::spare::spare8;
+use figures::spare::spare16;
+use figures::spare::spare32;
+use figures::spare::spare64;
 use rules::capacity::MAX_LOCKS;
 use rules::capacity::MAX_TASKS;
 use rules::plan::Plan;
 use rules::state::State;
 ghost use mathlib.Core.Path.{_≡_};
 ghost use lib.ListN.{drop};
-ghost use Rattle.rules.specs.Place.{zeros};
-ghost use Rattle.rules.specs.SoundTest.{spareTest};
+ghost use Rattle.rules.specs.Numbers.Place.{zeros};
+ghost use Rattle.rules.specs.Soundness.SoundTest.{spareTest};
 
 fn tasks32(xs: [u32; MAX_TASKS], n: usize) -> bool
     ensures { λ r. ⌜ r ≡ zeros (drop n xs) ⌝ }
@@ -57,8 +57,8 @@ pub fn unused_sound(p: Plan, s: State) -> bool
     let released = s.released;
     let kept = s.kept;
     let delay = s.delay;
-    let held = s.held;
-    let locks = s.locks;
+    let depth = s.depth;
+    let takes = s.takes;
     let saved = s.saved;
     let units = s.units;
     let owner = s.owner;
@@ -66,8 +66,8 @@ pub fn unused_sound(p: Plan, s: State) -> bool
         tasks32(released, n),
         tasks8(kept, n),
         tasks16(delay, n),
-        tasks8(held, n),
-        tasks64(locks, n),
+        tasks8(depth, n),
+        tasks64(takes, n),
         tasks64(saved, n),
         locks16(units, m),
         locks8(owner, m),

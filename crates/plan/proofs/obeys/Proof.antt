@@ -1,6 +1,6 @@
 -- `plan::obeys` meets its contract. Each test in its turn. Assumes nothing.
-use Rattle.rules.proofs.Choice.{alls, nots, flags}
-use Rattle.rules.specs.SoundTest as SoundTest
+use Rattle.rules.proofs.Numbers.Choice.{alls, nots, flags}
+use Rattle.rules.specs.Soundness.SoundTest as SoundTest
 use Rattle.plan.proofs.Ruled.{tasks-fit, locks-fit}
 use borrow.Author.Needs.{needs}
 use Rattle.plan.proofs.obeys.Statement.{statement}

@@ -1,5 +1,5 @@
 -- `scheduler::replay` meets its contract. A book that passes is run, and any other is left as it is. Assumes nothing.
-use Rattle.scheduler.proofs.Booked.{refused-ran, refused-plan, passed-ran, passed-plan, body-within, plan-obeys, plan-limits, body-records, body-rows, body-readable}
+use Rattle.scheduler.proofs.ReplayLaws.{refused-ran, refused-plan, passed-ran, passed-plan, body-within, plan-sound, plan-limits, body-records, body-rows, body-readable}
 use borrow.Author.Needs.{needs}
 use Rattle.scheduler.proofs.replay.Statement.{statement}
 use Rattle.scheduler.proofs.replay.Tie as tie
@@ -10,6 +10,12 @@ replay-spec =
     (tie.spec
     (λ c κs. search needs) (λ c. search needs) (λ c κs. search needs) (λ c. search needs)
     (λ c. search body-within) (λ c. search body-within) (λ c. search needs)
-    (λ c κs. (search plan-obeys, search plan-limits, search body-records, search body-rows, search body-readable))
+    (λ c κs. record {
+      sound = search plan-sound;
+      limits = search plan-limits;
+      records = search body-records;
+      room = search body-rows;
+      readable = search body-readable;
+    })
     (λ c. (search refused-ran, search refused-plan)) (λ c. search needs)
     (λ c. (search passed-ran, search passed-plan)))

@@ -1,5 +1,5 @@
 -- `scheduler::step` meets its contract. 10 comes first. Assumes nothing.
-use Rattle.scheduler.proofs.Stepped.{step-unsound, step-sound, said-sound}
+use Rattle.scheduler.proofs.StepLaws.{step-unsound, step-sound, said-sound}
 use borrow.Author.Needs.{needs}
 use Rattle.scheduler.proofs.step.Statement.{statement}
 use Rattle.scheduler.proofs.step.Tie as tie

@@ -1,5 +1,5 @@
 -- `scheduler::untouched` meets its contract. The state is a fresh one. Assumes nothing.
-use Rattle.scheduler.proofs.Booked.{left-fresh}
+use Rattle.scheduler.proofs.ReplayLaws.{left-fresh}
 use borrow.Author.Needs.{needs}
 use Rattle.scheduler.proofs.untouched.Statement.{statement}
 use Rattle.scheduler.proofs.untouched.Tie as tie

@@ -2,8 +2,8 @@
 use mathlib.Core.Path.{_≡_}
 use Prim.Native.Nat.{_+_, _*_, _-_}
 use lib.ListN.{length}
-use Rattle.rules.proofs.Place.{RenewedSoFar, renewed-start, renewed-next, renewed-ends}
-use Rattle.rules.specs.Book.{long}
+use Rattle.rules.proofs.Numbers.Place.{RenewedSoFar, renewed-start, renewed-next, renewed-ends}
+use Rattle.rules.specs.Books.Book.{long}
 use borrow.Author.Needs.{needs}
 use Rattle.book.proofs.bodies.fill_longs.Statement.{statement}
 use Rattle.book.proofs.bodies.fill_longs.Tie as tie

@@ -2,8 +2,8 @@
 use mathlib.Core.Path.{_≡_}
 use Prim.Native.Nat.{_+_, _*_, _-_}
 use lib.ListN.{length}
-use Rattle.rules.proofs.Place.{RenewedSoFar, renewed-start, renewed-next, renewed-ends}
-use Rattle.rules.specs.Book.{word}
+use Rattle.rules.proofs.Numbers.Place.{RenewedSoFar, renewed-start, renewed-next, renewed-ends}
+use Rattle.rules.specs.Books.Book.{word}
 use borrow.Author.Needs.{needs}
 use Rattle.book.proofs.bodies.fill_words.Statement.{statement}
 use Rattle.book.proofs.bodies.fill_words.Tie as tie

@@ -1,9 +1,9 @@
 -- `book::contents::first_count` meets its contract. Each turn passes one record by. Assumes nothing.
 use Prim.Native.Nat.{_-_}
-use Rattle.rules.proofs.Choice.{flags}
-use Rattle.rules.proofs.Place.{PassedSoFar, passed-start, passed-next, passed-found, passed-ends}
-use Rattle.rules.specs.Plan.{countFault}
-use Rattle.rules.specs.Book.{countAt}
+use Rattle.rules.proofs.Numbers.Choice.{flags}
+use Rattle.rules.proofs.Numbers.Place.{PassedSoFar, passed-start, passed-next, passed-found, passed-ends}
+use Rattle.rules.specs.Books.Plan.{countFault}
+use Rattle.rules.specs.Books.Book.{countAt}
 use Rattle.book.proofs.LaidOut.{count-said}
 use borrow.Author.Needs.{needs}
 use Rattle.book.proofs.contents.first_count.Statement.{statement}

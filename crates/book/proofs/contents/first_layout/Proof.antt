@@ -1,8 +1,8 @@
 -- `book::contents::first_layout` meets its contract. Each turn passes one record by. Assumes nothing.
 use Prim.Native.Nat.{_-_}
-use Rattle.rules.proofs.Choice.{flags}
-use Rattle.rules.proofs.Place.{PassedSoFar, passed-start, passed-next, passed-found, passed-ends}
-use Rattle.rules.specs.Book.{layoutFault}
+use Rattle.rules.proofs.Numbers.Choice.{flags}
+use Rattle.rules.proofs.Numbers.Place.{PassedSoFar, passed-start, passed-next, passed-found, passed-ends}
+use Rattle.rules.specs.Books.Book.{layoutFault}
 use borrow.Author.Needs.{needs}
 use Rattle.book.proofs.contents.first_layout.Statement.{statement}
 use Rattle.book.proofs.contents.first_layout.Tie as tie

@@ -1,6 +1,6 @@
 -- `book::entry::size_of` meets its contract. The tests are the definition's. Assumes nothing.
-use Rattle.rules.proofs.Choice.{tests}
-use Rattle.rules.specs.Book.{sizeOf}
+use Rattle.rules.proofs.Numbers.Choice.{tests}
+use Rattle.rules.specs.Books.Book.{sizeOf}
 use borrow.Author.Needs.{needs}
 use Rattle.book.proofs.entry.size_of.Statement.{statement}
 use Rattle.book.proofs.entry.size_of.Tie as tie

@@ -1,8 +1,8 @@
 -- `book::events::first_fault` meets its contract. Each turn passes one record by. Assumes nothing.
 use Prim.Native.Nat.{_-_}
-use Rattle.rules.proofs.Choice.{flags}
-use Rattle.rules.proofs.Place.{PassedSoFar, passed-start, passed-next, passed-found, passed-ends}
-use Rattle.rules.specs.Book.{recordFault}
+use Rattle.rules.proofs.Numbers.Choice.{flags}
+use Rattle.rules.proofs.Numbers.Place.{PassedSoFar, passed-start, passed-next, passed-found, passed-ends}
+use Rattle.rules.specs.Books.Book.{recordFault}
 use borrow.Author.Needs.{needs}
 use Rattle.book.proofs.events.first_fault.Statement.{statement}
 use Rattle.book.proofs.events.first_fault.Tie as tie

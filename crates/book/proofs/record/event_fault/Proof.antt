@@ -1,6 +1,6 @@
 -- `book::record::event_fault` meets its contract. The tests are the definition's. Assumes nothing.
-use Rattle.rules.proofs.Choice.{tests}
-use Rattle.rules.specs.Event.{eventFault}
+use Rattle.rules.proofs.Numbers.Choice.{tests}
+use Rattle.rules.specs.Books.Event.{eventFault}
 use Rattle.book.proofs.record.event_fault.Statement.{statement}
 use Rattle.book.proofs.record.event_fault.Tie as tie
 

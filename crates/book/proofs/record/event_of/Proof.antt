@@ -1,6 +1,6 @@
 -- `book::record::event_of` meets its contract. The tests are the definition's. Assumes nothing.
-use Rattle.rules.proofs.Choice.{tests}
-use Rattle.rules.specs.Event.{eventOf}
+use Rattle.rules.proofs.Numbers.Choice.{tests}
+use Rattle.rules.specs.Books.Event.{eventOf}
 use Rattle.book.proofs.record.event_of.Statement.{statement}
 use Rattle.book.proofs.record.event_of.Tie as tie
 

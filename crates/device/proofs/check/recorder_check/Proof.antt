@@ -8,4 +8,4 @@ pub recorder-check-spec : {M : Type 1} → statement M
 recorder-check-spec =
     tie.close
     (tie.spec
-    (λ c κs. search needs) (λ c κs. search needs) (λ c. search check-said))
+    (λ c κs. search needs) (λ c κs. search needs) (λ c κs. search needs) (λ c. search check-said))

@@ -1,6 +1,6 @@
 -- `plan::build::built` meets its contract. The tables are the definition's. Assumes nothing.
 use Rattle.plan.proofs.Order.{as-plan}
-use Rattle.rules.specs.Load.{masksOf}
+use Rattle.rules.specs.Books.Load.{masksOf}
 use borrow.Author.Needs.{needs}
 use Rattle.plan.proofs.build.built.Statement.{statement}
 use Rattle.plan.proofs.build.built.Tie as tie

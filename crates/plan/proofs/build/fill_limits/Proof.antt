@@ -1,9 +1,9 @@
 -- `plan::build::fill_limits` meets its contract. Each turn writes one place. Assumes nothing.
 use Prim.Native.Nat.{_-_}
 use lib.ListN.{length}
-use Rattle.rules.proofs.Place.{RenewedSoFar, renewed-start, renewed-next, renewed-ends}
-use Rattle.rules.specs.Place.{at}
-use Rattle.rules.specs.Load.{lockLimit}
+use Rattle.rules.proofs.Numbers.Place.{RenewedSoFar, renewed-start, renewed-next, renewed-ends}
+use Rattle.rules.specs.Numbers.Place.{at}
+use Rattle.rules.specs.Books.Load.{lockLimit}
 use borrow.Author.Needs.{needs}
 use Rattle.plan.proofs.build.fill_limits.Statement.{statement}
 use Rattle.plan.proofs.build.fill_limits.Tie as tie

@@ -1,7 +1,7 @@
 -- `plan::build::fill_masks` meets its contract. Each turn puts one use in. Assumes nothing.
 use Prim.Native.Nat.{_-_}
 use lib.ListN.{length}
-use Rattle.plan.proofs.Masks.{MasksSoFar, masks-start, masks-next, masks-end, task-in, lock-in}
+use Rattle.plan.proofs.Masks.{MasksSoFar, masks-start, masks-next, masks-end, task-in}
 use borrow.Author.Needs.{needs}
 use Rattle.plan.proofs.build.fill_masks.Statement.{statement}
 use Rattle.plan.proofs.build.fill_masks.Tie as tie
@@ -18,5 +18,5 @@ fill-masks-spec =
     (tie.spec
     Inv-loop μ-loop (λ c. search masks-start) (λ c. search needs) (λ c. search needs) (λ c κs. search needs)
     (λ c. search needs) (λ c κs. search needs) (λ c. search (task-in, needs)) (λ c. search (task-in, needs))
-    (λ c κs. search (lock-in, needs)) (λ c. search (task-in, needs)) (λ c. search (task-in, needs))
+    (λ c κs. search needs) (λ c. search (task-in, needs)) (λ c. search (task-in, needs))
     (λ c. search needs) (λ c. search needs) (λ c. search masks-next) (λ c. search masks-end))

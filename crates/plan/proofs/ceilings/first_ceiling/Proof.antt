@@ -1,8 +1,8 @@
 -- `plan::ceilings::first_ceiling` meets its contract. Each turn passes one record by. Assumes nothing.
 use Prim.Native.Nat.{_-_}
-use Rattle.rules.proofs.Choice.{flags}
-use Rattle.rules.proofs.Place.{PassedSoFar, passed-start, passed-next, passed-found, passed-ends}
-use Rattle.rules.specs.Plan.{ceilingFault}
+use Rattle.rules.proofs.Numbers.Choice.{flags}
+use Rattle.rules.proofs.Numbers.Place.{PassedSoFar, passed-start, passed-next, passed-found, passed-ends}
+use Rattle.rules.specs.Books.Plan.{ceilingFault}
 use borrow.Author.Needs.{needs}
 use Rattle.plan.proofs.ceilings.first_ceiling.Statement.{statement}
 use Rattle.plan.proofs.ceilings.first_ceiling.Tie as tie

@@ -1,5 +1,5 @@
 -- `plan::ceilings::one_more` meets its contract. The test is the definition's. Assumes nothing.
-use Rattle.rules.proofs.Choice.{tests}
+use Rattle.rules.proofs.Numbers.Choice.{tests}
 use borrow.Author.Needs.{needs}
 use Rattle.plan.proofs.ceilings.one_more.Statement.{statement}
 use Rattle.plan.proofs.ceilings.one_more.Tie as tie

@@ -1,5 +1,5 @@
 -- `plan::ceilings::user_base` meets its contract. The test is the definition's. Assumes nothing.
-use Rattle.rules.proofs.Choice.{flags}
+use Rattle.rules.proofs.Numbers.Choice.{flags}
 use borrow.Author.Needs.{needs}
 use Rattle.plan.proofs.ceilings.user_base.Statement.{statement}
 use Rattle.plan.proofs.ceilings.user_base.Tie as tie

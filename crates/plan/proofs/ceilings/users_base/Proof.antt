@@ -1,10 +1,10 @@
 -- `plan::ceilings::users_base` meets its contract. Each turn takes one task in. Assumes nothing.
 use Prim.Native.Nat.{_-_}
-use Rattle.rules.proofs.Place.{GreatestSoFar, greatest-start, greatest-next, greatest-ends}
-use Rattle.rules.specs.Choice.{if_then_else_}
-use Rattle.rules.specs.Mask.{hasBit}
-use Rattle.rules.specs.Place.{at}
-use Rattle.rules.specs.Plan.{usersBase, declares}
+use Rattle.rules.proofs.Numbers.Place.{GreatestSoFar, greatest-start, greatest-next, greatest-ends}
+use Rattle.rules.specs.Numbers.Choice.{if_then_else_}
+use Rattle.rules.specs.Numbers.Mask.{hasBit}
+use Rattle.rules.specs.Numbers.Place.{at}
+use Rattle.rules.specs.Books.Plan.{usersBase, declares}
 use borrow.Author.Needs.{needs}
 use Rattle.plan.proofs.ceilings.users_base.Statement.{statement}
 use Rattle.plan.proofs.ceilings.users_base.Tie as tie

@@ -1,9 +1,9 @@
 -- `plan::ceilings::users_of` meets its contract. Each turn counts one task. Assumes nothing.
 use Prim.Native.Nat.{_-_}
-use Rattle.rules.proofs.Place.{CountSoFar, count-start, count-next, count-room, count-ends}
-use Rattle.rules.specs.Mask.{hasBit}
-use Rattle.rules.specs.Place.{at}
-use Rattle.rules.specs.Plan.{users, declares}
+use Rattle.rules.proofs.Numbers.Place.{CountSoFar, count-start, count-next, count-room, count-ends}
+use Rattle.rules.specs.Numbers.Mask.{hasBit}
+use Rattle.rules.specs.Numbers.Place.{at}
+use Rattle.rules.specs.Books.Plan.{users, declares}
 use borrow.Author.Needs.{needs}
 use Rattle.plan.proofs.ceilings.users_of.Statement.{statement}
 use Rattle.plan.proofs.ceilings.users_of.Tie as tie

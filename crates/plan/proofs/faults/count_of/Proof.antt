@@ -1,5 +1,5 @@
 -- `plan::faults::count_of` meets its contract. The tests are the definition's. Assumes nothing.
-use Rattle.rules.proofs.Choice.{tests}
+use Rattle.rules.proofs.Numbers.Choice.{tests}
 use Rattle.plan.proofs.faults.count_of.Statement.{statement}
 use Rattle.plan.proofs.faults.count_of.Tie as tie
 

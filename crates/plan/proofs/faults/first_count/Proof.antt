@@ -1,8 +1,8 @@
 -- `plan::faults::first_count` meets its contract. Each turn passes one record by. Assumes nothing.
 use Prim.Native.Nat.{_-_}
-use Rattle.rules.proofs.Choice.{flags}
-use Rattle.rules.proofs.Place.{PassedSoFar, passed-start, passed-next, passed-found, passed-ends}
-use Rattle.rules.specs.Load.{countFaultOf}
+use Rattle.rules.proofs.Numbers.Choice.{flags}
+use Rattle.rules.proofs.Numbers.Place.{PassedSoFar, passed-start, passed-next, passed-found, passed-ends}
+use Rattle.rules.specs.Books.Load.{countFaultOf}
 use Rattle.plan.proofs.Ways.{count-said}
 use borrow.Author.Needs.{needs}
 use Rattle.plan.proofs.faults.first_count.Statement.{statement}

@@ -1,9 +1,9 @@
 -- `plan::faults::first_lock` meets its contract. Each turn passes one record by. Assumes nothing.
 use Prim.Native.Nat.{_-_}
 use lib.ListN.{length}
-use Rattle.rules.proofs.Choice.{flags}
-use Rattle.rules.proofs.Place.{PassedSoFar, passed-start, passed-next, passed-found, passed-ends}
-use Rattle.rules.specs.Load.{lockFaultAt}
+use Rattle.rules.proofs.Numbers.Choice.{flags}
+use Rattle.rules.proofs.Numbers.Place.{PassedSoFar, passed-start, passed-next, passed-found, passed-ends}
+use Rattle.rules.specs.Books.Load.{lockFaultAt}
 use borrow.Author.Needs.{needs}
 use Rattle.plan.proofs.faults.first_lock.Statement.{statement}
 use Rattle.plan.proofs.faults.first_lock.Tie as tie

@@ -1,5 +1,5 @@
 -- `plan::lower::base_in` meets its contract. Past the last place there is 0. Assumes nothing.
-use Rattle.rules.proofs.Place.{none-past}
+use Rattle.rules.proofs.Numbers.Place.{none-past}
 use borrow.Author.Needs.{needs}
 use Rattle.plan.proofs.lower.base_in.Statement.{statement}
 use Rattle.plan.proofs.lower.base_in.Tie as tie

@@ -1,6 +1,6 @@
 -- `plan::lower::limit_if` meets its contract. The test is the definition's. Assumes nothing.
-use Rattle.rules.proofs.Choice.{flags}
-use Rattle.rules.specs.Bound.{limitIf}
+use Rattle.rules.proofs.Numbers.Choice.{flags}
+use Rattle.rules.specs.Demands.Bound.{limitIf}
 use borrow.Author.Needs.{needs}
 use Rattle.plan.proofs.lower.limit_if.Statement.{statement}
 use Rattle.plan.proofs.lower.limit_if.Tie as tie

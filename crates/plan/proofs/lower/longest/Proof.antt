@@ -1,7 +1,7 @@
 -- `plan::lower::longest` meets its contract. Each turn takes one lock in. Assumes nothing.
 use Prim.Native.Nat.{_-_}
-use Rattle.rules.proofs.Place.{GreatestSoFar, greatest-start, greatest-next}
-use Rattle.rules.specs.Bound.{limitIf}
+use Rattle.rules.proofs.Numbers.Place.{GreatestSoFar, greatest-start, greatest-next}
+use Rattle.rules.specs.Demands.Bound.{limitIf}
 use Rattle.plan.proofs.Limits.{longest-ends}
 use borrow.Author.Needs.{needs}
 use Rattle.plan.proofs.lower.longest.Statement.{statement}

@@ -1,5 +1,5 @@
 -- `plan::lower::lower_at` meets its contract. One law for each way. Assumes nothing.
-use Rattle.plan.proofs.Bits.{low-yes, low-no}
+use Rattle.plan.proofs.Limits.{low-yes, low-no}
 use borrow.Author.Needs.{needs}
 use Rattle.plan.proofs.lower.lower_at.Statement.{statement}
 use Rattle.plan.proofs.lower.lower_at.Tie as tie

@@ -1,8 +1,8 @@
 -- `plan::lower::lower_user` meets its contract. Each turn passes one task by. Assumes nothing.
 use Prim.Native.Nat.{_-_}
-use Rattle.rules.proofs.Choice.{flags}
-use Rattle.rules.proofs.Place.{NoneSoFar, any-start, any-next}
-use Rattle.rules.specs.Bound.{lowerAt}
+use Rattle.rules.proofs.Numbers.Choice.{flags}
+use Rattle.rules.proofs.Numbers.Place.{NoneSoFar, any-start, any-next}
+use Rattle.rules.specs.Demands.Bound.{lowerAt}
 use Rattle.plan.proofs.Limits.{lower-found, lower-ends}
 use borrow.Author.Needs.{needs}
 use Rattle.plan.proofs.lower.lower_user.Statement.{statement}

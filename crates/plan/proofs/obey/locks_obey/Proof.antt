@@ -1,8 +1,8 @@
 -- `plan::obey::locks_obey` meets its contract. Each turn passes one by. Assumes nothing.
 use Prim.Native.Nat.{_-_}
-use Rattle.rules.proofs.Choice.{flags}
-use Rattle.rules.proofs.Place.{AllSoFar, every-start, every-next, every-fails, every-ends}
-use Rattle.rules.specs.SoundTest.{lockObeys}
+use Rattle.rules.proofs.Numbers.Choice.{flags}
+use Rattle.rules.proofs.Numbers.Place.{AllSoFar, every-start, every-next, every-fails, every-ends}
+use Rattle.rules.specs.Soundness.SoundTest.{lockObeys}
 use borrow.Author.Needs.{needs}
 use Rattle.plan.proofs.obey.locks_obey.Statement.{statement}
 use Rattle.plan.proofs.obey.locks_obey.Tie as tie

@@ -1,6 +1,6 @@
 -- `plan::obey::spare_obeys` meets its contract. Each test in its turn. Assumes nothing.
-use Rattle.rules.proofs.Choice.{alls, nots, flags}
-use Rattle.rules.specs.SoundTest.{spareObeys}
+use Rattle.rules.proofs.Numbers.Choice.{alls, nots, flags}
+use Rattle.rules.specs.Soundness.SoundTest.{spareObeys}
 use borrow.Author.Needs.{needs}
 use Rattle.plan.proofs.obey.spare_obeys.Statement.{statement}
 use Rattle.plan.proofs.obey.spare_obeys.Tie as tie

@@ -1,5 +1,5 @@
 -- `plan::obey::task_obeys` meets its contract. The definition, by its parts. Assumes nothing.
-use Rattle.rules.specs.SoundTest.{taskObeys}
+use Rattle.rules.specs.Soundness.SoundTest.{taskObeys}
 use borrow.Author.Needs.{needs}
 use Rattle.plan.proofs.obey.task_obeys.Statement.{statement}
 use Rattle.plan.proofs.obey.task_obeys.Tie as tie

@@ -2,7 +2,7 @@
 use mathlib.Core.Path.{_≡_, sym, _∙_, ap}
 use Prim.Native.Nat.{ℕ}
 use borrow.Author.Needs.{needs}
-use Rattle.rules.specs.Refusal.{numberOf}
+use Rattle.rules.specs.Numbers.Refusal.{numberOf}
 use Rattle.rules.specs.declared.refusal.Refusal.{Refusal}
 use Rattle.rules.proofs.refusal.number.Statement.{statement}
 use Rattle.rules.proofs.refusal.number.Tie as tie
@@ -11,16 +11,17 @@ use Rattle.rules.proofs.refusal.number.Tie as tie
 known : (why case : Refusal) (n : ℕ) → why ≡ case → n ≡ numberOf case → n ≡ numberOf why
 known why case n e h = h ∙ ap numberOf (sym e)
 
+-- two for each case: that the match has come to it, and what its arm returns
 pub number-spec : {M : Type 1} → statement M
 unfolding numberOf
 number-spec =
     tie.close
     (tie.spec
-    (λ c. search needs) (λ c. search needs) (λ c. search needs) (λ c. search needs) (λ c. search needs) (λ c. search needs)
-    (λ c. search needs) (λ c. search needs) (λ c. search needs) (λ c. search needs) (λ c. search needs) (λ c. search needs)
-    (λ c. search needs) (λ c. search needs) (λ c. search needs) (λ c. search needs) (λ c. search needs) (λ c. search needs)
-    (λ c. search needs) (λ c. search needs) (λ c. search needs) (λ c. search needs)
-    (λ c. search known) (λ c. search known) (λ c. search known) (λ c. search known) (λ c. search known) (λ c. search known)
-    (λ c. search known) (λ c. search known) (λ c. search known) (λ c. search known) (λ c. search known) (λ c. search known)
-    (λ c. search known) (λ c. search known) (λ c. search known) (λ c. search known) (λ c. search known) (λ c. search known)
+    (search needs) (search needs) (search needs) (search needs) (search needs) (search needs) (search needs) (search needs) (search needs) (search needs)
+    (search needs)
+    (search needs) (search needs) (search needs) (search needs) (search needs) (search needs) (search needs) (search needs) (search needs) (search needs)
+    (search needs)
+    (λ c. search known) (λ c. search known) (λ c. search known) (λ c. search known) (λ c. search known) (λ c. search known) (λ c. search known)
+    (λ c. search known) (λ c. search known) (λ c. search known) (λ c. search known)
+    (λ c. search known) (λ c. search known) (λ c. search known) (λ c. search known) (λ c. search known) (λ c. search known) (λ c. search known)
     (λ c. search known) (λ c. search known) (λ c. search known) (λ c. search known))

@@ -1,5 +1,5 @@
 -- `scheduler::turn::call_byte` meets its contract. The test is the definition's. Assumes nothing.
-use Rattle.rules.proofs.Choice.{flags}
+use Rattle.rules.proofs.Numbers.Choice.{flags}
 use Rattle.scheduler.proofs.turn.call_byte.Statement.{statement}
 use Rattle.scheduler.proofs.turn.call_byte.Tie as tie
 

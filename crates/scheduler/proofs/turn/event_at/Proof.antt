@@ -1,5 +1,5 @@
 -- `scheduler::turn::event_at` meets its contract. 8 has let it pass. Assumes nothing.
-use Rattle.scheduler.proofs.Turned.{event-got, event-refused, event-end}
+use Rattle.scheduler.proofs.TurnLaws.{event-got, event-refused, event-end}
 use borrow.Author.Needs.{needs}
 use Rattle.scheduler.proofs.turn.event_at.Statement.{statement}
 use Rattle.scheduler.proofs.turn.event_at.Tie as tie

@@ -1,5 +1,5 @@
 -- `scheduler::turn::put_after` meets its contract. One law for each way. Assumes nothing.
-use Rattle.scheduler.proofs.Turned.{after-accepted, after-refused}
+use Rattle.scheduler.proofs.TurnLaws.{after-accepted, after-refused}
 use borrow.Author.Needs.{needs}
 use Rattle.scheduler.proofs.turn.put_after.Statement.{statement}
 use Rattle.scheduler.proofs.turn.put_after.Tie as tie

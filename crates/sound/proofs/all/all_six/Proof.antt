@@ -1,6 +1,6 @@
 -- `sound::all::all_six` meets its contract. Each test in its turn. Assumes nothing.
 use borrow.Author.Tests.{not-true, not-false}
-use Rattle.rules.proofs.Choice.{alls}
+use Rattle.rules.proofs.Numbers.Choice.{alls}
 use Rattle.sound.proofs.all.all_six.Statement.{statement}
 use Rattle.sound.proofs.all.all_six.Tie as tie
 

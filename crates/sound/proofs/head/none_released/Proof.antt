@@ -1,9 +1,9 @@
 -- `sound::head::none_released` meets its contract. Each turn passes one task by. Assumes nothing.
 use Prim.Native.Nat.{_-_}
 use lib.Dec.{eqb}
-use Rattle.rules.proofs.Place.{AllSoFar, every-start, every-next, every-fails, every-ends}
-use Rattle.rules.proofs.Choice.{tests}
-use Rattle.rules.specs.Place.{at}
+use Rattle.rules.proofs.Numbers.Place.{AllSoFar, every-start, every-next, every-fails, every-ends}
+use Rattle.rules.proofs.Numbers.Choice.{tests}
+use Rattle.rules.specs.Numbers.Place.{at}
 use borrow.Author.Needs.{needs}
 use Rattle.sound.proofs.head.none_released.Statement.{statement}
 use Rattle.sound.proofs.head.none_released.Tie as tie

@@ -1,5 +1,5 @@
 -- `sound::head::number_at` meets its contract. Past the last place there is 0. Assumes nothing.
-use Rattle.rules.proofs.Place.{none-past}
+use Rattle.rules.proofs.Numbers.Place.{none-past}
 use Rattle.sound.proofs.Holders.{stands-within, stands-none}
 use borrow.Author.Needs.{needs}
 use Rattle.sound.proofs.head.number_at.Statement.{statement}

@@ -1,6 +1,6 @@
 -- `sound::head::runs_sound` meets its contract. The test is the definition's. Assumes nothing.
-use Rattle.rules.proofs.Choice.{alls, picks, flags}
-use Rattle.rules.specs.SoundTest.{runsTest}
+use Rattle.rules.proofs.Numbers.Choice.{alls, picks, flags}
+use Rattle.rules.specs.Soundness.SoundTest.{runsTest}
 use borrow.Author.Needs.{needs}
 use Rattle.sound.proofs.head.runs_sound.Statement.{statement}
 use Rattle.sound.proofs.head.runs_sound.Tie as tie

@@ -1,5 +1,5 @@
 -- `sound::lock::has_open` meets its contract. Its row has it. Assumes nothing.
-use Rattle.rules.specs.Figures.{holds}
+use Rattle.rules.specs.Schedulers.Figures.{holds}
 use borrow.Author.Needs.{needs}
 use Rattle.sound.proofs.lock.has_open.Statement.{statement}
 use Rattle.sound.proofs.lock.has_open.Tie as tie

@@ -1,5 +1,5 @@
 -- `sound::lock::lock_fits` meets its contract. Each test in its turn. Assumes nothing.
-use Rattle.rules.proofs.Choice.{alls, picks, tests}
+use Rattle.rules.proofs.Numbers.Choice.{alls, picks, tests}
 use Rattle.sound.proofs.lock.lock_fits.Statement.{statement}
 use Rattle.sound.proofs.lock.lock_fits.Tie as tie
 

@@ -1,10 +1,10 @@
 -- `sound::lock::locks_sound` meets its contract. Each turn passes one lock by. Assumes nothing.
 use Prim.Native.Nat.{_-_}
-use Rattle.rules.proofs.Place.{AllSoFar, every-start, every-next, every-fails, every-ends}
-use Rattle.rules.proofs.Choice.{flags}
-use Rattle.rules.specs.Figures.{figuresOf}
-use Rattle.rules.specs.Lazy.{wordsOf}
-use Rattle.rules.specs.SoundTest.{lockTest}
+use Rattle.rules.proofs.Numbers.Place.{AllSoFar, every-start, every-next, every-fails, every-ends}
+use Rattle.rules.proofs.Numbers.Choice.{flags}
+use Rattle.rules.specs.Schedulers.Figures.{figuresOf}
+use Rattle.rules.specs.Schedulers.Lazy.{wordsOf}
+use Rattle.rules.specs.Soundness.SoundTest.{lockTest}
 use borrow.Author.Needs.{needs}
 use Rattle.sound.proofs.lock.locks_sound.Statement.{statement}
 use Rattle.sound.proofs.lock.locks_sound.Tie as tie

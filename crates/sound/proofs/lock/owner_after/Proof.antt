@@ -1,5 +1,5 @@
 -- `sound::lock::owner_after` meets its contract. The test is the definition's. Assumes nothing.
-use Rattle.rules.proofs.Choice.{flags}
+use Rattle.rules.proofs.Numbers.Choice.{flags}
 use borrow.Author.Needs.{needs}
 use Rattle.sound.proofs.lock.owner_after.Statement.{statement}
 use Rattle.sound.proofs.lock.owner_after.Tie as tie

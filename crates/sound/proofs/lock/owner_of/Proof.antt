@@ -1,6 +1,6 @@
 -- `sound::lock::owner_of` meets its contract. Each turn asks one task. Assumes nothing.
 use Prim.Native.Nat.{_-_}
-use Rattle.rules.specs.Figures.{figuresOf}
+use Rattle.rules.specs.Schedulers.Figures.{figuresOf}
 use Rattle.sound.proofs.Holders.{OwnerSoFar, owner-start, owner-next, owner-ends}
 use borrow.Author.Needs.{needs}
 use Rattle.sound.proofs.lock.owner_of.Statement.{statement}

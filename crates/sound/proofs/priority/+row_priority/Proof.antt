@@ -9,9 +9,10 @@ use Rattle.sound.proofs.priority.row_priority.Reads as row-priority
 use Rattle.sound.proofs.priority.row_priority.Kinds as row-priority-kinds
 use Rattle.sound.proofs.priority.+row_priority.Lts-row_priority as row-priority-lts
 use Rattle.sound.proofs.priority.ceiling_at.Reads as ceiling-at-reads
-use Rattle.sound.proofs.priority.greater.Reads as greater-reads
-use Rattle.sound.proofs.row.newest_of.Reads as newest-of-reads
-use Rattle.sound.proofs.row.under_of.Reads as under-of-reads
+use Rattle.figures.proofs.priority.raised.Reads as raised-reads
+use Rattle.figures.proofs.priority.user_of.Reads as user-of-reads
+use Rattle.figures.proofs.row.newest_of.Reads as newest-of-reads
+use Rattle.figures.proofs.row.under_of.Reads as under-of-reads
 use Rattle.sound.proofs.priority.+row_priority.{statement}
 use Rattle.sound.proofs.priority.+row_priority.Tie.{close}
 
@@ -40,8 +41,10 @@ pub +row-priority-spec : {M : Type 1} → statement M
   newest-of-reads.Learnt,
   ceiling-at-reads.Asked,
   ceiling-at-reads.Learnt,
-  greater-reads.Asked,
-  greater-reads.Learnt,
+  user-of-reads.Asked,
+  user-of-reads.Learnt,
+  raised-reads.Asked,
+  raised-reads.Learnt,
 )
     (row-priority-at t)
     row-priority.Post
@@ -49,6 +52,7 @@ pub +row-priority-spec : {M : Type 1} → statement M
     (λ c κs. search needs)
     (λ c. search needs)
     (λ c κs. (omega arith, search needs))
+    (λ c κs. search needs)
     (λ c κs. search needs)
     (λ c κs. search needs)
     (λ c κs. search needs)

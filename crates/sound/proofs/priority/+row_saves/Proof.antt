@@ -1,6 +1,6 @@
 -- `sound::priority::row_saves` meets its contract: it falls on the number open.  Assumes nothing.
 use native.Mathlib.Omega.{arith}
-use Rattle.sound.proofs.Rows.{saves-ends, saves-fits, saves-room, saves-more, saves-fit}
+use Rattle.sound.proofs.Rows.{saves-ends, saves-fits, saves-more, saves-fit}
 use borrow.Author.Needs.{needs}
 use Prim.Native.Nat.{ℕ, _<_}
 use borrow.Fn.Kinds.{In}
@@ -8,9 +8,9 @@ use borrow.Fn.PlainCycle.{Measures, is, falls, and}
 use Rattle.sound.proofs.priority.row_saves.Reads as row-saves
 use Rattle.sound.proofs.priority.row_saves.Kinds as row-saves-kinds
 use Rattle.sound.proofs.priority.+row_saves.Lts-row_saves as row-saves-lts
-use Rattle.sound.proofs.priority.push_on.Reads as push-on-reads
 use Rattle.sound.proofs.priority.row_priority.Reads as row-priority-reads
-use Rattle.sound.proofs.row.under_of.Reads as under-of-reads
+use Rattle.figures.proofs.row.push_word.Reads as push-word-reads
+use Rattle.figures.proofs.row.under_of.Reads as under-of-reads
 use Rattle.sound.proofs.priority.+row_saves.{statement}
 use Rattle.sound.proofs.priority.+row_saves.Tie.{close}
 
@@ -32,8 +32,8 @@ pub +row-saves-spec : {M : Type 1} → statement M
   row-saves.Post,
   row-priority-reads.Asked,
   row-priority-reads.Learnt,
-  push-on-reads.Asked,
-  push-on-reads.Learnt,
+  push-word-reads.Asked,
+  push-word-reads.Learnt,
 )
     (row-saves-at t)
     row-saves.Post
@@ -43,5 +43,5 @@ pub +row-saves-spec : {M : Type 1} → statement M
     (λ c κs. (omega arith, search needs))
     (λ c. search needs)
     (λ c κs. search needs)
-    (λ c κs. search saves-room)
+    (λ c κs. search needs)
     (λ c. (search saves-more, search saves-fit))

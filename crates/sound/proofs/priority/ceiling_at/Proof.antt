@@ -1,5 +1,5 @@
 -- `sound::priority::ceiling_at` meets its contract. Past the last place there is 0. Assumes nothing.
-use Rattle.rules.proofs.Place.{none-past}
+use Rattle.rules.proofs.Numbers.Place.{none-past}
 use borrow.Author.Needs.{needs}
 use Rattle.sound.proofs.priority.ceiling_at.Statement.{statement}
 use Rattle.sound.proofs.priority.ceiling_at.Tie as tie

@@ -1,8 +1,8 @@
 -- `sound::rank::greatest_of` meets its contract. Each turn takes one task in. Assumes nothing.
 use Prim.Native.Nat.{_-_}
-use Rattle.rules.proofs.Place.{GreatestSoFar, greatest-start, greatest-next, greatest-ends}
-use Rattle.rules.specs.Figures.{figuresOf}
-use Rattle.rules.specs.Sound.{keptOf}
+use Rattle.rules.proofs.Numbers.Place.{GreatestSoFar, greatest-start, greatest-next, greatest-ends}
+use Rattle.rules.specs.Schedulers.Figures.{figuresOf}
+use Rattle.rules.specs.Soundness.Sound.{keptOf}
 use borrow.Author.Needs.{needs}
 use Rattle.sound.proofs.rank.greatest_of.Statement.{statement}
 use Rattle.sound.proofs.rank.greatest_of.Tie as tie

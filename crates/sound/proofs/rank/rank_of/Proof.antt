@@ -1,6 +1,6 @@
 -- `sound::rank::rank_of` meets its contract. The test is the definition's. Assumes nothing.
-use Rattle.rules.proofs.Choice.{flags}
-use Rattle.rules.specs.Figures.{rankOf}
+use Rattle.rules.proofs.Numbers.Choice.{flags}
+use Rattle.rules.specs.Schedulers.Figures.{rankOf}
 use borrow.Author.Needs.{needs}
 use Rattle.sound.proofs.rank.rank_of.Statement.{statement}
 use Rattle.sound.proofs.rank.rank_of.Tie as tie

@@ -2,10 +2,10 @@
 use Prim.Native.Nat.{_-_}
 use mathlib.Core.Bool.{not}
 use lib.Dec.{eqb}
-use Rattle.rules.proofs.Place.{AllSoFar, every-start, every-next, every-fails, every-ends}
-use Rattle.rules.proofs.Choice.{tests, nots}
-use Rattle.rules.specs.Place.{at}
-use Rattle.rules.specs.SoundTest.{numberNew}
+use Rattle.rules.proofs.Numbers.Place.{AllSoFar, every-start, every-next, every-fails, every-ends}
+use Rattle.rules.proofs.Numbers.Choice.{tests, nots}
+use Rattle.rules.specs.Numbers.Place.{at}
+use Rattle.rules.specs.Soundness.SoundTest.{numberNew}
 use borrow.Author.Needs.{needs}
 use Rattle.sound.proofs.task.number_new.Statement.{statement}
 use Rattle.sound.proofs.task.number_new.Tie as tie

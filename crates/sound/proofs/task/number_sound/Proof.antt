@@ -1,6 +1,6 @@
 -- `sound::task::number_sound` meets its contract. The test is the definition's. Assumes nothing.
-use Rattle.rules.proofs.Choice.{alls, picks, flags}
-use Rattle.rules.specs.SoundTest.{numberTest}
+use Rattle.rules.proofs.Numbers.Choice.{alls, picks, flags}
+use Rattle.rules.specs.Soundness.SoundTest.{numberTest}
 use borrow.Author.Needs.{needs}
 use Rattle.sound.proofs.task.number_sound.Statement.{statement}
 use Rattle.sound.proofs.task.number_sound.Tie as tie

@@ -1,6 +1,6 @@
 -- `sound::task::own_sound` meets its contract. What is left of the row is tested as the whole row is. Assumes nothing.
 use mathlib.Core.Path.{_≡_}
-use Rattle.rules.specs.SoundTest.{ownTest}
+use Rattle.rules.specs.Soundness.SoundTest.{ownTest}
 use Rattle.sound.proofs.Rows.{own-other, own-next, own-ends}
 use borrow.Author.Needs.{needs}
 use Rattle.sound.proofs.task.own_sound.Statement.{statement}

@@ -1,6 +1,6 @@
 -- `sound::task::row_sound` meets its contract. What is left of the row is tested as the whole row is. Assumes nothing.
 use mathlib.Core.Path.{_≡_}
-use Rattle.rules.specs.SoundTest.{rowTest}
+use Rattle.rules.specs.Soundness.SoundTest.{rowTest}
 use Rattle.sound.proofs.Rows.{row-unknown, row-undeclared, row-twice, row-next, row-ends}
 use borrow.Author.Needs.{needs}
 use Rattle.sound.proofs.task.row_sound.Statement.{statement}

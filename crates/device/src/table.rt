@@ -1,0 +1,36 @@
+// "A lent table of task records": a thin loader hands their numbers to the plan check.
+use crate::numbers;
+use crate::numbers::Numbers;
+use rules::answer::Loaded;
+ghost use mathlib.Core.Path.{_≡_};
+ghost use Rattle.rules.specs.Books.Load.{loadOf};
+ghost use Rattle.device.specs.Table.{numbersOf, keptOf};
+
+// The two bytes of the book's task, as they lie in the table.
+#[repr(C)]
+pub struct TaskRecord {
+    pub base: u8,
+    pub second: u8,
+}
+
+// The numbers of the records, read where they lie.
+fn gather(tasks: &[TaskRecord]) -> Numbers
+    ensures { λ r. ⌜ r ≡ keptOf (now (tasks .entry)) ⌝ }
+{
+    let mut n = numbers::none();
+    let mut i = 0;
+    while i < tasks.len() {
+        let t = tasks[i];
+        n = numbers::keep(n, t.base, t.second);
+        i = i + 1;
+    }
+    n
+}
+
+// The plan of a table of records with its locks and uses, or the first offender of 2 and 4 to 7.
+pub fn load_table(tasks: &[TaskRecord], locks: &[u32], uses: &[u16]) -> Loaded
+    ensures { λ r. ⌜ r ≡ loadOf (numbersOf (now (tasks .entry))) (now (locks .entry)) (now (uses .entry)) ⌝ }
+{
+    let n = gather(tasks);
+    numbers::load(n, locks, uses)
+}

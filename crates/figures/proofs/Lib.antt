@@ -1,0 +1,3 @@
+-- The laws behind the proofs of this crate.
+mod Sets
+pub mod Rows

@@ -1,0 +1,7 @@
+// What every crate shares of numbers: rows of open locks and of saved words, sets of locks, the rest of
+// a table, numbers made wider, and the two kinds of priority.
+pub mod mask;
+pub mod number;
+pub mod priority;
+pub mod row;
+pub mod spare;

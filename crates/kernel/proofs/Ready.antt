@@ -1,0 +1,156 @@
+-- What passes the tests of an event has what its accepted code asks for; and a sound state has what the event asks for. Assumes nothing.
+use mathlib.Core.Path.{_≡_, refl, sym, _∙_}
+use mathlib.Core.Bool.{Bool, true, false, not, _||_}
+use mathlib.Core.List.{List}
+use Prim.Native.Nat.{ℕ, _+_, _≤_, _<_, _^_}
+use native.Mathlib.Nat.{lt-of-lt-of-le, pow-le-pow-right}
+use native.Mathlib.Omega.{arith}
+use lib.Dec.{eqb, leb, ltb}
+use lib.ListN.{length}
+use borrow.Author.Tests.{ltb-false, leb-false, eqb-false}
+use Rattle.rules.specs.Numbers.Capacity.{maxTasks, maxLocks, maxOpen, maxAccepted}
+use Rattle.rules.specs.Numbers.Place.{at}
+use Rattle.rules.specs.Numbers.Row.{newest, has}
+use Rattle.rules.specs.Numbers.Choice.{if_then_else_}
+use Rattle.rules.specs.Numbers.Refusal.{numberOf, firstTrue, testFor}
+use Rattle.rules.specs.Schedulers.Figures.{Figures, figuresOf, holds, rankOf}
+use Rattle.rules.specs.Schedulers.EventRefusals.{releaseOrder, acquireOrder, unlockOrder, workOrder, finishOrder}
+use Rattle.rules.specs.Soundness.Sound.{keptOf, savedOf, SoundAndSized}
+use Rattle.rules.specs.declared.plan.Plan.{Plan}
+use Rattle.rules.specs.declared.state.State.{State}
+use Rattle.rules.specs.declared.answer.Tested.{Tested}
+use Rattle.rules.specs.declared.refusal.Refusal.the-variants.{NobodyRuns, Unknown, AlreadyReleased, RowFull, NotNewest, PastLimit}
+use Rattle.rules.proofs.Numbers.Choice.{either, or-false, untrue, not-so}
+use Rattle.rules.proofs.Numbers.Place.{greatest-ext}
+use Rattle.rules.proofs.Numbers.Row.{saves-places}
+use Rattle.rules.proofs.Schedulers.Rules.{rank-in}
+use Rattle.rules.proofs.Books.Obeyed.{few-tasks, few-locks, base-byte, ceiling-byte}
+use Rattle.rules.proofs.Numbers.Order.{none-holds}
+use Rattle.kernel.specs.Work.{pastRow, Laden}
+use Rattle.kernel.specs.Ready.{Counts, ReleaseReady, AcquireReady, UnlockReady, WorkReady, FinishReady}
+use Rattle.kernel.proofs.SameTests.{some-past}
+
+-- ---- the tests that were passed
+
+module _ (tested : Tested) (passed : tested ≡ Tested.Passed) where
+  -- release
+  module _ (n t y : ℕ) (said : tested ≡ firstTrue (releaseOrder (leb n t) (ltb 0 y))) where
+    pub release-known : t < n
+    unfolding releaseOrder testFor numberOf if_then_else_
+    release-known = leb-false n t (none-holds _ (sym said ∙ passed) Unknown)
+
+    pub release-rests : (kept : List ℕ) → (y ≡ 0 → at kept t ≡ 0) → at kept t ≡ 0
+    unfolding releaseOrder testFor numberOf if_then_else_
+    release-rests kept h = h (omega (arith, ltb-false 0 y (none-holds _ (sym said ∙ passed) AlreadyReleased)))
+
+  -- acquire
+  module _ (x m l k : ℕ) (undeclared mine other : Bool) (said : tested ≡ firstTrue
+      (acquireOrder (leb maxTasks x) (leb m l) undeclared mine other (leb maxOpen k))) where
+    pub acquire-runs : x < maxTasks
+    unfolding acquireOrder testFor numberOf if_then_else_
+    acquire-runs = leb-false maxTasks x (none-holds _ (sym said ∙ passed) NobodyRuns)
+
+    pub acquire-known : m ≤ maxLocks → l < maxLocks
+    unfolding acquireOrder testFor numberOf if_then_else_
+    acquire-known h = let q : l < m = leb-false m l (none-holds _ (sym said ∙ passed) Unknown) in omega arith
+
+    pub acquire-depth : k < maxOpen
+    unfolding acquireOrder testFor numberOf if_then_else_
+    acquire-depth = leb-false maxOpen k (none-holds _ (sym said ∙ passed) RowFull)
+
+    -- a row of less than eight has room in a number of eight places
+    pub acquire-row : (row : ℕ) → row < 256 ^ k → row < 256 ^ 7
+    acquire-row row h = let g : k ≤ 7 = omega (arith, acquire-depth) in lt-of-lt-of-le h (pow-le-pow-right (omega arith) g)
+
+  -- unlock
+  module _ (x m l k row : ℕ) (said : tested ≡ firstTrue (unlockOrder (leb maxTasks x) (leb m l) (eqb k 0 || not (eqb (newest row) l)))) where
+    pub unlock-runs : x < maxTasks
+    unfolding unlockOrder testFor numberOf if_then_else_
+    unlock-runs = leb-false maxTasks x (none-holds _ (sym said ∙ passed) NobodyRuns)
+
+    pub unlock-known : m ≤ maxLocks → l < maxLocks
+    unfolding unlockOrder testFor numberOf if_then_else_
+    unlock-known h = let q : l < m = leb-false m l (none-holds _ (sym said ∙ passed) Unknown) in omega arith
+
+    pub unlock-some : 0 < k
+    unfolding unlockOrder testFor numberOf if_then_else_
+    unlock-some = omega (arith, eqb-false k 0 (or-false (eqb k 0) (not (eqb (newest row) l)) (none-holds _ (sym said ∙ passed) NotNewest) .0))
+
+  -- work
+  module _ (x a : ℕ) (past : Bool) (said : tested ≡ firstTrue (workOrder (eqb a 0) (leb maxTasks x) past)) where
+    pub work-runs : x < maxTasks
+    unfolding workOrder testFor numberOf if_then_else_
+    work-runs = leb-false maxTasks x (none-holds _ (sym said ∙ passed) NobodyRuns)
+
+    pub work-within : past ≡ false
+    unfolding workOrder testFor numberOf if_then_else_
+    work-within = none-holds _ (sym said ∙ passed) PastLimit
+
+  -- finish
+  module _ (x : ℕ) (still : Bool) (said : tested ≡ firstTrue (finishOrder (leb maxTasks x) still)) where
+    pub finish-runs : x < maxTasks
+    unfolding finishOrder testFor numberOf if_then_else_
+    finish-runs = leb-false maxTasks x (none-holds _ (sym said ∙ passed) NobodyRuns)
+
+-- ---- what a sound state has
+
+module _ (p : Plan) (s : State) (S : SoundAndSized p s) (room : s .head .accepted < maxAccepted) where
+  abbrev f : Figures
+  f = figuresOf s
+
+  abbrev r : ℕ
+  r = s .head .running
+
+  rests : (t : ℕ) → at (s .released) t ≡ 0 → at (s .kept) t ≡ 0
+  unfolding keptOf
+  rests t z = S .sound .words .kept t ∙ either (λ v. v ≡ 0) (eqb t r) 0 (rankOf p f t) refl (rank-in p f t z)
+
+  counts : Counts (s .head)
+  counts = record { room = room; lazy = S .sound .words .lazy; eager = S .sound .figures .eager }
+
+  pub release-ready : (t : ℕ) → ReleaseReady (s .head) (p .tasks) (s .released) (s .kept) t
+  release-ready t = record {
+    counts = counts;
+    few = few-tasks (S .sound .plan);
+    sized = S .wordsSized .kept;
+    rests = rests t;
+    next = S .sound .words .next ∙ greatest-ext (keptOf p f r) (at (s .kept)) (p .tasks) (λ x l. sym (S .sound .words .kept x));
+  }
+
+  pub acquire-ready : AcquireReady (s .head) (p .locks) (s .depth) (s .takes) (s .saved)
+  unfolding savedOf
+  acquire-ready = record {
+    counts = counts;
+    few = few-locks (S .sound .plan);
+    row = S .sound .figures .places r;
+    words = rw (S .sound .words .saved r) (saves-places (at (p .ceiling)) (at (p .base) r) (at (s .takes) r) (at (s .depth) r) (base-byte (S .sound .plan) r)
+        (ceiling-byte (S .sound .plan)));
+  }
+
+  pub unlock-ready : UnlockReady (s .head) (p .tasks) (p .locks) (s .kept)
+  unlock-ready = record {
+    counts = counts;
+    tasks = few-tasks (S .sound .plan);
+    locks = few-locks (S .sound .plan);
+    sized = S .wordsSized .kept;
+  }
+
+  pub work-ready : length (p .limit) ≡ maxLocks → WorkReady (s .head) (p .tasks) (p .limit) (s .units)
+  work-ready e = record { counts = counts; few = few-tasks (S .sound .plan); limits = e; sized = S .figuresSized .units }
+
+  -- the open sections have room for a units more, where none of them would pass its limit
+  pub work-laden : (a : ℕ) → pastRow (p .limit) (s .units) a (at (s .takes) r) (at (s .depth) r) ≡ false
+      → Laden (p .locks) (s .units) a (at (s .takes) r) (at (s .depth) r)
+  unfolding holds
+  work-laden a q = record {
+    known = λ l h. S .sound .figures .known r l h;
+    once = S .sound .figures .once r;
+    room = λ l h. omega (arith, ltb-false (at (p .limit) l) (at (s .units) l + a) (within l h), S .sound .plan .limitBytes l);
+  }
+    where
+      within : (l : ℕ) → has (at (s .takes) r) (at (s .depth) r) l ≡ true → ltb (at (p .limit) l) (at (s .units) l + a) ≡ false
+      within l h = not-so (ltb (at (p .limit) l) (at (s .units) l + a)) (λ o. untrue
+          (sym (some-past (p .limit) (s .units) a (at (s .takes) r) (at (s .depth) r) l h o) ∙ q))
+
+  pub finish-ready : FinishReady (s .head) (p .tasks) (s .kept)
+  finish-ready = record { counts = counts; few = few-tasks (S .sound .plan); sized = S .wordsSized .kept }

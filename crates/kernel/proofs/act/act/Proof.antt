@@ -1,0 +1,14 @@
+-- `kernel::act::act` meets its contract. Each arm is its event's. Assumes nothing.
+use Rattle.kernel.proofs.ActLaws.{exhausted, release-ready, acquire-ready, unlock-ready, work-ready, finish-ready, release-acts, acquire-acts, unlock-acts, work-acts, finish-acts, tick-acts}
+use borrow.Author.Needs.{needs}
+use Rattle.kernel.proofs.act.act.Statement.{statement}
+use Rattle.kernel.proofs.act.act.Tie as tie
+
+pub act-spec : {M : Type 1} → statement M
+act-spec =
+    tie.close
+    (tie.spec
+    (λ c κs. search needs) (λ c. search exhausted) (λ c. search needs) (λ c κs. search release-ready) (λ c. search needs) (λ c κs. search acquire-ready)
+    (λ c. search needs) (λ c κs. search unlock-ready) (λ c. search needs) (λ c κs. search work-ready) (λ c. search needs) (λ c κs. search finish-ready)
+    (λ c. search needs) (λ c κs. search needs) (λ c κs. search needs) (λ c. search release-acts) (λ c. search acquire-acts) (λ c. search unlock-acts)
+    (λ c. search work-acts) (λ c. search finish-acts) (λ c. search tick-acts))

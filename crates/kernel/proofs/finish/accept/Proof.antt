@@ -1,0 +1,11 @@
+-- `kernel::finish::accept` meets its contract. The kernel switches. Assumes nothing.
+use Rattle.kernel.proofs.EventLaws.{finish-done}
+use borrow.Author.Needs.{needs}
+use Rattle.kernel.proofs.finish.accept.Statement.{statement}
+use Rattle.kernel.proofs.finish.accept.Tie as tie
+
+pub accept-spec : {M : Type 1} → statement M
+accept-spec =
+    tie.close
+    (tie.spec
+    (λ c. search needs) (λ c. search needs) (λ c. search needs) (λ c κs. search needs) (λ c κs. search needs) (λ c. search finish-done))

@@ -1,0 +1,12 @@
+-- `kernel::lazy::after_release` meets its contract. The kernel switches, or the newcomer waits. Assumes nothing.
+use Rattle.kernel.proofs.LazyLaws.{release-switches, release-waits}
+use borrow.Author.Needs.{needs}
+use Rattle.kernel.proofs.lazy.after_release.Statement.{statement}
+use Rattle.kernel.proofs.lazy.after_release.Tie as tie
+
+pub after-release-spec : {M : Type 1} → statement M
+after-release-spec =
+    tie.close
+    (tie.spec
+    (λ c κs. search needs) (λ c. search needs) (λ c κs. search needs) (λ c κs. search needs) (λ c κs. search needs) (λ c. search release-switches)
+    (λ c κs. search needs) (λ c. search release-waits))

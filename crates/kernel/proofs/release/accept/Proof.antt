@@ -1,0 +1,12 @@
+-- `kernel::release::accept` meets its contract. The kernel switches, or the newcomer waits. Assumes nothing.
+use Rattle.kernel.proofs.EventLaws.{release-done}
+use borrow.Author.Needs.{needs}
+use Rattle.kernel.proofs.release.accept.Statement.{statement}
+use Rattle.kernel.proofs.release.accept.Tie as tie
+
+pub accept-spec : {M : Type 1} → statement M
+accept-spec =
+    tie.close
+    (tie.spec
+    (λ c. search needs) (λ c. search needs) (λ c. search needs) (λ c. search needs) (λ c. search needs) (λ c. search needs) (λ c κs. search needs)
+    (λ c κs. search needs) (λ c κs. search needs) (λ c. search release-done))

@@ -1,0 +1,77 @@
+// The step of a sound state: 11 to 22, or the event is accepted. The arrays are lent and changed in
+// place.
+use crate::acquire::acquire;
+use crate::acted::Acted;
+use crate::counts::accepted;
+use crate::counts::refused;
+use crate::counts::turn_of;
+use crate::finish::finish;
+use crate::release::release;
+use crate::unlock::unlock;
+use crate::work::work;
+use rules::capacity::MAX_ACCEPTED;
+use rules::capacity::MAX_LOCKS;
+use rules::capacity::MAX_TASKS;
+use rules::event::Event;
+use rules::refusal::Refusal;
+use rules::state::Head;
+ghost use mathlib.Core.Path.{_≡_};
+ghost use lib.ListN.{length};
+ghost use Rattle.rules.specs.Numbers.Capacity.{maxLocks};
+ghost use Rattle.rules.specs.Schedulers.Whole.{planWith, stateWith};
+ghost use Rattle.rules.specs.Soundness.Sound.{SoundAndSized};
+ghost use Rattle.rules.specs.Replays.Step.{actOf};
+ghost use Rattle.kernel.specs.Lent.{steppedAs};
+
+// 11, then the tests of the event, which is refused or accepted.
+pub fn act(
+    h: Head,
+    n: usize,
+    m: usize,
+    base: &[u8; MAX_TASKS],
+    ceiling: &[u8; MAX_LOCKS],
+    limit: &[u16; MAX_LOCKS],
+    uses: &[u32; MAX_TASKS],
+    released: &mut [u32; MAX_TASKS],
+    kept: &mut [u8; MAX_TASKS],
+    delay: &mut [u16; MAX_TASKS],
+    depth: &mut [u8; MAX_TASKS],
+    takes: &mut [u64; MAX_TASKS],
+    saved: &mut [u64; MAX_TASKS],
+    units: &mut [u16; MAX_LOCKS],
+    owner: &mut [u8; MAX_LOCKS],
+    e: Event,
+) -> Acted
+    requires { ⌜ SoundAndSized (planWith n m (now base) (now ceiling) (now limit) (now uses))
+        (stateWith h (now released) (now kept) (now delay) (now depth) (now takes) (now saved) (now units) (now owner)) ⌝ }
+    requires { ⌜ length (now limit) ≡ maxLocks ⌝ }
+    ensures { λ r. ⌜ steppedAs r (now (released .exit)) (now (kept .exit)) (now (delay .exit)) (now (depth .exit)) (now (takes .exit)) (now (saved .exit))
+        (now (units .exit)) (now (owner .exit))
+        ≡ actOf (planWith n m (now (base .entry)) (now (ceiling .entry)) (now (limit .entry)) (now (uses .entry)))
+        (stateWith h (now (released .entry)) (now (kept .entry)) (now (delay .entry)) (now (depth .entry)) (now (takes .entry)) (now (saved .entry))
+        (now (units .entry)) (now (owner .entry))) e ⌝ }
+{
+    if MAX_ACCEPTED <= h.accepted {
+        return refused(h, Refusal::Exhausted);
+    }
+    match e {
+        Event::Release(t) => release(h, n, base, released, kept, delay, t),
+        Event::Acquire(l) => acquire(h, m, ceiling, uses, depth, takes, saved, owner, l),
+        Event::Unlock(l) => unlock(
+            h,
+            n,
+            m,
+            released,
+            kept,
+            depth,
+            takes,
+            saved,
+            units,
+            owner,
+            l,
+        ),
+        Event::Work(a) => work(h, n, base, limit, released, delay, depth, takes, units, a),
+        Event::Finish => finish(h, n, released, kept, depth),
+        Event::Tick => accepted(h, turn_of(h), false, 0),
+    }
+}

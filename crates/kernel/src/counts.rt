@@ -1,0 +1,64 @@
+// The head after an event: as it was where the event is refused, or one event further.
+use crate::acted::Acted;
+use crate::switch::Turn;
+use rules::answer::Answer;
+use rules::refusal::Refusal;
+use rules::state::Head;
+ghost use mathlib.Core.Path.{_≡_};
+ghost use Prim.Native.Nat.{_≤_};
+ghost use Rattle.rules.specs.Numbers.Choice.{if_then_else_};
+ghost use Rattle.kernel.specs.Lent.{acceptedWith, refusedAs, turnOf};
+ghost use Rattle.kernel.specs.Ready.{Counts};
+
+pub fn refused(h: Head, why: Refusal) -> Acted
+    ensures { λ r. ⌜ r ≡ refusedAs h why ⌝ }
+{
+    Acted {
+        answer: Answer::Refused(why),
+        head: h,
+    }
+}
+
+// Who runs, and the two words.
+pub fn turn_of(h: Head) -> Turn
+    ensures { λ r. ⌜ r ≡ turnOf h ⌝ }
+{
+    let user = h.user;
+    let next = h.next;
+    Turn {
+        running: h.running,
+        user: user,
+        next: next,
+    }
+}
+
+fn call_count(call: bool) -> u32
+    ensures { λ r. ⌜ (r ≡ (if call then 1 else 0)) × (r ≤ 1) ⌝ }
+{
+    if call {
+        return 1;
+    }
+    0
+}
+
+// The event counts, and so do the lazy call that it made and its eager calls.
+pub fn accepted(h: Head, turn: Turn, call: bool, eager: u32) -> Acted
+    requires { ⌜ Counts h × (eager ≤ 1) ⌝ }
+    ensures { λ r. ⌜ r ≡ acceptedWith h turn call eager ⌝ }
+{
+    let user = turn.user;
+    let next = turn.next;
+    let calls = call_count(call);
+    let head = Head {
+        accepted: h.accepted + 1,
+        running: turn.running,
+        user: user,
+        next: next,
+        lazy: h.lazy + calls,
+        eager: h.eager + eager,
+    };
+    Acted {
+        answer: Answer::Accepted(call),
+        head: head,
+    }
+}

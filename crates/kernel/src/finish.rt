@@ -1,0 +1,48 @@
+// Finish.
+use crate::acted::Acted;
+use crate::counts::accepted;
+use crate::counts::refused;
+use crate::lazy::after_finish;
+use crate::refusals::finish_refusal;
+use rules::answer::Tested;
+use rules::capacity::MAX_TASKS;
+use rules::state::Head;
+ghost use mathlib.Core.Path.{_≡_};
+ghost use Prim.Native.Nat.{_≤_, _<_};
+ghost use lib.ListN.{length};
+ghost use Rattle.rules.specs.Numbers.Capacity.{maxTasks};
+ghost use Rattle.kernel.specs.Parts.{FinishAnswered, FinishDone};
+ghost use Rattle.kernel.specs.Ready.{Counts, FinishReady};
+
+// The running task is released no more, and leaves.
+fn accept(h: Head, n: usize, released: &mut [u32; MAX_TASKS], kept: &mut [u8; MAX_TASKS]) -> Acted
+    requires { ⌜ Counts h × (h .running < maxTasks) × (n ≤ maxTasks) × (length (now kept) ≡ maxTasks) ⌝ }
+    ensures { λ r. ⌜ FinishDone h n
+        (now (released .entry)) (now (kept .entry))
+        r (now (released .exit)) (now (kept .exit)) ⌝ }
+{
+    let x = h.running as usize;
+    released[x] = 0;
+    let after = after_finish(h, n, released, kept);
+    accepted(h, after, false, 0)
+}
+
+// 12, 22, or it is accepted.
+pub fn finish(
+    h: Head,
+    n: usize,
+    released: &mut [u32; MAX_TASKS],
+    kept: &mut [u8; MAX_TASKS],
+    depth: &[u8; MAX_TASKS],
+) -> Acted
+    requires { ⌜ FinishReady h n (now kept) ⌝ }
+    ensures { λ r. ⌜ FinishAnswered h n
+        (now (released .entry)) (now (kept .entry)) (now (depth .entry))
+        r (now (released .exit)) (now (kept .exit)) ⌝ }
+{
+    let tested = finish_refusal(h.running as usize, depth);
+    match tested {
+        Tested::Refused(why) => refused(h, why),
+        Tested::Passed => accept(h, n, released, kept),
+    }
+}

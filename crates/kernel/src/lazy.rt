@@ -1,0 +1,145 @@
+// The words of the lazy scheduler after each event that moves them: who runs, the user word and the
+// next word, and the kept and saved priorities. The figures are moved elsewhere: another protocol
+// replaces what stands here, and nothing else.
+use crate::switch::Turn;
+use crate::switch::keep;
+use crate::switch::switch;
+use figures::priority::above;
+use figures::priority::calls_for;
+use figures::priority::higher;
+use figures::priority::kernel_byte;
+use figures::priority::raised;
+use figures::row::newest_word;
+use figures::row::push_word;
+use figures::row::under_of;
+use rules::capacity::MAX_LOCKS;
+use rules::capacity::MAX_TASKS;
+use rules::priority::KernelPriority;
+use rules::priority::UserPriority;
+use rules::state::Head;
+ghost use mathlib.Core.Path.{_≡_};
+ghost use mathlib.Core.List.{List};
+ghost use Prim.Native.Nat.{ℕ, _≤_, _<_, _^_};
+ghost use lib.ListN.{length, set};
+ghost use Rattle.rules.specs.Numbers.Capacity.{maxLocks, maxTasks};
+ghost use Rattle.rules.specs.Schedulers.Lazy.{Words, afterRelease, switched, afterAcquire};
+ghost use Rattle.rules.specs.Numbers.Place.{at, greatest};
+ghost use Rattle.kernel.specs.Lent.{turned, turnOf, wordsOn};
+ghost use Rattle.kernel.specs.Parts.{UnlockWords};
+
+// Release: the kernel keeps the newcomer t's base, and switches only where that is strictly above the
+// user word.
+pub fn after_release(
+    h: Head,
+    n: usize,
+    released: &[u32; MAX_TASKS],
+    kept: &mut [u8; MAX_TASKS],
+    t: usize,
+    base: KernelPriority,
+) -> Turn
+    requires { ⌜ (t < n) × (n ≤ maxTasks) × (length (now kept) ≡ maxTasks) ⌝ }
+    requires { ⌜ (h .next .0 ≡ greatest (at (now kept)) n) × (at (now kept) t ≡ 0) ⌝ }
+    ensures { λ r. ⌜ ((w : Words) → turned r (now (kept .exit)) w
+        ≡ afterRelease n (now (released .entry)) (set (now (kept .entry)) t (base .0)) (base .0) (turned (turnOf h) (now (kept .entry)) w)) ⌝ }
+{
+    kept[t] = kernel_byte(base);
+    let user = h.user;
+    if above(base, user) {
+        keep(kept, h.running, user);
+        return switch(n, released, kept);
+    }
+    let next = h.next;
+    Turn {
+        running: h.running,
+        user: user,
+        next: higher(next, base),
+    }
+}
+
+// Acquire: the user word is saved, and raised to the ceiling of lock l.
+pub fn after_acquire(
+    h: Head,
+    saved: &mut [u64; MAX_TASKS],
+    owner: &mut [u8; MAX_LOCKS],
+    l: u8,
+    ceiling: UserPriority,
+) -> Turn
+    requires { ⌜ (h .running < maxTasks) × (l < maxLocks) × (at (now saved) (h .running) < 256 ^ 7) ⌝ }
+    ensures { λ r. ⌜ ((lazy : ℕ) (kept : List ℕ) → wordsOn r lazy kept (now (saved .exit)) (now (owner .exit))
+        ≡ afterAcquire l (ceiling .0) (wordsOn (turnOf h) lazy kept (now (saved .entry)) (now (owner .entry)))) ⌝ }
+{
+    let x = h.running as usize;
+    let y = l as usize;
+    let user = h.user;
+    let row = saved[x];
+    saved[x] = push_word(row, user);
+    owner[y] = h.running + 1;
+    let next = h.next;
+    Turn {
+        running: h.running,
+        user: raised(user, ceiling),
+        next: next,
+    }
+}
+
+// The words after an unlock, and whether it called the kernel.
+pub struct Unlocked {
+    pub turn: Turn,
+    pub call: bool,
+}
+
+// Unlock: the saved word is back. Where it is strictly below the next word, that is one lazy call, and
+// the kernel switches.
+pub fn after_unlock(
+    h: Head,
+    n: usize,
+    released: &[u32; MAX_TASKS],
+    kept: &mut [u8; MAX_TASKS],
+    saved: &mut [u64; MAX_TASKS],
+    owner: &mut [u8; MAX_LOCKS],
+    l: u8,
+) -> Unlocked
+    requires { ⌜ (h .running < maxTasks) × (l < maxLocks) × (n ≤ maxTasks) × (length (now kept) ≡ maxTasks) ⌝ }
+    ensures { λ r. ⌜ UnlockWords h n l (now (released .entry)) (now (kept .entry)) (now (saved .entry)) (now (owner .entry))
+        r (now (kept .exit)) (now (saved .exit)) (now (owner .exit)) ⌝ }
+{
+    let x = h.running as usize;
+    let y = l as usize;
+    let row = saved[x];
+    let back = newest_word(row);
+    saved[x] = under_of(row);
+    owner[y] = 0;
+    let next = h.next;
+    if calls_for(back, next) {
+        keep(kept, h.running, back);
+        let after = switch(n, released, kept);
+        return Unlocked {
+            turn: after,
+            call: true,
+        };
+    }
+    let stays = Turn {
+        running: h.running,
+        user: back,
+        next: next,
+    };
+    Unlocked {
+        turn: stays,
+        call: false,
+    }
+}
+
+// Finish: the kernel keeps nothing for the task that is done, and switches.
+pub fn after_finish(
+    h: Head,
+    n: usize,
+    released: &[u32; MAX_TASKS],
+    kept: &mut [u8; MAX_TASKS],
+) -> Turn
+    requires { ⌜ (h .running < maxTasks) × (n ≤ maxTasks) × (length (now kept) ≡ maxTasks) ⌝ }
+    ensures { λ r. ⌜ ((w : Words) → turned r (now (kept .exit)) w ≡ switched n (now (released .entry)) (set (now (kept .entry)) (h .running) 0) w) ⌝ }
+{
+    let x = h.running as usize;
+    kept[x] = 0;
+    switch(n, released, kept)
+}

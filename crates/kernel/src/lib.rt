@@ -1,0 +1,13 @@
+// The six events over lent arrays. This crate is no entry point: `scheduler` alone hands it a state,
+// which is sound, since it was tested or since every event keeps it so.
+mod acquire;
+pub mod act;
+pub mod acted;
+mod counts;
+mod finish;
+mod lazy;
+mod refusals;
+mod release;
+mod switch;
+mod unlock;
+mod work;

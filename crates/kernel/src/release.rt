@@ -1,0 +1,62 @@
+// Release.
+use crate::acted::Acted;
+use crate::counts::accepted;
+use crate::counts::refused;
+use crate::lazy::after_release;
+use crate::refusals::release_refusal;
+use figures::priority::kernel_of;
+use rules::answer::Tested;
+use rules::capacity::MAX_TASKS;
+use rules::state::Head;
+ghost use mathlib.Core.Path.{_≡_};
+ghost use Prim.Native.Nat.{_≤_, _<_};
+ghost use lib.ListN.{length};
+ghost use Rattle.rules.specs.Numbers.Capacity.{maxTasks};
+ghost use Rattle.rules.specs.Numbers.Place.{at, greatest};
+ghost use Rattle.kernel.specs.Parts.{ReleaseAnswered, ReleaseDone};
+ghost use Rattle.kernel.specs.Ready.{Counts, ReleaseReady};
+
+// The newcomer t has a release number and no delay, and arrives.
+fn accept(
+    h: Head,
+    n: usize,
+    base: &[u8; MAX_TASKS],
+    released: &mut [u32; MAX_TASKS],
+    kept: &mut [u8; MAX_TASKS],
+    delay: &mut [u16; MAX_TASKS],
+    t: u8,
+) -> Acted
+    requires { ⌜ Counts h × (t < n) × (n ≤ maxTasks) × (length (now kept) ≡ maxTasks) ⌝ }
+    requires { ⌜ (h .next .0 ≡ greatest (at (now kept)) n) × (at (now kept) t ≡ 0) ⌝ }
+    ensures { λ r. ⌜ ReleaseDone h n t
+        (now (base .entry)) (now (released .entry)) (now (kept .entry)) (now (delay .entry))
+        r (now (released .exit)) (now (kept .exit)) (now (delay .exit)) ⌝ }
+{
+    let x = t as usize;
+    released[x] = h.accepted + 1;
+    delay[x] = 0;
+    let after = after_release(h, n, released, kept, x, kernel_of(base[x]));
+    accepted(h, after, false, 0)
+}
+
+// 13, 14, or it is accepted.
+pub fn release(
+    h: Head,
+    n: usize,
+    base: &[u8; MAX_TASKS],
+    released: &mut [u32; MAX_TASKS],
+    kept: &mut [u8; MAX_TASKS],
+    delay: &mut [u16; MAX_TASKS],
+    t: u8,
+) -> Acted
+    requires { ⌜ ReleaseReady h n (now released) (now kept) t ⌝ }
+    ensures { λ r. ⌜ ReleaseAnswered h n t
+        (now (base .entry)) (now (released .entry)) (now (kept .entry)) (now (delay .entry))
+        r (now (released .exit)) (now (kept .exit)) (now (delay .exit)) ⌝ }
+{
+    let tested = release_refusal(n, released, t);
+    match tested {
+        Tested::Refused(why) => refused(h, why),
+        Tested::Passed => accept(h, n, base, released, kept, delay, t),
+    }
+}

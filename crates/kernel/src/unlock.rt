@@ -1,0 +1,75 @@
+// Unlock.
+use crate::acted::Acted;
+use crate::counts::accepted;
+use crate::counts::refused;
+use crate::lazy::after_unlock;
+use crate::refusals::unlock_refusal;
+use figures::row::under_of;
+use rules::answer::Tested;
+use rules::capacity::MAX_LOCKS;
+use rules::capacity::MAX_TASKS;
+use rules::state::Head;
+ghost use mathlib.Core.Path.{_≡_};
+ghost use Prim.Native.Nat.{_≤_, _<_};
+ghost use lib.ListN.{length};
+ghost use Rattle.rules.specs.Numbers.Capacity.{maxLocks, maxTasks};
+ghost use Rattle.rules.specs.Numbers.Place.{at};
+ghost use Rattle.kernel.specs.Parts.{UnlockAnswered, UnlockDone};
+ghost use Rattle.kernel.specs.Ready.{Counts, UnlockReady};
+
+// Lock l, the running task's newest, is closed, and the saved word is back.
+fn accept(
+    h: Head,
+    n: usize,
+    released: &[u32; MAX_TASKS],
+    kept: &mut [u8; MAX_TASKS],
+    depth: &mut [u8; MAX_TASKS],
+    takes: &mut [u64; MAX_TASKS],
+    saved: &mut [u64; MAX_TASKS],
+    units: &mut [u16; MAX_LOCKS],
+    owner: &mut [u8; MAX_LOCKS],
+    l: u8,
+) -> Acted
+    requires { ⌜ Counts h × (h .running < maxTasks) × (l < maxLocks) ⌝ }
+    requires { ⌜ (n ≤ maxTasks) × (0 < at (now depth) (h .running)) × (length (now kept) ≡ maxTasks) ⌝ }
+    ensures { λ r. ⌜ UnlockDone h n l
+        (now (released .entry)) (now (kept .entry)) (now (depth .entry)) (now (takes .entry)) (now (saved .entry)) (now (units .entry)) (now (owner .entry))
+        r (now (kept .exit)) (now (depth .exit)) (now (takes .exit)) (now (saved .exit)) (now (units .exit)) (now (owner .exit)) ⌝ }
+{
+    let x = h.running as usize;
+    let y = l as usize;
+    let k = depth[x];
+    depth[x] = k - 1;
+    let row = takes[x];
+    takes[x] = under_of(row);
+    units[y] = 0;
+    let unlocked = after_unlock(h, n, released, kept, saved, owner, l);
+    let after = unlocked.turn;
+    accepted(h, after, unlocked.call, 1)
+}
+
+// 12, 13, 19, or it is accepted.
+pub fn unlock(
+    h: Head,
+    n: usize,
+    m: usize,
+    released: &[u32; MAX_TASKS],
+    kept: &mut [u8; MAX_TASKS],
+    depth: &mut [u8; MAX_TASKS],
+    takes: &mut [u64; MAX_TASKS],
+    saved: &mut [u64; MAX_TASKS],
+    units: &mut [u16; MAX_LOCKS],
+    owner: &mut [u8; MAX_LOCKS],
+    l: u8,
+) -> Acted
+    requires { ⌜ UnlockReady h n m (now kept) ⌝ }
+    ensures { λ r. ⌜ UnlockAnswered h n m l
+        (now (released .entry)) (now (kept .entry)) (now (depth .entry)) (now (takes .entry)) (now (saved .entry)) (now (units .entry)) (now (owner .entry))
+        r (now (kept .exit)) (now (depth .exit)) (now (takes .exit)) (now (saved .exit)) (now (units .exit)) (now (owner .exit)) ⌝ }
+{
+    let tested = unlock_refusal(h.running as usize, m, depth, takes, l);
+    match tested {
+        Tested::Refused(why) => refused(h, why),
+        Tested::Passed => accept(h, n, released, kept, depth, takes, saved, units, owner, l),
+    }
+}

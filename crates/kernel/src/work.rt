@@ -1,0 +1,143 @@
+// Work.
+use crate::acted::Acted;
+use crate::counts::accepted;
+use crate::counts::refused;
+use crate::counts::turn_of;
+use crate::refusals::work_refusal;
+use figures::row::newest_of;
+use figures::row::under_of;
+use rules::answer::Tested;
+use rules::capacity::MAX_DELAY;
+use rules::capacity::MAX_LOCKS;
+use rules::capacity::MAX_TASKS;
+use rules::state::Head;
+ghost use mathlib.Core.Path.{_≡_};
+ghost use Prim.Native.Nat.{_+_, _≤_, _<_, min};
+ghost use lib.ListN.{length, set};
+ghost use Rattle.rules.specs.Numbers.Capacity.{maxDelay, maxLocks, maxTasks};
+ghost use Rattle.rules.specs.Numbers.Place.{at, renewed};
+ghost use Rattle.kernel.specs.Work.{chargedRow, waited, waitedBy};
+ghost use Rattle.kernel.specs.Parts.{WorkAnswered, WorkDone};
+ghost use Rattle.kernel.specs.Ready.{Counts, WorkReady};
+
+// A sum that sticks at 65,535.
+fn stick(a: u16, b: u16) -> u16
+    ensures { λ r. ⌜ r ≡ min maxDelay (a + b) ⌝ }
+{
+    if MAX_DELAY - a < b {
+        return MAX_DELAY;
+    }
+    a + b
+}
+
+// The delay of a task of release number y and base q after a units by one of base b.
+fn delay_of(y: u32, q: u8, b: u8, d: u16, a: u16) -> u16
+    ensures { λ r. ⌜ r ≡ waitedBy y q b d a ⌝ }
+{
+    let more = stick(d, a);
+    if y == 0 {
+        return d;
+    }
+    if b < q {
+        return more;
+    }
+    d
+}
+
+// Every released task of greater base than b waits a units more.
+fn delays(
+    n: usize,
+    base: &[u8; MAX_TASKS],
+    released: &[u32; MAX_TASKS],
+    delay: &mut [u16; MAX_TASKS],
+    b: u8,
+    a: u16,
+)
+    requires { ⌜ n ≤ maxTasks ⌝ }
+    ensures { λ _. ⌜ now (delay .exit) ≡ renewed (now (delay .entry)) (waited (now (base .entry)) (now (released .entry)) (now (delay .entry)) b a) n ⌝ }
+{
+    let mut t: usize = 0;
+    while t < n {
+        let d = delay_of(released[t], base[t], b, delay[t], a);
+        delay[t] = d;
+        t += 1;
+    }
+}
+
+// A units more for the section of lock l.
+fn bump(units: &mut [u16; MAX_LOCKS], l: u8, a: u16)
+    requires { ⌜ length (now units) ≡ maxLocks ⌝ }
+    ensures { λ _. ⌜ (now (units .exit) ≡ set (now (units .entry)) l (min maxDelay (at (now (units .entry)) l + a))) × (length (now (units .exit)) ≡ maxLocks) ⌝ }
+{
+    let y = l as usize;
+    if y >= MAX_LOCKS {
+        return;
+    }
+    let u = units[y];
+    units[y] = stick(u, a);
+}
+
+// The same for each of the k newest locks of a row.
+fn charge(units: &mut [u16; MAX_LOCKS], row: u64, k: u8, a: u16)
+    requires { ⌜ length (now units) ≡ maxLocks ⌝ }
+    ensures { λ _. ⌜ now (units .exit) ≡ chargedRow (now (units .entry)) a row k ⌝ }
+{
+    let mut left = row;
+    let mut c = k;
+    while c > 0 {
+        let l = newest_of(left);
+        bump(units, l, a);
+        left = under_of(left);
+        c -= 1;
+    }
+}
+
+// The running task works a units: they count for each of its open sections, and as delay for every
+// released task of greater base.
+fn accept(
+    h: Head,
+    n: usize,
+    base: &[u8; MAX_TASKS],
+    released: &[u32; MAX_TASKS],
+    delay: &mut [u16; MAX_TASKS],
+    depth: &[u8; MAX_TASKS],
+    takes: &[u64; MAX_TASKS],
+    units: &mut [u16; MAX_LOCKS],
+    a: u16,
+) -> Acted
+    requires { ⌜ Counts h × (h .running < maxTasks) × (n ≤ maxTasks) × (length (now units) ≡ maxLocks) ⌝ }
+    ensures { λ r. ⌜ WorkDone h n a
+        (now (base .entry)) (now (released .entry)) (now (delay .entry)) (now (depth .entry)) (now (takes .entry)) (now (units .entry))
+        r (now (delay .exit)) (now (units .exit)) ⌝ }
+{
+    let x = h.running as usize;
+    delays(n, base, released, delay, base[x], a);
+    charge(units, takes[x], depth[x], a);
+    let turn = turn_of(h);
+    accepted(h, turn, false, 0)
+}
+
+// 20, 12, 21, or it is accepted.
+pub fn work(
+    h: Head,
+    n: usize,
+    base: &[u8; MAX_TASKS],
+    limit: &[u16; MAX_LOCKS],
+    released: &[u32; MAX_TASKS],
+    delay: &mut [u16; MAX_TASKS],
+    depth: &[u8; MAX_TASKS],
+    takes: &[u64; MAX_TASKS],
+    units: &mut [u16; MAX_LOCKS],
+    a: u16,
+) -> Acted
+    requires { ⌜ WorkReady h n (now limit) (now units) ⌝ }
+    ensures { λ r. ⌜ WorkAnswered h n a
+        (now (base .entry)) (now (limit .entry)) (now (released .entry)) (now (delay .entry)) (now (depth .entry)) (now (takes .entry)) (now (units .entry))
+        r (now (delay .exit)) (now (units .exit)) ⌝ }
+{
+    let tested = work_refusal(h.running as usize, limit, depth, takes, units, a);
+    match tested {
+        Tested::Refused(why) => refused(h, why),
+        Tested::Passed => accept(h, n, base, released, delay, depth, takes, units, a),
+    }
+}

@@ -1,0 +1,5 @@
+-- What a plan that obeys the rules gives, that a loaded plan does, and that every list of events has its book.
+pub mod Obeyed
+pub mod Loaded
+pub mod WithEvents
+pub mod Cut

@@ -1,0 +1,238 @@
+-- The run of a list from a fresh start: its rows, its verdict and its state keep demands 2 and 3. Assumes nothing.
+use mathlib.Core.Path.{_≡_, refl, sym, _∙_, ap, subst}
+use mathlib.Core.Logic.{_≢_, ⊎-elim}
+use mathlib.Core.Bool.{Bool, true}
+use mathlib.Core.List.{List}
+use Prim.Native.Nat.{ℕ, zero, suc, _+_, _*_, _≤_, _<_}
+use native.Mathlib.Omega.{arith}
+use lib.ListN.{length, drop, drop-of-length-le}
+use lib.Seq.{drop-cons}
+use Rattle.rules.specs.Numbers.Choice.{if_then_else_}
+use Rattle.rules.specs.Numbers.Place.{at}
+use Rattle.rules.specs.Numbers.Refusal.{numberOf}
+use Rattle.rules.specs.Books.Plan.{Obeys}
+use Rattle.rules.specs.Schedulers.State.{freshOf}
+use Rattle.rules.specs.Schedulers.Figures.{Figures, figuresOf, holds}
+use Rattle.rules.specs.Schedulers.EventRefusals.{refusalOf}
+use Rattle.rules.specs.Schedulers.Eager.{eagerTest}
+use Rattle.rules.specs.Schedulers.Lazy.{wordsOf, lazyCall}
+use Rattle.rules.specs.Replays.Step.{stepOf}
+use Rattle.rules.specs.Numbers.Answer.{passes, testedNumber, answerNumber, answerCalls}
+use Rattle.rules.specs.Replays.Run.{Ran, withRow, onward, runFrom}
+use Rattle.rules.specs.Demands.History.{eventAt, eagerAt, lazyAt, acceptedAt, callsDue}
+use Rattle.rules.specs.Demands.Demand2.{Demand2}
+use Rattle.rules.specs.Demands.Replayed.{RowAt, RanUpTo}
+use Rattle.rules.specs.declared.plan.Plan.{Plan}
+use Rattle.rules.specs.declared.state.Head.{Head}
+use Rattle.rules.specs.declared.state.State.{State}
+use Rattle.rules.specs.declared.answer.Answer.{Answer}
+use Rattle.rules.specs.declared.answer.Verdict.{Verdict}
+use Rattle.rules.specs.declared.refusal.Refusal.{Refusal}
+use Rattle.rules.specs.declared.event.Event.{Event}
+use Rattle.rules.specs.declared.event.Event.the-variants.{Tick}
+use Rattle.rules.proofs.Numbers.Choice.{lt-or-le}
+use Rattle.rules.proofs.Numbers.Place.{below}
+use Rattle.rules.proofs.Numbers.Checks.{refused-not}
+use Rattle.rules.proofs.Demands.Follow.{same-test, follows, same-figures}
+use Rattle.rules.proofs.Demands.Calls.{due}
+use Rattle.rules.proofs.Demands.Demand2.{demand2}
+use Rattle.rules.proofs.Demands.History.{passedAt, all-counted}
+use Rattle.rules.proofs.Demands.Jobs.{lateAt, delays-same, delay-counted, demand3}
+use Rattle.rules.proofs.Replays.RowBytes.{row-length, row-other, row-running, row-user, row-next, row-call}
+use Rattle.rules.proofs.Replays.OneStep.{step-accepts, step-refused, step-call}
+
+-- the run has come to place k, and the row bytes are xs; at the start they were rows
+record SoFar (p : Plan) (es : List Event) (rows : List ℕ) (k : ℕ) (xs : List ℕ) : Type 0 where
+  accepted : (j : ℕ) → j < k → acceptedAt p es j ≡ true
+  written : (j : ℕ) → j < k → RowAt p es j (at xs (j * 4)) (at xs (j * 4 + 1)) (at xs (j * 4 + 2)) (at xs (j * 4 + 3))
+  stay : (i : ℕ) → k * 4 ≤ i → at xs i ≡ at rows i
+  size : length xs ≡ length rows
+
+-- the run ends at place a
+record Ends (p : Plan) (es : List Event) (rows : List ℕ) (ran : Ran) (a : ℕ) : Type 0 where
+  within : a ≤ length es
+  soFar : SoFar p es rows a (ran .rows)
+  state : ran .state ≡ lazyAt p es a
+  passed : a ≡ length es → ran .verdict ≡ Verdict.Passed
+  refused : a < length es → (why : Refusal) × (ran .verdict ≡ Verdict.Refused why a) × (stepOf p (lazyAt p es a) (eventAt es a) .answer ≡ Answer.Refused why)
+
+module _ {p : Plan} (O : Obeys p) (es : List Event) (rows : List ℕ) (room : length es * 4 ≤ length rows) where
+  -- both schedulers accept the same events
+  same-test-at : (k : ℕ) → eagerTest p (eagerAt p es k) (eventAt es k) ≡ refusalOf p (figuresOf (lazyAt p es k)) (lazyAt p es k .head .running) (eventAt es k)
+  same-test-at k = ap (λ f. eagerTest p f (eventAt es k)) (sym (same-figures O es k)) ∙ same-test (follows O es k) (eventAt es k)
+
+  accepts-at : (k : ℕ) → acceptedAt p es k ≡ true → (call : Bool) × (stepOf p (lazyAt p es k) (eventAt es k) .answer ≡ Answer.Accepted call)
+  accepts-at k a = (
+    lazyCall (wordsOf (lazyAt p es k)) (eventAt es k),
+    step-accepts (follows O es k .sound) (eventAt es k)
+        (sym (same-test-at k) ∙ passedAt p es k a),
+  )
+
+  -- an accepted event
+  module _ (k : ℕ) (h : k < length es) (call : Bool) (said : stepOf p (lazyAt p es k) (eventAt es k) .answer ≡ Answer.Accepted call) where
+    accepted-here : acceptedAt p es k ≡ true
+    unfolding acceptedAt passes
+    accepted-here = ap passes (same-test-at k ∙ step-call (follows O es k .sound) (eventAt es k) call said .0)
+
+    calls-here : answerCalls (stepOf p (lazyAt p es k) (eventAt es k) .answer) ≡ (if call then 1 else 0)
+    unfolding answerCalls
+    calls-here = ap answerCalls said
+
+    due-here : (if call then 1 else 0) ≡ callsDue p (eagerAt p es k) (eventAt es k)
+    due-here =
+        let (z, c) = step-call (follows O es k .sound) (eventAt es k) call said in
+        ap (λ c. if c then 1 else 0) c ∙ due (follows O es k) (eventAt es k) z ∙ ap (λ f. callsDue p f (eventAt es k)) (same-figures O es k)
+
+    row-here : (xs : List ℕ) → length xs ≡ length rows → let ys = withRow xs k (lazyAt p es (suc k) .head) call in RowAt p es k (at ys (k * 4))
+        (at ys (k * 4 + 1)) (at ys (k * 4 + 2)) (at ys (k * 4 + 3))
+    row-here xs z =
+        let w : Head = lazyAt p es (suc k) .head in
+        let D : Demand2 p es (suc k) = demand2 O es (suc k) in
+        let fits : k * 4 + 4 ≤ length xs = omega arith in
+        rw (row-running xs k w call fits, row-user xs k w call fits, row-next xs k w call fits, row-call xs k w call fits) (record {
+          runs = D .running;
+          foremost = rw (D .running) (D .foremost);
+          idle = rw (D .running) (D .idle);
+          own = D .user;
+          others = D .next;
+          due = due-here;
+          once = rw (← calls-here) (demand2 O es k .calls);
+          unlock = λ l e. rw (← calls-here) (demand2 O es k .unlock l e accepted-here);
+          acquire = λ l e. sym calls-here ∙ demand2 O es k .acquire l e;
+        })
+
+    further : (xs : List ℕ) → SoFar p es rows k xs → SoFar p es rows (suc k) (withRow xs k (lazyAt p es (suc k) .head) call)
+    further xs S =
+        let other : (i : ℕ) → (k * 4 ≤ i → i < k * 4 + 4 → ⊥) → at (withRow xs k (lazyAt p es (suc k) .head) call) i
+        ≡ at xs i = row-other xs k (lazyAt p es (suc k) .head) call in
+        let ys : List ℕ = withRow xs k (lazyAt p es (suc k) .head) call in
+        record {
+          accepted = below (λ j. acceptedAt p es j ≡ true) k (S .accepted) accepted-here;
+          written = below (λ j. RowAt p es j (at ys (j * 4)) (at ys (j * 4 + 1)) (at ys (j * 4 + 2)) (at ys (j * 4 + 3))) k
+              (λ j q. rw (
+                other (j * 4) (λ u v. omega arith),
+                other (j * 4 + 1) (λ u v. omega arith),
+                other (j * 4 + 2) (λ u v. omega arith),
+                other (j * 4 + 3) (λ u v. omega arith),
+              ) (S .written j q))
+              (row-here xs (S .size));
+          stay = λ i q. other i (λ u v. omega arith) ∙ S .stay i (omega arith);
+          size = row-length xs k (lazyAt p es (suc k) .head) call ∙ S .size;
+        }
+
+  -- the event at place k, where `rest` runs after it
+  turn : (k : ℕ) (xs : List ℕ) (rest : List Event) → k < length es → SoFar p es rows k xs
+      → ((ys : List ℕ) → SoFar p es rows (suc k) ys → (a : ℕ) × Ends p es rows (runFrom p rest (suc k) (lazyAt p es (suc k)) ys) a)
+      → (a : ℕ) × Ends p es rows (onward (stepOf p (lazyAt p es k) (eventAt es k) .answer) (stepOf p (lazyAt p es k) (eventAt es k) .state) k xs
+      (runFrom p rest (suc k))) a
+  unfolding onward lazyAt answerNumber
+  turn k xs rest h S on = go (stepOf p (lazyAt p es k) (eventAt es k) .answer) refl
+    where
+      go : (answer : Answer) → stepOf p (lazyAt p es k) (eventAt es k) .answer ≡ answer
+          → (a : ℕ) × Ends p es rows (onward answer (stepOf p (lazyAt p es k) (eventAt es k) .state) k xs (runFrom p rest (suc k))) a
+      go (Answer.Accepted call) e = on (withRow xs k (lazyAt p es (suc k) .head) call) (further k h call e xs S)
+      go (Answer.Refused why) e = (
+        k,
+        record {
+          within = omega arith;
+          soFar = S;
+          state = step-refused (follows O es k .sound) (eventAt es k) why e;
+          passed = λ q. absurd (omega arith);
+          refused = λ _. (why, refl, e);
+        },
+      )
+
+  -- the run from place k on comes to an end
+  abbrev Ending : ℕ → List ℕ → Type 0
+  Ending k xs = (a : ℕ) × Ends p es rows (runFrom p (drop k es) k (lazyAt p es k) xs) a
+
+  run-none : (k : ℕ) (xs : List ℕ) → k ≡ length es → SoFar p es rows k xs → Ending k xs
+  unfolding runFrom
+  run-none k xs h S =
+      rw (drop-of-length-le es {i = k} (omega arith)) (
+        k,
+        record {
+          within = omega arith;
+          soFar = S;
+          state = refl;
+          passed = λ _. refl;
+          refused = λ q. absurd (omega arith);
+        },
+      )
+
+  run-one : (k : ℕ) (xs : List ℕ) → k < length es → SoFar p es rows k xs → ((ys : List ℕ) → SoFar p es rows (suc k) ys → Ending (suc k) ys) → Ending k xs
+  unfolding runFrom
+  run-one k xs h S on = rw (drop-cons es k Tick h) (turn k xs (drop (suc k) es) h S on)
+
+  -- where n events are left
+  run : (n k : ℕ) (xs : List ℕ) → k + n ≡ length es → SoFar p es rows k xs → Ending k xs
+  run zero k xs h S = run-none k xs (omega arith) S
+  run (suc n) k xs h S = run-one k xs (omega arith) S (λ ys. run n (suc k) ys (omega arith))
+
+  module _ (ran : Ran) (a : ℕ) (E : Ends p es rows ran a) where
+    count-said : ran .state .head .accepted ≡ a
+    count-said = ap (λ (s : State). s .head .accepted) (E .state) ∙ ap (λ (f : Figures). f .accepted) (demand2 O es a .figures)
+        ∙ all-counted p es a (E .soFar .accepted)
+
+    delay-said : (t : ℕ) → at (ran .state .delay) t ≡ at (lazyAt p es a .delay) t
+    delay-said t = ap (λ (s : State). at (s .delay) t) (E .state)
+
+    refused-at : a < length es
+        → (why : Refusal) × (ran .verdict ≡ Verdict.Refused why a) × (numberOf why ≡ testedNumber (eagerTest p (eagerAt p es a) (eventAt es a)))
+        × (numberOf why ≢ 10) × (numberOf why ≢ 17)
+    unfolding answerNumber
+    refused-at h =
+        let (why, v, said) = E .refused h in
+        let D : Demand2 p es a = demand2 O es a in
+        let n : answerNumber (stepOf p (lazyAt p es a) (eventAt es a) .answer) ≡ numberOf why = ap answerNumber said in
+        (why, v, sym n ∙ D .answers, λ e. D .no10 (n ∙ e), λ e. D .no17 (n ∙ e))
+
+    all-passed : ran .verdict ≡ Verdict.Passed → a ≡ length es
+    all-passed v = ⊎-elim (λ h. let (why, w, _) = E .refused h in refused-not why a (sym w ∙ v)) (λ h. omega (arith, E .within)) (lt-or-le a (length es))
+
+    ran-so : RanUpTo p es rows ran a
+    ran-so =
+        let D : Demand2 p es a = demand2 O es a in
+        record {
+          within = E .within;
+          accepted = E .soFar .accepted;
+          state = E .state;
+          passed = (all-passed, E .passed);
+          refused = refused-at;
+          written = E .soFar .written;
+          stay = E .soFar .stay;
+          size = E .soFar .size;
+          oneHolder = subst (λ f. (x y l : ℕ) → holds f x l ≡ true → holds f y l ≡ true → x ≡ y) (sym (ap figuresOf (E .state) ∙ D .figures)) (D .oneHolder);
+          lazy = ap (λ (s : State). s .head .lazy) (E .state) ∙ D .lazy;
+          eager = ap (λ (s : State). s .head .eager) (E .state) ∙ D .eager;
+          jobs = demand3 O es;
+          delays = λ t. delay-said t ∙ delay-counted O es a t;
+          bounded = λ t. omega (arith, delay-said t, delays-same O es a t, lateAt O es a .bounded t);
+          counted = λ t i J. delay-said t ∙ demand3 O es t i (J .begun) .counted a J;
+          reported = λ t i k J F h f. delay-said t ∙ demand3 O es t i (J .begun) .reported k a J F h f;
+        }
+
+    -- a list whose events are all accepted runs to its end
+    whole : ((k : ℕ) → k < length es → acceptedAt p es k ≡ true) → a ≡ length es
+    whole f = ⊎-elim
+        (λ h. let (why, _, said) = E .refused h in
+        let (call, so) = accepts-at a (f a h) in
+        let z : _≡_ {A = ℕ} 0 1 = cc in
+        absurd (omega arith))
+        (λ h. omega (arith, E .within)) (lt-or-le a (length es))
+
+  start : Ending 0 rows
+  start = run (length es) 0 rows (omega arith) (record {
+    accepted = λ j q. absurd (omega arith);
+    written = λ j q. absurd (omega arith);
+    stay = λ i q. refl;
+    size = refl;
+  })
+
+  pub ran-up-to : RanUpTo p es rows (runFrom p es 0 freshOf rows) (runFrom p es 0 freshOf rows .state .head .accepted)
+  unfolding lazyAt
+  ran-up-to = let (a, E) = start in subst (RanUpTo p es rows (runFrom p es 0 freshOf rows)) (sym (count-said _ a E)) (ran-so _ a E)
+
+  pub ran-whole : ((k : ℕ) → k < length es → acceptedAt p es k ≡ true) → runFrom p es 0 freshOf rows .state .head .accepted ≡ length es
+  unfolding lazyAt
+  ran-whole f = let (a, E) = start in count-said _ a E ∙ whole _ a E f

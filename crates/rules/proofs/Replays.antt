@@ -1,0 +1,3 @@
+-- What one step answers, and the bytes of a row.
+pub mod OneStep
+pub mod RowBytes

@@ -1,0 +1,5 @@
+-- Plans and books: their records, their bytes, and refusals 1 to 9.
+pub mod Event
+pub mod Plan
+pub mod Load
+pub mod Book

@@ -1,0 +1,131 @@
+-- "The book: contents, then bodies", and refusals 1 to 9 in order. Assumes nothing.
+use mathlib.Core.Bool.{Bool, not, _||_}
+use mathlib.Core.List.{List, [], _∷_, _++_}
+use Prim.Native.Nat.{ℕ, zero, suc, _+_, _*_, _/_}
+use lib.Dec.{eqb, ltb}
+use lib.ListN.{length, drop}
+use Rattle.rules.specs.Numbers.Capacity.{maxTasks, maxLocks, maxUses, maxEvents}
+use Rattle.rules.specs.Numbers.Choice.{if_then_else_}
+use Rattle.rules.specs.Numbers.Place.{at, tabulate}
+use Rattle.rules.specs.Numbers.Refusal.{Check, firstFault}
+use Rattle.rules.specs.Books.Event.{eventFault, eventOf}
+use Rattle.rules.specs.Books.Plan.{countFault}
+use Rattle.rules.specs.Books.Load.{loadChecks, planOf, blankPlan}
+use Rattle.rules.specs.declared.plan.Plan.{Plan}
+use Rattle.rules.specs.declared.event.Event.{Event}
+use Rattle.rules.specs.declared.answer.Verdict.{Verdict}
+use Rattle.rules.specs.declared.answer.Found.{Found}
+use Rattle.rules.specs.declared.answer.Checked.{Checked}
+use Rattle.rules.specs.declared.refusal.Refusal.{Refusal}
+use Rattle.rules.specs.declared.refusal.Refusal.the-variants.{ShortBook, WrongCount, WrongLayout, WrongEvent, ShortRows}
+
+-- the little-endian numbers of two and of four bytes at place i
+abbrev pub word : List ℕ → ℕ → ℕ
+word b i = at b i + at b (i + 1) * 256
+
+abbrev pub long : List ℕ → ℕ → ℕ
+long b i = word b i + word b (i + 2) * 65536
+
+-- "four entries of 8 bytes: kind (2 bytes), record count (2), offset from the book's start (4)". The entries are 0 tasks, 1 locks, 2 uses, 3 events
+abbrev pub contents : ℕ
+contents = 32
+
+abbrev pub kindAt : List ℕ → ℕ → ℕ
+kindAt b e = word b (e * 8)
+
+abbrev pub countAt : List ℕ → ℕ → ℕ
+countAt b e = word b (e * 8 + 2)
+
+abbrev pub offsetAt : List ℕ → ℕ → ℕ
+offsetAt b e = long b (e * 8 + 4)
+
+-- a task takes 2 bytes, a lock 4, a use 2, an event 4
+unfoldable pub sizeOf : ℕ → ℕ
+sizeOf e = if eqb e 0 then 2 else if eqb e 1 then 4 else if eqb e 2 then 2 else 4
+
+-- "The bodies follow in that order, the first at 32, without gaps": where the body of entry e starts, by the counts; of entry 4 it is the end of the last body
+unfoldable pub bodyAt : List ℕ → ℕ → ℕ
+bodyAt b zero = contents
+bodyAt b (suc e) = bodyAt b e + countAt b e * sizeOf e
+
+-- "The largest book is 54,496 bytes"
+abbrev pub largestBook : ℕ
+largestBook = contents + maxTasks * 2 + maxLocks * 4 + maxUses * 2 + maxEvents * 4
+
+-- 3: a kind or offset wrong, or the end isn't the book's end
+unfoldable pub layoutFault : List ℕ → ℕ → Bool
+layoutFault b e =
+    if ltb e 4 then not (eqb (kindAt b e) (e + 1)) || not (eqb (offsetAt b e) (bodyAt b e))
+    else not (eqb (bodyAt b 4) (length b))
+
+-- the records of an entry, one number for a record of two or of four bytes
+abbrev pub wordsAt : List ℕ → ℕ → List ℕ
+wordsAt b e = tabulate (countAt b e) (λ i. word b (bodyAt b e + i * 2))
+
+abbrev pub longsAt : List ℕ → ℕ → List ℕ
+longsAt b e = tabulate (countAt b e) (λ i. long b (bodyAt b e + i * 4))
+
+abbrev pub tasksOf : List ℕ → List ℕ
+tasksOf b = wordsAt b 0
+
+abbrev pub locksOf : List ℕ → List ℕ
+locksOf b = longsAt b 1
+
+abbrev pub usesOf : List ℕ → List ℕ
+usesOf b = wordsAt b 2
+
+-- the event body, where it lies
+abbrev pub eventBody : List ℕ → List ℕ
+eventBody b = drop (bodyAt b 3) b
+
+-- "Event, 4 bytes: kind, id, amount (2)": the event of record k of a body, and whether it is refused
+abbrev pub recordFault : List ℕ → ℕ → Bool
+recordFault body k = eventFault (at body (k * 4)) (at body (k * 4 + 1)) (word body (k * 4 + 2))
+
+abbrev pub recordEvent : List ℕ → ℕ → Event
+recordEvent body k = eventOf (at body (k * 4)) (at body (k * 4 + 1)) (word body (k * 4 + 2))
+
+abbrev pub eventsOf : List ℕ → List Event
+eventsOf b = tabulate (countAt b 3) (recordEvent (eventBody b))
+
+-- "A reader walks the event body where it lies in the lent book, one record at a time": what stands at record k
+unfoldable pub foundAt : List ℕ → ℕ → Found
+foundAt body k =
+    if ltb k (length body / 4) then (if recordFault body k then Found.Refused WrongEvent k else Found.Got (recordEvent body k) (k + 1))
+    else Found.End
+
+abbrev pub planIn : List ℕ → Plan
+planIn b = planOf (tasksOf b) (locksOf b) (usesOf b)
+
+-- 1 (place 0), 2 (the entry, 1 to 4), 3 (the entry, or 5 for the end)
+unfoldable pub contentsChecks : List ℕ → List Check
+contentsChecks b =
+    (record { refusal = ShortBook; first = 0; count = 1; fault = λ _. ltb (length b) contents })
+    ∷ (record { refusal = WrongCount; first = 1; count = 4; fault = λ e. countFault e (countAt b e) })
+    ∷ (record { refusal = WrongLayout; first = 1; count = 5; fault = layoutFault b })
+    ∷ []
+
+-- 8 (the event), 9 (place 0): four bytes of row space for each event
+unfoldable pub eventChecks : List ℕ → ℕ → List Check
+eventChecks b room =
+    (record { refusal = WrongEvent; first = 0; count = countAt b 3; fault = recordFault (eventBody b) })
+    ∷ (record { refusal = ShortRows; first = 0; count = 1; fault = λ _. ltb room (countAt b 3 * 4) })
+    ∷ []
+
+-- "1 to 9 are tested in that order, each with the place of its first offender"
+unfoldable pub checkOf : List ℕ → ℕ → Verdict
+checkOf b room = firstFault (contentsChecks b ++ (loadChecks (tasksOf b) (locksOf b) (usesOf b) ++ eventChecks b room))
+
+-- what a book gives: its plan, and the place of its event body; a blank plan and 0 beside a refusal
+abbrev pub passedCheck : Plan → ℕ → Checked
+passedCheck p events = record { verdict = Verdict.Passed; plan = p; events = events }
+
+abbrev pub refusedCheck : Refusal → ℕ → Checked
+refusedCheck why place = record { verdict = Verdict.Refused why place; plan = blankPlan; events = 0 }
+
+unfoldable pub checkedAs : Verdict → List ℕ → Checked
+checkedAs Verdict.Passed b = passedCheck (planIn b) (bodyAt b 3)
+checkedAs (Verdict.Refused why place) b = refusedCheck why place
+
+abbrev pub checkedOf : List ℕ → ℕ → Checked
+checkedOf b room = checkedAs (checkOf b room) b

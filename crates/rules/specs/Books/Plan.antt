@@ -1,0 +1,61 @@
+-- What a plan must obey (01, "The recorder's plan", and refusals 2 and 4 to 7). Assumes nothing.
+use mathlib.Core.Path.{_≡_}
+use mathlib.Core.Bool.{Bool, false, not, _&&_, _||_}
+use Prim.Native.Nat.{ℕ, _≤_, _<_, _^_}
+use lib.Dec.{eqb, ltb}
+use Rattle.rules.specs.Numbers.Capacity.{maxTasks, maxLocks, maxUses, maxEvents}
+use Rattle.rules.specs.Numbers.Choice.{if_then_else_}
+use Rattle.rules.specs.Numbers.Place.{at, count, greatest}
+use Rattle.rules.specs.Numbers.Mask.{hasBit}
+use Rattle.rules.specs.declared.plan.Plan.{Plan}
+
+-- the most records that an entry may have; the entries are 0 tasks, 1 locks, 2 uses, 3 events
+unfoldable pub most : ℕ → ℕ
+most e = if eqb e 0 then maxTasks else if eqb e 1 then maxLocks else if eqb e 2 then maxUses else maxEvents
+
+-- 2: a count out of range. There is at least one task
+unfoldable pub countFault : ℕ → ℕ → Bool
+countFault e n = (eqb e 0 && eqb n 0) || ltb (most e) n
+
+-- 4: a task with base 0 or second byte not 0
+unfoldable pub taskFault : ℕ → ℕ → Bool
+taskFault base second = eqb base 0 || not (eqb second 0)
+
+-- 5: a lock with ceiling 0, second byte not 0, or limit 0
+unfoldable pub lockFault : ℕ → ℕ → ℕ → Bool
+lockFault ceiling second limit = eqb ceiling 0 || not (eqb second 0) || eqb limit 0
+
+-- the plan lets task x take lock l
+unfoldable pub declares : Plan → ℕ → ℕ → Bool
+declares p x l = hasBit (at (p .uses) x) l
+
+-- how many users a lock has, and the greatest base among them
+unfoldable pub users : Plan → ℕ → ℕ
+users p l = count (λ x. declares p x l) (p .tasks)
+
+unfoldable pub usersBase : Plan → ℕ → ℕ
+usersBase p l = greatest (λ x. if declares p x l then at (p .base) x else 0) (p .tasks)
+
+-- 7: a lock without users, or its ceiling isn't the greatest base
+unfoldable pub ceilingFault : Plan → ℕ → Bool
+ceilingFault p l = eqb (users p l) 0 || not (eqb (at (p .ceiling) l) (usersBase p l))
+
+-- a plan obeys 2 and 4 to 7
+pub record Obeys (p : Plan) : Type 0 where
+  -- 2: 1 to 96 tasks, 0 to 32 locks
+  pub tasks : countFault 0 (p .tasks) ≡ false
+  pub locks : countFault 1 (p .locks) ≡ false
+  -- 4: a base of 1 to 255
+  pub bases : (t : ℕ) → t < p .tasks → taskFault (at (p .base) t) 0 ≡ false
+  pub baseBytes : (t : ℕ) → at (p .base) t < 2 ^ 8
+  -- 5: a ceiling of 1 to 255, and a limit of 1 to 65,535 units
+  pub sections : (l : ℕ) → l < p .locks → lockFault (at (p .ceiling) l) 0 (at (p .limit) l) ≡ false
+  pub ceilingBytes : (l : ℕ) → at (p .ceiling) l < 2 ^ 8
+  pub limitBytes : (l : ℕ) → at (p .limit) l < 2 ^ 16
+  -- 6: a use names a lock of the plan
+  pub uses : (t : ℕ) → t < p .tasks → at (p .uses) t < 2 ^ p .locks
+  -- 7: a lock has users, and its ceiling is the greatest base among them
+  pub ceilings : (l : ℕ) → l < p .locks → ceilingFault p l ≡ false
+  -- places past the last task and the last lock hold 0
+  pub noTask : (t : ℕ) → p .tasks ≤ t → (at (p .base) t ≡ 0) × (at (p .uses) t ≡ 0)
+  pub noLock : (l : ℕ) → p .locks ≤ l → (at (p .ceiling) l ≡ 0) × (at (p .limit) l ≡ 0)

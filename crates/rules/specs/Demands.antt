@@ -1,0 +1,8 @@
+-- What is promised: the history of a list, jobs, bounds, the demands, what is said of a replay, and the crane plan's runs.
+pub mod Bound
+pub mod History
+pub mod Job
+pub mod Demand2
+pub mod Demand3
+pub mod Replayed
+pub mod Crane

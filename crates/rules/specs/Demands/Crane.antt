@@ -1,0 +1,170 @@
+-- The crane plan and its runs P1 to P12, as one table under one claim. Assumes nothing.
+use mathlib.Core.Bool.{Bool, true, false, _&&_}
+use mathlib.Core.List.{List, [], _∷_}
+use Prim.Native.Nat.{ℕ, suc}
+use lib.Dec.{T, eqb}
+use lib.ListN.{length, replicate, take}
+use Rattle.rules.specs.Numbers.Choice.{if_then_else_, allTrue}
+use Rattle.rules.specs.Numbers.Place.{every, any, count, greatest, firstFrom, from, tabulate, renewed, zeros}
+use Rattle.rules.specs.Numbers.Refusal.{numberOf, firstTrue, found, firstFault}
+use Rattle.rules.specs.Numbers.Answer.{verdictNumber}
+use Rattle.rules.specs.Books.Event.{eventFault, eventOf}
+use Rattle.rules.specs.Numbers.Mask.{hasBit, withBit}
+use Rattle.rules.specs.Books.Plan.{most, countFault, taskFault, lockFault, declares, users, usersBase, ceilingFault}
+use Rattle.rules.specs.Books.Load.{taskFaultAt, lockFaultAt, countFaultOf, useFault, masksOf, planOf, recordChecks, loadChecks}
+use Rattle.rules.specs.Books.Book.{sizeOf, bodyAt, layoutFault, contentsChecks, eventChecks, checkOf}
+use Rattle.rules.specs.Schedulers.State.{freshOf}
+use Rattle.rules.specs.Numbers.Row.{has, priority, saves}
+use Rattle.rules.specs.Schedulers.Figures.{holds, priorityOf, rankOf}
+use Rattle.rules.specs.Schedulers.Elect.{earlier, earliest, elected}
+use Rattle.rules.specs.Schedulers.EventRefusals.{elsewhere, notNewest, pastLimit, testsOf, releaseOrder, acquireOrder, unlockOrder, workOrder, finishOrder, refusalOf}
+use Rattle.rules.specs.Schedulers.FiguresAfter.{eagerCalls, charged, delayed, figuresAfter}
+use Rattle.rules.specs.Schedulers.Eager.{runningOf, settle, eagerTest, eagerStep}
+use Rattle.rules.specs.Schedulers.Lazy.{callsFor, runsOn, switched, waits, afterRelease, afterAcquire, restored, afterUnlock, wordsAfter, lazyCall}
+use Rattle.rules.specs.Soundness.Sound.{keptOf, savedOf, ownerOf}
+use Rattle.rules.specs.Soundness.SoundTest.{taskObeys, lockObeys, spareObeys, obeys, rowTest, ownTest, numberNew, numberTest, taskTest, lockTest, runsTest, headTest, spareTest, soundTest}
+use Rattle.rules.specs.Replays.Step.{afterOf, answered, actOf, stepOf}
+use Rattle.rules.specs.Replays.Run.{withRow, onward, runFrom}
+use Rattle.rules.specs.Replays.Replay.{replayAs, replayOf}
+use Rattle.rules.specs.Demands.History.{eagerAt, lazyAt, runnerAt}
+use Rattle.rules.specs.Demands.Bound.{lowerAt, lowerUser, mayBlock, limitIf, longestLimit, boundOf}
+use Rattle.rules.specs.declared.plan.Plan.{Plan}
+use Rattle.rules.specs.declared.state.State.{State}
+use Rattle.rules.specs.declared.event.Event.{Event}
+use Rattle.rules.specs.declared.event.Event.the-variants.{Release, Acquire, Unlock, Work, Finish}
+use Rattle.rules.specs.declared.answer.Answer.{Answer}
+
+-- Tasks 0 to 3 have bases 1, 3, 5, 7. Lock 0: ceiling 5, limit 4, users 0 and 2. Lock 1: ceiling 3, limit 10, users 0 and 1.
+crane : Plan
+crane = planOf (1 ∷ 3 ∷ 5 ∷ 7 ∷ []) (0x4_0005 ∷ 0xa_0003 ∷ []) (0x0000 ∷ 0x0100 ∷ 0x0101 ∷ 0x0002 ∷ [])
+
+-- the book of P1: contents, tasks, locks, uses, events
+book : List ℕ
+book =
+    1 ∷ 0 ∷ 4 ∷ 0 ∷ 32 ∷ 0 ∷ 0 ∷ 0
+    ∷ 2 ∷ 0 ∷ 2 ∷ 0 ∷ 40 ∷ 0 ∷ 0 ∷ 0
+    ∷ 3 ∷ 0 ∷ 4 ∷ 0 ∷ 48 ∷ 0 ∷ 0 ∷ 0
+    ∷ 4 ∷ 0 ∷ 7 ∷ 0 ∷ 56 ∷ 0 ∷ 0 ∷ 0
+    ∷ 1 ∷ 0 ∷ 3 ∷ 0 ∷ 5 ∷ 0 ∷ 7 ∷ 0
+    ∷ 5 ∷ 0 ∷ 4 ∷ 0 ∷ 3 ∷ 0 ∷ 10 ∷ 0
+    ∷ 0 ∷ 0 ∷ 0 ∷ 1 ∷ 1 ∷ 1 ∷ 2 ∷ 0
+    ∷ 1 ∷ 0 ∷ 0 ∷ 0
+    ∷ 2 ∷ 0 ∷ 0 ∷ 0
+    ∷ 1 ∷ 1 ∷ 0 ∷ 0
+    ∷ 4 ∷ 0 ∷ 2 ∷ 0
+    ∷ 3 ∷ 0 ∷ 0 ∷ 0
+    ∷ 5 ∷ 0 ∷ 0 ∷ 0
+    ∷ 5 ∷ 0 ∷ 0 ∷ 0
+    ∷ []
+
+-- a case of the table
+data Case : Type 0 where
+  -- a list of events from a fresh start; a row for each (running, user, next, call), or the number of the refusal that ends the run; and the end
+  run : List Event → List (List ℕ) → List ℕ → Case
+  -- the bounds of the four tasks
+  bounds : List ℕ → Case
+  -- a book, its row bytes, and the end
+  replay : List ℕ → List ℕ → List ℕ → Case
+
+-- the end: the running task, the user and the next word, lazy and eager calls, and the delays of the four tasks
+endOf : State → List ℕ
+endOf s = s .head .running ∷ s .head .user .0 ∷ s .head .next .0 ∷ s .head .lazy ∷ s .head .eager ∷ take 4 (s .delay)
+
+rowOf : Answer → State → (State → List (List ℕ)) → List (List ℕ)
+rowOf (Answer.Accepted call) s rest = (s .head .running ∷ s .head .user .0 ∷ s .head .next .0 ∷ (if call then 1 else 0) ∷ []) ∷ rest s
+rowOf (Answer.Refused why) s rest = (numberOf why ∷ []) ∷ []
+
+rowsOf : State → List Event → List (List ℕ)
+rowsOf s [] = []
+rowsOf s (e ∷ es) = rowOf (stepOf crane s e .answer) (stepOf crane s e .state) (λ t. rowsOf t es)
+
+same : List ℕ → List ℕ → Bool
+same [] [] = true
+same [] (y ∷ ys) = false
+same (x ∷ xs) [] = false
+same (x ∷ xs) (y ∷ ys) = eqb x y && same xs ys
+
+sames : List (List ℕ) → List (List ℕ) → Bool
+sames [] [] = true
+sames [] (y ∷ ys) = false
+sames (x ∷ xs) [] = false
+sames (x ∷ xs) (y ∷ ys) = same x y && sames xs ys
+
+-- the running task of the one scheduler is that of the other at place k
+agree : List Event → ℕ → Bool
+agree es k = eqb (lazyAt crane es k .head .running) (runnerAt crane es k)
+
+right : Case → Bool
+right (run es rows end) = sames (rowsOf freshOf es) rows && same (endOf (lazyAt crane es (length es))) end && every (agree es) (suc (length es))
+right (bounds bs) = same (tabulate 4 (boundOf crane)) bs
+right (replay b rows end) =
+    let r = replayOf b (replicate (length rows) 0) in eqb (verdictNumber (r .verdict)) 0 && same (r .rows) rows && same (endOf (r .state)) end
+
+all : List Case → Bool
+all [] = true
+all (c ∷ cs) = right c && all cs
+
+cases : List Case
+cases =
+    -- P1, as a book of 84 bytes and as a run: calls 1 2, delayed 0 2 0 0
+    replay book
+    (0 ∷ 1 ∷ 0 ∷ 0 ∷ 0 ∷ 5 ∷ 0 ∷ 0 ∷ 0 ∷ 5 ∷ 3 ∷ 0 ∷ 0 ∷ 5 ∷ 3 ∷ 0 ∷ 1 ∷ 3 ∷ 1 ∷ 1 ∷ 0 ∷ 1 ∷ 0 ∷ 0 ∷ 255 ∷ 0 ∷ 0 ∷ 0 ∷ [])
+    (255 ∷ 0 ∷ 0 ∷ 1 ∷ 2 ∷ 0 ∷ 2 ∷ 0 ∷ 0 ∷ [])
+    ∷ run (Release 0 ∷ Acquire 0 ∷ Release 1 ∷ Work 2 ∷ Unlock 0 ∷ Finish ∷ Finish ∷ [])
+    ((0 ∷ 1 ∷ 0 ∷ 0 ∷ []) ∷ (0 ∷ 5 ∷ 0 ∷ 0 ∷ []) ∷ (0 ∷ 5 ∷ 3 ∷ 0 ∷ []) ∷ (0 ∷ 5 ∷ 3 ∷ 0 ∷ []) ∷ (1 ∷ 3 ∷ 1 ∷ 1 ∷ []) ∷ (0 ∷ 1 ∷ 0 ∷ 0 ∷ [])
+    ∷ (255 ∷ 0 ∷ 0 ∷ 0 ∷ []) ∷ [])
+    (255 ∷ 0 ∷ 0 ∷ 1 ∷ 2 ∷ 0 ∷ 2 ∷ 0 ∷ 0 ∷ [])
+    -- P2: restored 3, next 3, no call, 0 runs; then one call, 1 runs
+    ∷ run (Release 0 ∷ Acquire 1 ∷ Acquire 0 ∷ Release 1 ∷ Unlock 0 ∷ Unlock 1 ∷ [])
+    ((0 ∷ 1 ∷ 0 ∷ 0 ∷ []) ∷ (0 ∷ 3 ∷ 0 ∷ 0 ∷ []) ∷ (0 ∷ 5 ∷ 0 ∷ 0 ∷ []) ∷ (0 ∷ 5 ∷ 3 ∷ 0 ∷ []) ∷ (0 ∷ 3 ∷ 3 ∷ 0 ∷ []) ∷ (1 ∷ 3 ∷ 1 ∷ 1 ∷ []) ∷ [])
+    (1 ∷ 3 ∷ 1 ∷ 1 ∷ 4 ∷ 0 ∷ 0 ∷ 0 ∷ 0 ∷ [])
+    -- P3: 0 runs, words 5 and 5; then call, 2 runs
+    ∷ run (Release 0 ∷ Acquire 0 ∷ Release 2 ∷ Unlock 0 ∷ [])
+    ((0 ∷ 1 ∷ 0 ∷ 0 ∷ []) ∷ (0 ∷ 5 ∷ 0 ∷ 0 ∷ []) ∷ (0 ∷ 5 ∷ 5 ∷ 0 ∷ []) ∷ (2 ∷ 5 ∷ 1 ∷ 1 ∷ []) ∷ [])
+    (2 ∷ 5 ∷ 1 ∷ 1 ∷ 2 ∷ 0 ∷ 0 ∷ 0 ∷ 0 ∷ [])
+    -- P4: 3 runs; then 0 runs, not 2
+    ∷ run (Release 0 ∷ Acquire 0 ∷ Release 2 ∷ Release 3 ∷ Finish ∷ [])
+    ((0 ∷ 1 ∷ 0 ∷ 0 ∷ []) ∷ (0 ∷ 5 ∷ 0 ∷ 0 ∷ []) ∷ (0 ∷ 5 ∷ 5 ∷ 0 ∷ []) ∷ (3 ∷ 7 ∷ 5 ∷ 0 ∷ []) ∷ (0 ∷ 5 ∷ 5 ∷ 0 ∷ []) ∷ [])
+    (0 ∷ 5 ∷ 5 ∷ 0 ∷ 1 ∷ 0 ∷ 0 ∷ 0 ∷ 0 ∷ [])
+    -- P5: work 4 is accepted, and work 1 refused 21
+    ∷ run (Release 0 ∷ Acquire 0 ∷ Work 4 ∷ Work 1 ∷ [])
+    ((0 ∷ 1 ∷ 0 ∷ 0 ∷ []) ∷ (0 ∷ 5 ∷ 0 ∷ 0 ∷ []) ∷ (0 ∷ 5 ∷ 0 ∷ 0 ∷ []) ∷ (21 ∷ []) ∷ [])
+    (0 ∷ 5 ∷ 0 ∷ 0 ∷ 1 ∷ 0 ∷ 0 ∷ 0 ∷ 0 ∷ [])
+    -- P6
+    ∷ run (Release 0 ∷ Acquire 1 ∷ Acquire 0 ∷ Unlock 1 ∷ [])
+    ((0 ∷ 1 ∷ 0 ∷ 0 ∷ []) ∷ (0 ∷ 3 ∷ 0 ∷ 0 ∷ []) ∷ (0 ∷ 5 ∷ 0 ∷ 0 ∷ []) ∷ (19 ∷ []) ∷ [])
+    (0 ∷ 5 ∷ 0 ∷ 0 ∷ 2 ∷ 0 ∷ 0 ∷ 0 ∷ 0 ∷ [])
+    -- P7
+    ∷ run (Release 0 ∷ Acquire 0 ∷ Finish ∷ [])
+    ((0 ∷ 1 ∷ 0 ∷ 0 ∷ []) ∷ (0 ∷ 5 ∷ 0 ∷ 0 ∷ []) ∷ (22 ∷ []) ∷ [])
+    (0 ∷ 5 ∷ 0 ∷ 0 ∷ 1 ∷ 0 ∷ 0 ∷ 0 ∷ 0 ∷ [])
+    -- P8
+    ∷ run (Release 0 ∷ Release 0 ∷ [])
+    ((0 ∷ 1 ∷ 0 ∷ 0 ∷ []) ∷ (14 ∷ []) ∷ [])
+    (0 ∷ 1 ∷ 0 ∷ 0 ∷ 0 ∷ 0 ∷ 0 ∷ 0 ∷ 0 ∷ [])
+    -- P9
+    ∷ run (Release 1 ∷ Acquire 0 ∷ [])
+    ((1 ∷ 3 ∷ 0 ∷ 0 ∷ []) ∷ (15 ∷ []) ∷ [])
+    (1 ∷ 3 ∷ 0 ∷ 0 ∷ 0 ∷ 0 ∷ 0 ∷ 0 ∷ 0 ∷ [])
+    -- P10: no events: nobody, words 0 and 0
+    ∷ run [] [] (255 ∷ 0 ∷ 0 ∷ 0 ∷ 0 ∷ 0 ∷ 0 ∷ 0 ∷ 0 ∷ [])
+    -- P11
+    ∷ bounds (0 ∷ 10 ∷ 4 ∷ 0 ∷ [])
+    -- P12: task 1's delay is 10; work 1 is refused 21
+    ∷ run (Release 0 ∷ Acquire 1 ∷ Release 1 ∷ Work 10 ∷ Work 1 ∷ [])
+    ((0 ∷ 1 ∷ 0 ∷ 0 ∷ []) ∷ (0 ∷ 3 ∷ 0 ∷ 0 ∷ []) ∷ (0 ∷ 3 ∷ 3 ∷ 0 ∷ []) ∷ (0 ∷ 3 ∷ 3 ∷ 0 ∷ []) ∷ (21 ∷ []) ∷ [])
+    (0 ∷ 3 ∷ 3 ∷ 0 ∷ 1 ∷ 0 ∷ 10 ∷ 0 ∷ 0 ∷ [])
+    ∷ []
+
+table : T (all cases)
+unfolding crane book endOf rowOf rowsOf same sames agree right all cases
+    if_then_else_ allTrue every any count greatest firstFrom from renewed zeros numberOf firstTrue found firstFault verdictNumber eventFault eventOf hasBit
+    withBit
+    most countFault taskFault lockFault declares users usersBase ceilingFault taskFaultAt lockFaultAt countFaultOf useFault masksOf planOf recordChecks
+    loadChecks sizeOf bodyAt layoutFault contentsChecks eventChecks checkOf
+    has priority saves holds priorityOf rankOf earlier earliest elected elsewhere notNewest pastLimit testsOf releaseOrder acquireOrder unlockOrder workOrder
+    finishOrder refusalOf eagerCalls charged delayed figuresAfter runningOf settle eagerTest eagerStep
+    callsFor runsOn switched waits afterRelease afterAcquire restored afterUnlock wordsAfter lazyCall keptOf savedOf ownerOf
+    taskObeys lockObeys spareObeys obeys rowTest ownTest numberNew numberTest taskTest lockTest runsTest headTest spareTest soundTest
+    afterOf answered actOf stepOf withRow onward runFrom replayAs replayOf eagerAt lazyAt lowerAt lowerUser mayBlock limitIf longestLimit
+table = tt

@@ -1,0 +1,103 @@
+-- Demands 2 and 3, said of what the replay of a book returns: its rows, its verdict and its state. Assumes nothing.
+use mathlib.Core.Path.{_≡_}
+use mathlib.Core.Logic.{_≢_, _↔_}
+use mathlib.Core.Bool.{true}
+use mathlib.Core.List.{List}
+use Prim.Native.Nat.{ℕ, suc, _+_, _*_, _≤_, _<_}
+use lib.ListN.{length}
+use Rattle.rules.specs.Numbers.Capacity.{nobody}
+use Rattle.rules.specs.Numbers.Place.{at}
+use Rattle.rules.specs.Numbers.Refusal.{numberOf}
+use Rattle.rules.specs.Numbers.Answer.{testedNumber}
+use Rattle.rules.specs.Books.Book.{planIn, eventsOf, checkOf}
+use Rattle.rules.specs.Schedulers.State.{freshOf}
+use Rattle.rules.specs.Schedulers.Figures.{figuresOf, holds, rankOf}
+use Rattle.rules.specs.Schedulers.Eager.{eagerTest}
+use Rattle.rules.specs.Replays.Run.{Ran}
+use Rattle.rules.specs.Replays.Replay.{replayOf}
+use Rattle.rules.specs.Demands.Bound.{boundOf}
+use Rattle.rules.specs.Demands.History.{eventAt, eagerAt, lazyAt, runnerAt, acceptedAt, callsDue, lazyCount, eagerCount, delayCount}
+use Rattle.rules.specs.Demands.Job.{Accepted, Does, Job, lowerTotal}
+use Rattle.rules.specs.Demands.Demand2.{Foremost, NextWord, Outranked}
+use Rattle.rules.specs.Demands.Demand3.{Demand3}
+use Rattle.rules.specs.declared.plan.Plan.{Plan}
+use Rattle.rules.specs.declared.refusal.Refusal.{Refusal}
+use Rattle.rules.specs.declared.answer.Verdict.{Verdict}
+use Rattle.rules.specs.declared.event.Event.{Event}
+use Rattle.rules.specs.declared.event.Event.the-variants.{Release, Acquire, Unlock, Finish}
+
+-- "They return no state and leave the rows untouched": what is returned for a refusal of 1 to 9, with row space `rows`
+pub record Untouched (rows : List ℕ) (ran : Ran) (why : Refusal) (place : ℕ) : Type 0 where
+  pub verdict : ran .verdict ≡ Verdict.Refused why place
+  pub state : ran .state ≡ freshOf
+  pub bytes : ran .rows ≡ rows
+
+-- "a row of four bytes is written: running task (255 for nobody), user word, next word, 1 for a lazy call or else 0": the row of the event at place k
+pub record RowAt (p : Plan) (es : List Event) (k : ℕ) (task user next call : ℕ) : Type 0 where
+  -- after the event the eager scheduler's task runs: the foremost one, ties to the earlier release, and nobody exactly where none is released
+  pub runs : task ≡ runnerAt p es (suc k)
+  pub foremost : task ≢ nobody → Foremost p (eagerAt p es (suc k)) task
+  pub idle : task ≡ nobody → (x : ℕ) → at (eagerAt p es (suc k) .released) x ≡ 0
+  -- the user word is its priority, 0 with nobody, and the next word the greatest of the other released tasks
+  pub own : user ≡ rankOf p (eagerAt p es (suc k)) (runnerAt p es (suc k))
+  pub others : NextWord p (eagerAt p es (suc k)) (runnerAt p es (suc k)) next
+  -- the calls are those that the rule asks for: an unlock calls the kernel exactly when another released task strictly outranks the restored
+  -- priority, and an acquire never calls
+  pub due : call ≡ callsDue p (eagerAt p es k) (eventAt es k)
+  pub once : call ≤ 1
+  pub unlock : (l : ℕ) → eventAt es k ≡ Unlock l → (call ≡ 1) ↔ Outranked p (eagerAt p es k) (runnerAt p es k) l
+  pub acquire : (l : ℕ) → eventAt es k ≡ Acquire l → call ≡ 0
+
+-- "Then events run until the first refusal: the answer names its number, its event's place from 0 and the state before it."
+-- What the run of a list from a fresh start comes to, with row space `rows`, where its state reports a accepted events
+pub record RanUpTo (p : Plan) (es : List Event) (rows : List ℕ) (ran : Ran) (a : ℕ) : Type 0 where
+  -- they are the events before place a, and the state is the one before that place
+  pub within : a ≤ length es
+  pub accepted : (k : ℕ) → k < a → acceptedAt p es k ≡ true
+  pub state : ran .state ≡ lazyAt p es a
+  -- nothing is refused exactly where these are all the events; else the event at place a is, with the number that the eager scheduler gives it,
+  -- which is neither 10 nor 17
+  pub passed : (ran .verdict ≡ Verdict.Passed) ↔ (a ≡ length es)
+  pub refused : a < length es
+      → (why : Refusal) × (ran .verdict ≡ Verdict.Refused why a) × (numberOf why ≡ testedNumber (eagerTest p (eagerAt p es a) (eventAt es a)))
+      × (numberOf why ≢ 10) × (numberOf why ≢ 17)
+  -- each accepted event has its row, and all other row bytes stay
+  pub written : (k : ℕ) → k < a → RowAt p es k (at (ran .rows) (k * 4)) (at (ran .rows) (k * 4 + 1)) (at (ran .rows) (k * 4 + 2)) (at (ran .rows) (k * 4 + 3))
+  pub stay : (i : ℕ) → a * 4 ≤ i → at (ran .rows) i ≡ at rows i
+  pub size : length (ran .rows) ≡ length rows
+  -- no lock has two holders; both call counts are the history's
+  pub oneHolder : (x y l : ℕ) → holds (figuresOf (ran .state)) x l ≡ true → holds (figuresOf (ran .state)) y l ≡ true → x ≡ y
+  pub lazy : ran .state .head .lazy ≡ lazyCount p es a
+  pub eager : ran .state .head .eager ≡ eagerCount p es a
+  -- demand 3 holds of every job; each delay is the history's count, and never passes the bound
+  pub jobs : (t i : ℕ) → Accepted p es i (Release t) → Demand3 p es t i
+  pub delays : (t : ℕ) → at (ran .state .delay) t ≡ delayCount p es t a
+  pub bounded : (t : ℕ) → at (ran .state .delay) t ≤ boundOf p t
+  -- the delay of a job that goes on at the end is the work of lower tasks in it so far; of one that finished at place k, and whose task was not
+  -- released again, that work up to its finish
+  pub counted : (t i : ℕ) → Job p es t i a → at (ran .state .delay) t ≡ lowerTotal p es t i a
+  pub reported : (t i k : ℕ) → Job p es t i k → Does p es k t Finish → k < a → ((j : ℕ) → k < j → j < a → Accepted p es j (Release t) → ⊥)
+      → at (ran .state .delay) t ≡ lowerTotal p es t i k
+
+-- the run of a list is accepted whole, t's job goes on at its end, and the delay that is reported is the bound
+pub record Reaches (p : Plan) (es : List Event) (t : ℕ) (ran : Ran) : Type 0 where
+  pub verdict : ran .verdict ≡ Verdict.Passed
+  pub released : ℕ
+  pub job : Job p es t released (length es)
+  pub delay : at (ran .state .delay) t ≡ boundOf p t
+
+-- "for every task some list reaches that limit": some book with the plan of b, and of bytes where b is, whose replay with enough row space reaches it
+pub record BookReaches (b : List ℕ) (t : ℕ) : Type 0 where
+  pub book : List ℕ
+  pub plan : planIn book ≡ planIn b
+  pub bytes : ((i : ℕ) → at b i < 256) → (i : ℕ) → at book i < 256
+  pub replay : (rows : List ℕ) → length (eventsOf book) * 4 ≤ length rows → Reaches (planIn b) (eventsOf book) t (replayOf book rows)
+
+-- what is promised of the replay of a book b with row space `rows`
+pub record Promised (b rows : List ℕ) : Type 0 where
+  -- 1 to 9 in order, each with its place
+  pub untouched : (why : Refusal) (place : ℕ) → checkOf b (length rows) ≡ Verdict.Refused why place → Untouched rows (replayOf b rows) why place
+  -- or its events run; the state says how many were accepted
+  pub ran : checkOf b (length rows) ≡ Verdict.Passed → RanUpTo (planIn b) (eventsOf b) rows (replayOf b rows) (replayOf b rows .state .head .accepted)
+  -- and the bound of every task of its plan is reached
+  pub reached : checkOf b (length rows) ≡ Verdict.Passed → (t : ℕ) → t < planIn b .tasks → BookReaches b t

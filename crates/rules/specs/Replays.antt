@@ -1,0 +1,4 @@
+-- A single step, the run of a list of events, and the replay of a book.
+pub mod Step
+pub mod Run
+pub mod Replay

@@ -1,0 +1,23 @@
+-- The replay of a book: 1 to 9 first, leaving the rows untouched; then its events from a fresh start. Assumes nothing.
+use mathlib.Core.List.{List}
+use Prim.Native.Nat.{ℕ}
+use lib.ListN.{length}
+use Rattle.rules.specs.Schedulers.State.{freshOf}
+use Rattle.rules.specs.Books.Book.{planIn, eventsOf, checkOf}
+use Rattle.rules.specs.Replays.Run.{Ran, runFrom}
+use Rattle.rules.specs.declared.plan.Plan.{Plan}
+use Rattle.rules.specs.declared.event.Event.{Event}
+use Rattle.rules.specs.declared.answer.Verdict.{Verdict}
+use Rattle.rules.specs.declared.answer.Replayed.{Replayed}
+
+-- what a refusal of 1 to 9 leaves: no state but the fresh one, and the rows as they were
+unfoldable pub replayAs : Verdict → Plan → List Event → List ℕ → Ran
+replayAs Verdict.Passed p es rows = runFrom p es 0 freshOf rows
+replayAs (Verdict.Refused why place) p es rows = record { verdict = Verdict.Refused why place; state = freshOf; rows = rows }
+
+unfoldable pub replayOf : List ℕ → List ℕ → Ran
+replayOf b rows = replayAs (checkOf b (length rows)) (planIn b) (eventsOf b) rows
+
+-- the answer of a replay and the row bytes that it leaves, as one
+abbrev pub ranAs : Replayed → List ℕ → Ran
+ranAs r rows = record { verdict = r .verdict; state = r .state; rows = rows }

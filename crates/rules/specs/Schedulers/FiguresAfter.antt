@@ -1,0 +1,96 @@
+-- What an accepted event makes of the figures, with task r running. Both schedulers use it. Assumes nothing.
+use mathlib.Core.Bool.{_&&_}
+use Prim.Native.Nat.{ℕ, _+_, _-_, min}
+use lib.Dec.{ltb}
+use lib.ListN.{set}
+use Rattle.rules.specs.Numbers.Capacity.{maxDelay}
+use Rattle.rules.specs.Numbers.Choice.{if_then_else_}
+use Rattle.rules.specs.Numbers.Place.{at, renewed}
+use Rattle.rules.specs.Numbers.Row.{under, pushed}
+use Rattle.rules.specs.Schedulers.Figures.{Figures, holds}
+use Rattle.rules.specs.declared.plan.Plan.{Plan}
+use Rattle.rules.specs.declared.event.Event.{Event}
+use Rattle.rules.specs.declared.event.Event.the-variants.{Release, Acquire, Unlock, Work, Finish, Tick}
+
+-- "Eager calls: one for each accepted acquire and one for each accepted unlock"
+unfoldable pub eagerCalls : Event → ℕ
+eagerCalls (Release t) = 0
+eagerCalls (Acquire l) = 1
+eagerCalls (Unlock l) = 1
+eagerCalls (Work a) = 0
+eagerCalls Finish = 0
+eagerCalls Tick = 0
+
+-- "Work adds its amount to every open section of the running task": the units of lock l after it
+unfoldable pub charged : Figures → ℕ → ℕ → ℕ → ℕ
+charged f r a l = if holds f r l then at (f .units) l + a else at (f .units) l
+
+-- the delay of task t after a units by task r: they count where t is released and of strictly greater base
+unfoldable pub delayed : Plan → Figures → ℕ → ℕ → ℕ → ℕ
+delayed p f r a t = if ltb 0 (at (f .released) t) && ltb (at (p .base) r) (at (p .base) t) then min maxDelay (at (f .delay) t + a) else at (f .delay) t
+
+unfoldable pub figuresAfter : Plan → Figures → ℕ → Event → Figures
+-- the release number is the number of the event among accepted events, and the delay starts anew
+figuresAfter p f r (Release t) =
+    record {
+      accepted = f .accepted + 1;
+      eager = f .eager + eagerCalls (Release t);
+      released = set (f .released) t (f .accepted + 1);
+      delay = set (f .delay) t 0;
+      depth = f .depth;
+      takes = f .takes;
+      units = f .units;
+    }
+figuresAfter p f r (Acquire l) =
+    record {
+      accepted = f .accepted + 1;
+      eager = f .eager + eagerCalls (Acquire l);
+      released = f .released;
+      delay = f .delay;
+      depth = set (f .depth) r (at (f .depth) r + 1);
+      takes = set (f .takes) r (pushed (at (f .takes) r) l);
+      units = f .units;
+    }
+-- a section's count goes back to 0 when it ends
+figuresAfter p f r (Unlock l) =
+    record {
+      accepted = f .accepted + 1;
+      eager = f .eager + eagerCalls (Unlock l);
+      released = f .released;
+      delay = f .delay;
+      depth = set (f .depth) r (at (f .depth) r - 1);
+      takes = set (f .takes) r (under (at (f .takes) r));
+      units = set (f .units) l 0;
+    }
+figuresAfter p f r (Work a) =
+    record {
+      accepted = f .accepted + 1;
+      eager = f .eager + eagerCalls (Work a);
+      released = f .released;
+      delay = renewed (f .delay) (delayed p f r a) (p .tasks);
+      depth = f .depth;
+      takes = f .takes;
+      units = renewed (f .units) (charged f r a) (p .locks);
+    }
+-- the finished task has no lock open, so its release number is all that is left to clear; its delay stays
+figuresAfter p f r Finish =
+    record {
+      accepted = f .accepted + 1;
+      eager = f .eager + eagerCalls Finish;
+      released = set (f .released) r 0;
+      delay = f .delay;
+      depth = f .depth;
+      takes = f .takes;
+      units = f .units;
+    }
+-- "Tick is a kernel entry that changes nothing but the event number"
+figuresAfter p f r Tick =
+    record {
+      accepted = f .accepted + 1;
+      eager = f .eager + eagerCalls Tick;
+      released = f .released;
+      delay = f .delay;
+      depth = f .depth;
+      takes = f .takes;
+      units = f .units;
+    }

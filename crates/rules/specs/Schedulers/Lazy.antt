@@ -1,0 +1,163 @@
+-- The lazy scheduler (001, its second protocol): two words shared with the kernel, kept and saved priorities, switch and calls. Assumes nothing.
+use mathlib.Core.Path.{_≡_}
+use mathlib.Core.Bool.{Bool, false}
+use mathlib.Core.List.{List}
+use Prim.Native.Nat.{ℕ, _+_, max}
+use lib.Dec.{ltb}
+use lib.ListN.{length, set}
+use Rattle.rules.specs.Numbers.Capacity.{maxTasks, maxLocks}
+use Rattle.rules.specs.Numbers.Choice.{if_then_else_}
+use Rattle.rules.specs.Numbers.Place.{at, greatest}
+use Rattle.rules.specs.Numbers.Row.{newest, under, pushed}
+use Rattle.rules.specs.Schedulers.Figures.{Figures}
+use Rattle.rules.specs.Schedulers.Elect.{elected}
+use Rattle.rules.specs.declared.plan.Plan.{Plan}
+use Rattle.rules.specs.declared.state.State.{State}
+use Rattle.rules.specs.declared.event.Event.{Event}
+use Rattle.rules.specs.declared.event.Event.the-variants.{Release, Acquire, Unlock, Work, Finish, Tick}
+
+-- what the lazy scheduler keeps beside the figures
+pub record Words : Type 0 where
+  pub running : ℕ
+  pub user : ℕ
+  pub next : ℕ
+  pub lazy : ℕ
+  pub kept : List ℕ
+  pub saved : List ℕ
+  pub owner : List ℕ
+
+-- there is a place for every task and every lock that a plan may have
+pub record WordsSized (w : Words) : Type 0 where
+  pub kept : length (w .kept) ≡ maxTasks
+  pub saved : length (w .saved) ≡ maxTasks
+  pub owner : length (w .owner) ≡ maxLocks
+
+abbrev pub wordsOf : State → Words
+wordsOf s =
+    record {
+      running = s .head .running;
+      user = s .head .user .0;
+      next = s .head .next .0;
+      lazy = s .head .lazy;
+      kept = s .kept;
+      saved = s .saved;
+      owner = s .owner;
+    }
+
+-- the whole state of these figures and words
+abbrev pub stateOf : Figures → Words → State
+stateOf f w =
+    record {
+      head = record {
+        accepted = f .accepted;
+        running = w .running;
+        user = record { 0 = w .user };
+        next = record { 0 = w .next };
+        lazy = w .lazy;
+        eager = f .eager;
+      };
+      released = f .released;
+      kept = w .kept;
+      delay = f .delay;
+      depth = f .depth;
+      takes = f .takes;
+      saved = w .saved;
+      units = f .units;
+      owner = w .owner;
+    }
+
+-- the rule for a call: the word that an unlock puts back is strictly below the next word
+unfoldable pub callsFor : ℕ → ℕ → Bool
+callsFor back next = ltb back next
+
+-- the second word: the greatest priority of the other released tasks, which the kernel keeps
+abbrev pub secondWord : List ℕ → ℕ → ℕ
+secondWord kept n = greatest (at kept) n
+
+-- task q runs, by the kept priorities; its own is 0 until it leaves
+unfoldable pub runsOn : ℕ → List ℕ → Words → ℕ → Words
+runsOn n kept w q =
+    record {
+      running = q;
+      user = at kept q;
+      next = secondWord (set kept q 0) n;
+      lazy = w .lazy;
+      kept = set kept q 0;
+      saved = w .saved;
+      owner = w .owner;
+    }
+
+-- a switch: of the kept priorities, the leaving task's among them, the greatest runs, ties to the earlier release
+unfoldable pub switched : ℕ → List ℕ → List ℕ → Words → Words
+switched n released kept w = runsOn n kept w (elected (at released) (at kept) n)
+
+-- no switch at a release: the newcomer waits
+unfoldable pub waits : ℕ → List ℕ → Words → Words
+waits n kept w =
+    record {
+      running = w .running;
+      user = w .user;
+      next = secondWord kept n;
+      lazy = w .lazy;
+      kept = kept;
+      saved = w .saved;
+      owner = w .owner;
+    }
+
+-- a newcomer of base b, already kept: "the kernel switches only where the newcomer's base is strictly above the user word"
+unfoldable pub afterRelease : ℕ → List ℕ → List ℕ → ℕ → Words → Words
+afterRelease n released kept b w = if ltb (w .user) b then switched n released (set kept (w .running) (w .user)) w else waits n kept w
+
+-- lock l of this ceiling is taken: the user word is saved, and raised to the ceiling
+unfoldable pub afterAcquire : ℕ → ℕ → Words → Words
+afterAcquire l ceiling w =
+    record {
+      running = w .running;
+      user = max (w .user) ceiling;
+      next = w .next;
+      lazy = w .lazy;
+      kept = w .kept;
+      saved = set (w .saved) (w .running) (pushed (at (w .saved) (w .running)) (w .user));
+      owner = set (w .owner) l (w .running + 1);
+    }
+
+-- the word that an unlock puts back: the newest saved one
+abbrev pub backOf : Words → ℕ
+backOf w = newest (at (w .saved) (w .running))
+
+-- lock l is given back: the user word is the saved one again, after so many calls
+unfoldable pub restored : ℕ → ℕ → Words → Words
+restored l calls w =
+    record {
+      running = w .running;
+      user = backOf w;
+      next = w .next;
+      lazy = w .lazy + calls;
+      kept = w .kept;
+      saved = set (w .saved) (w .running) (under (at (w .saved) (w .running)));
+      owner = set (w .owner) l 0;
+    }
+
+-- "Unlock puts the saved one back; if it is then strictly below the next word, that is one lazy call, and the kernel switches"
+unfoldable pub afterUnlock : ℕ → List ℕ → ℕ → Words → Words
+afterUnlock n released l w = if callsFor (backOf w) (w .next) then switched n released (set (w .kept) (w .running) (backOf w))
+    (restored l 1 w) else restored l 0 w
+
+-- the words after an accepted event; `released` are the release numbers after it
+unfoldable pub wordsAfter : Plan → List ℕ → Words → Event → Words
+wordsAfter p released w (Release t) = afterRelease (p .tasks) released (set (w .kept) t (at (p .base) t)) (at (p .base) t) w
+wordsAfter p released w (Acquire l) = afterAcquire l (at (p .ceiling) l) w
+wordsAfter p released w (Unlock l) = afterUnlock (p .tasks) released l w
+wordsAfter p released w (Work a) = w
+-- "Finish always switches so, but keeps no priority for the finished task"
+wordsAfter p released w Finish = switched (p .tasks) released (set (w .kept) (w .running) 0) w
+wordsAfter p released w Tick = w
+
+-- whether an accepted event makes a lazy call
+unfoldable pub lazyCall : Words → Event → Bool
+lazyCall w (Release t) = false
+lazyCall w (Acquire l) = false
+lazyCall w (Unlock l) = callsFor (backOf w) (w .next)
+lazyCall w (Work a) = false
+lazyCall w Finish = false
+lazyCall w Tick = false

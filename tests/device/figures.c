@@ -1,0 +1,84 @@
+/* Every figure of a plan and of a state, as the library and C lay them out; and steps that are refused. */
+#include <inttypes.h>
+#include <stdio.h>
+
+#include "recorder.h"
+
+#define COUNT(list) (sizeof(list) / sizeof(list)[0])
+
+/* Each array with all its places, as "value x places" for each run of equal ones. */
+#define SHOW(what, list)                                                             \
+    do {                                                                             \
+        printf("  %s", what);                                                        \
+        for (size_t i = 0, j; i < COUNT(list); i = j) {                              \
+            for (j = i + 1; j < COUNT(list) && (list)[j] == (list)[i];) j++;         \
+            printf(j - i == 1 ? " %" PRIu64 : " %" PRIu64 "x%zu", (uint64_t)(list)[i], j - i); \
+        }                                                                            \
+        printf("\n");                                                                \
+    } while (0)
+
+static struct recorder_load load(uint32_t ceiling) {
+    const struct recorder_task tasks[] = {{1, 0}, {3, 0}, {5, 0}, {7, 0}};
+    const uint32_t locks[] = {5 + 4 * 65536, ceiling + 10 * 65536};
+    const uint16_t uses[] = {0 + 0 * 256, 0 + 1 * 256, 1 + 1 * 256, 2 + 0 * 256};
+    struct recorder_load l = recorder_load_table(tasks, COUNT(tasks), locks, COUNT(locks), uses, COUNT(uses));
+    printf("load %u %zu\n", (unsigned)l.number, l.place);
+    printf("  tasks %zu locks %zu\n", l.plan.tasks, l.plan.locks);
+    SHOW("base", l.plan.base);
+    SHOW("ceiling", l.plan.ceiling);
+    SHOW("limit", l.plan.limit);
+    SHOW("uses", l.plan.uses);
+    return l;
+}
+
+static void show(const struct recorder_state *s) {
+    printf("  accepted %u running %u words %u %u calls %u %u\n", (unsigned)s->accepted, s->running, s->user, s->next,
+           (unsigned)s->lazy, (unsigned)s->eager);
+    SHOW("released", s->released);
+    SHOW("kept", s->kept);
+    SHOW("delay", s->delay);
+    SHOW("depth", s->depth);
+    SHOW("takes", s->takes);
+    SHOW("saved", s->saved);
+    SHOW("units", s->units);
+    SHOW("owner", s->owner);
+}
+
+static struct recorder_state step(struct recorder_plan plan, struct recorder_state s, uint8_t kind, uint8_t id,
+                                  uint16_t amount) {
+    struct recorder_step r = recorder_step(plan, s, kind, id, amount);
+    printf("step %u %u %u: %u %u\n", kind, id, amount, r.number, r.calls);
+    return r.state;
+}
+
+int main(void) {
+    load(4);
+    struct recorder_plan plan = load(3).plan;
+    struct recorder_state s = recorder_fresh();
+    show(&s);
+    s = step(plan, s, RECORDER_RELEASE, 0, 0);
+    s = step(plan, s, RECORDER_ACQUIRE, 1, 0);
+    s = step(plan, s, RECORDER_ACQUIRE, 0, 0);
+    s = step(plan, s, RECORDER_RELEASE, 1, 0);
+    s = step(plan, s, RECORDER_WORK, 0, 2);
+    s = step(plan, s, RECORDER_TICK, 0, 0);
+    show(&s);
+
+    /* refused, each with the state that was given */
+    s = step(plan, s, 0, 0, 0);
+    s = step(plan, s, 7, 0, 0);
+    s = step(plan, s, RECORDER_ACQUIRE, 0, 1);
+    s = step(plan, s, RECORDER_WORK, 1, 2);
+    s = step(plan, s, RECORDER_FINISH, 1, 0);
+    s = step(plan, s, RECORDER_WORK, 0, 0);
+    s = step(plan, s, RECORDER_WORK, 0, 3);
+    s = step(plan, s, RECORDER_RELEASE, 4, 0);
+    s = step(plan, s, RECORDER_RELEASE, 1, 0);
+    s = step(plan, s, RECORDER_UNLOCK, 1, 0);
+    s = step(plan, s, RECORDER_FINISH, 0, 0);
+    show(&s);
+    s.saved[0] = 258;
+    s = step(plan, s, RECORDER_TICK, 0, 0);
+    show(&s);
+    return 0;
+}

@@ -1,0 +1,320 @@
+//! States that are mostly not sound: a sound state with exactly one figure
+//! changed, or with one thing changed that needs several figures, so that all
+//! else stays as the rules give it. Whether the result is sound is for the test
+//! of soundness to say.
+
+use crate::aims::Scene;
+use crate::plan::{MOST_LOCKS, MOST_OPEN, MOST_TASKS, NOBODY};
+use crate::plans;
+use crate::random::Random;
+use crate::states::{self, push, refit};
+use crate::whole::{
+    slot, Field, Per, Whole, ACCEPTED, FIELDS, LIMIT, LOCKS, OPEN, OWNER, RELEASED, RUNNING, TASKS,
+    USES,
+};
+
+/// Gives a figure another value.
+pub fn change(random: &mut Random, whole: &mut Whole, field: Field, place: usize) {
+    let before = whole.get(field, place);
+    let greatest = field.greatest();
+    let after = match random.below(8) {
+        0 => 0,
+        1 | 2 => before.wrapping_add(1) & greatest,
+        3 | 4 => before.wrapping_sub(1) & greatest,
+        5 => greatest,
+        6 => whole.get(field, random.below(field.count())),
+        _ => random.draw() & greatest,
+    };
+    let after = if after == before { before ^ 1 } else { after };
+    whole.set(field, place, after);
+}
+
+/// A figure to change: every field as often as any other, and mostly a place of
+/// the plan's tasks and locks; of rows, half of the time a place in use.
+pub fn some_figure(random: &mut Random, whole: &Whole) -> (Field, usize) {
+    let field = random.pick(&FIELDS);
+    if field.per == Per::Slot && random.one_in(2) {
+        if let Some(place) = random.pick_any(&used_slots(whole)) {
+            return (field, place);
+        }
+    }
+    let (tasks, locks) = (whole.get(TASKS, 0) as usize, whole.get(LOCKS, 0) as usize);
+    let of_plan = match field.per {
+        Per::One => 1,
+        Per::Task => tasks,
+        Per::Lock => locks,
+        Per::Slot => slot(tasks, 0),
+    };
+    let places = if of_plan == 0 || random.one_in(4) {
+        field.count()
+    } else {
+        of_plan
+    };
+    (field, random.below(places))
+}
+
+fn used_slots(whole: &Whole) -> Vec<usize> {
+    let tasks = 0..whole.get(TASKS, 0) as usize;
+    let of_task = |task| (0..whole.get(OPEN, task) as usize).map(move |at| slot(task, at));
+    tasks.flat_map(of_task).collect()
+}
+
+/// One thing that takes several figures; false where the state has no place for
+/// it, and then nothing is changed.
+type Change = fn(&mut Random, &mut Whole) -> bool;
+
+#[rustfmt::skip] // a line each
+const CHANGES: [(&str, Change); 16] = [
+    ("nobody runs", nobody_runs),
+    ("an unreleased task runs", unreleased_runs),
+    ("a lock open for two tasks", open_for_two),
+    ("a lock twice in a row", twice_in_a_row),
+    ("a lock open for an unreleased task", open_at_rest),
+    ("an undeclared lock open", undeclared_open),
+    ("an unknown lock open", unknown_open),
+    ("one lock more open than can be", one_more_open),
+    ("two equal release numbers", equal_numbers),
+    ("fewer accepted events than a release number", fewer_accepted),
+    ("a lock without limit", without_limit),
+    ("a lock without users", without_users),
+    ("a use of an unknown lock", unknown_use),
+    ("more tasks than places", more_tasks),
+    ("more locks than places", more_locks),
+    ("no tasks", no_tasks),
+];
+
+/// Makes one of the changes, if the state has a place for one of those that are
+/// tried, and names it.
+pub fn change_several(random: &mut Random, whole: &mut Whole) -> Option<&'static str> {
+    let tried = (0..4).map(|_| random.pick(&CHANGES)).collect::<Vec<_>>();
+    tried
+        .into_iter()
+        .find(|(_, change)| change(random, whole))
+        .map(|(name, _)| name)
+}
+
+/// One of the plan's tasks for which this is so.
+fn some_task(
+    random: &mut Random,
+    whole: &Whole,
+    is_so: impl Fn(&Whole, usize) -> bool,
+) -> Option<usize> {
+    let tasks = 0..whole.get(TASKS, 0) as usize;
+    let tasks: Vec<usize> = tasks.filter(|task| is_so(whole, *task)).collect();
+    random.pick_any(&tasks)
+}
+
+/// One of the plan's locks for which this is so.
+fn some_lock(
+    random: &mut Random,
+    whole: &Whole,
+    is_so: impl Fn(&Whole, usize) -> bool,
+) -> Option<usize> {
+    let locks = 0..whole.get(LOCKS, 0) as usize;
+    let locks: Vec<usize> = locks.filter(|lock| is_so(whole, *lock)).collect();
+    random.pick_any(&locks)
+}
+
+fn rests(whole: &Whole, task: usize) -> bool {
+    !whole.is_released(task)
+}
+
+fn is_closed(whole: &Whole, lock: usize) -> bool {
+    whole.get(OWNER, lock) == 0
+}
+
+/// Whether the task is released and its row has a free place.
+fn has_place(whole: &Whole, task: usize) -> bool {
+    whole.is_released(task) && (whole.get(OPEN, task) as usize) < MOST_OPEN
+}
+
+fn nobody_runs(_: &mut Random, whole: &mut Whole) -> bool {
+    if whole.running().is_none() {
+        return false;
+    }
+    whole.set(RUNNING, 0, u64::from(NOBODY));
+    refit(whole);
+    true
+}
+
+/// One of the plan, or one past it.
+fn unreleased_runs(random: &mut Random, whole: &mut Whole) -> bool {
+    let last = usize::from(NOBODY) - 1;
+    let past = random.between(last.min(whole.get(TASKS, 0) as usize), last);
+    let task = some_task(random, whole, rests).filter(|_| !random.one_in(3));
+    whole.set(RUNNING, 0, task.unwrap_or(past) as u64);
+    refit(whole);
+    true
+}
+
+fn open_for_two(random: &mut Random, whole: &mut Whole) -> bool {
+    let Some(lock) = some_lock(random, whole, |whole, lock| !is_closed(whole, lock)) else {
+        return false;
+    };
+    let owner = whole.get(OWNER, lock);
+    let second = some_task(random, whole, |whole, task| {
+        has_place(whole, task) && whole.uses(task, lock) && task as u64 + 1 != owner
+    });
+    let Some(second) = second else {
+        return false;
+    };
+    push(whole, second, lock);
+    refit(whole);
+    let owner = random.pick(&[owner, second as u64 + 1]);
+    whole.set(OWNER, lock, owner);
+    true
+}
+
+fn twice_in_a_row(random: &mut Random, whole: &mut Whole) -> bool {
+    let has_some = |whole: &Whole, task| has_place(whole, task) && whole.get(OPEN, task) > 0;
+    let Some(task) = some_task(random, whole, has_some) else {
+        return false;
+    };
+    let lock = random.pick(&whole.open_locks(task));
+    push(whole, task, lock);
+    refit(whole);
+    true
+}
+
+fn open_at_rest(random: &mut Random, whole: &mut Whole) -> bool {
+    let Some(task) = some_task(random, whole, rests) else {
+        return false;
+    };
+    open_another(random, whole, task, true)
+}
+
+fn undeclared_open(random: &mut Random, whole: &mut Whole) -> bool {
+    let Some(task) = some_task(random, whole, has_place) else {
+        return false;
+    };
+    open_another(random, whole, task, false)
+}
+
+/// Opens a closed lock that the task declares, or doesn't.
+fn open_another(random: &mut Random, whole: &mut Whole, task: usize, declared: bool) -> bool {
+    let lock = some_lock(random, whole, |whole, lock| {
+        is_closed(whole, lock) && whole.uses(task, lock) == declared
+    });
+    let Some(lock) = lock else {
+        return false;
+    };
+    push(whole, task, lock);
+    refit(whole);
+    true
+}
+
+fn unknown_open(random: &mut Random, whole: &mut Whole) -> bool {
+    let Some(task) = some_task(random, whole, has_place) else {
+        return false;
+    };
+    let first = whole.get(LOCKS, 0) as usize;
+    let greatest = usize::from(u8::MAX);
+    let any = random.between(first, greatest);
+    let lock = random.pick(&[first, MOST_LOCKS, greatest, any]);
+    push(whole, task, lock);
+    refit(whole);
+    true
+}
+
+fn one_more_open(random: &mut Random, whole: &mut Whole) -> bool {
+    let is_full = |whole: &Whole, task| whole.get(OPEN, task) == MOST_OPEN as u64;
+    let Some(task) = some_task(random, whole, is_full) else {
+        return false;
+    };
+    let open = random.pick(&[MOST_OPEN as u64 + 1, OPEN.greatest()]);
+    whole.set(OPEN, task, open);
+    true
+}
+
+fn equal_numbers(random: &mut Random, whole: &mut Whole) -> bool {
+    let first = some_task(random, whole, Whole::is_released);
+    let second = some_task(random, whole, |whole, task| {
+        whole.is_released(task) && Some(task) != first
+    });
+    let (Some(first), Some(second)) = (first, second) else {
+        return false;
+    };
+    whole.set(RELEASED, first, whole.get(RELEASED, second));
+    true
+}
+
+fn fewer_accepted(random: &mut Random, whole: &mut Whole) -> bool {
+    let Some(task) = some_task(random, whole, Whole::is_released) else {
+        return false;
+    };
+    let number = whole.get(RELEASED, task);
+    whole.set(ACCEPTED, 0, number - 1);
+    true
+}
+
+fn without_limit(random: &mut Random, whole: &mut Whole) -> bool {
+    let Some(lock) = some_lock(random, whole, is_closed) else {
+        return false;
+    };
+    whole.set(LIMIT, lock, 0);
+    true
+}
+
+fn without_users(random: &mut Random, whole: &mut Whole) -> bool {
+    let Some(lock) = some_lock(random, whole, is_closed) else {
+        return false;
+    };
+    for task in 0..whole.get(TASKS, 0) as usize {
+        let uses = whole.get(USES, task) & !(1 << lock);
+        whole.set(USES, task, uses);
+    }
+    true
+}
+
+fn unknown_use(random: &mut Random, whole: &mut Whole) -> bool {
+    let first = whole.get(LOCKS, 0) as usize;
+    if first == MOST_LOCKS {
+        return false;
+    }
+    let task = random.below(whole.get(TASKS, 0) as usize);
+    let lock = random.between(first, MOST_LOCKS - 1);
+    let uses = whole.get(USES, task) | 1 << lock;
+    whole.set(USES, task, uses);
+    true
+}
+
+/// A plan that has no place left, and one task more than that.
+fn more_tasks(random: &mut Random, whole: &mut Whole) -> bool {
+    *whole = of_greatest_plan(random);
+    let more = too_many(random, MOST_TASKS);
+    whole.set(TASKS, 0, more);
+    true
+}
+
+fn more_locks(random: &mut Random, whole: &mut Whole) -> bool {
+    *whole = of_greatest_plan(random);
+    let more = too_many(random, MOST_LOCKS);
+    whole.set(LOCKS, 0, more);
+    true
+}
+
+/// A sound state whose plan has a task and a lock in every place.
+fn of_greatest_plan(random: &mut Random) -> Whole {
+    let plan = plans::contended(random);
+    states::of_plan(random, &plan)
+}
+
+fn too_many(random: &mut Random, most: usize) -> u64 {
+    let most = most as u64;
+    random.pick(&[
+        most + 1,
+        most + 2,
+        most + (1 << 8),
+        most + (1 << 32),
+        u64::MAX,
+    ])
+}
+
+/// A plan without tasks and locks; of the state only the counts are left.
+fn no_tasks(_: &mut Random, whole: &mut Whole) -> bool {
+    let mut blank = Whole::blank();
+    blank.set(RUNNING, 0, u64::from(NOBODY));
+    blank.set(ACCEPTED, 0, whole.get(ACCEPTED, 0));
+    *whole = blank;
+    true
+}

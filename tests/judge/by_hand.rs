@@ -1,0 +1,44 @@
+//! What was made by hand: the cases of the two files and the set pieces, each
+//! with its expected answer. The judge's own answers are held against these
+//! before any program's are held against the judge's.
+
+use crate::book_cases::{self, BookCase};
+use crate::boundaries::{self, SetPiece};
+use crate::step_cases::{self, StepCase};
+
+pub struct ByHand {
+    pub steps: Vec<StepCase>,
+    pub books: Vec<BookCase>,
+    pub pieces: Vec<SetPiece>,
+}
+
+/// Nothing if a case cannot be read, which is told.
+pub fn read() -> Option<ByHand> {
+    let told = |error: String| println!("{error}");
+    Some(ByHand {
+        steps: step_cases::cases().map_err(told).ok()?,
+        books: book_cases::cases().map_err(told).ok()?,
+        pieces: boundaries::set_pieces(),
+    })
+}
+
+impl ByHand {
+    /// Tests the judge itself and tells the outcome; false if anything differs.
+    pub fn test(&self) -> bool {
+        let steps = (self.steps.len(), step_cases::test(&self.steps));
+        let books = (self.books.len(), book_cases::test(&self.books));
+        let pieces = (self.pieces.len(), boundaries::test(&self.pieces));
+        let mut right = tell("hand-made steps", steps);
+        right &= tell("hand-made books", books);
+        right & tell("set pieces at the edges of the rules", pieces)
+    }
+}
+
+/// How many tests were done and which failed; false if any did.
+pub fn tell(what: &str, (done, failed): (usize, Vec<String>)) -> bool {
+    println!("the judge on {done} {what}: {} failed", failed.len());
+    for words in &failed {
+        println!("  {words}");
+    }
+    failed.is_empty()
+}

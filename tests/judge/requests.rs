@@ -1,0 +1,112 @@
+//! What a program under judgement is asked, and in which order: the hand-made
+//! cases, the set pieces, then generated books and steps in turn, and the long
+//! books last. Every book is both replayed and checked.
+
+use crate::by_hand::ByHand;
+use crate::generate::{self, Case};
+use crate::trials::{self, Trial};
+use crate::wire::{self, Command};
+use std::borrow::Cow;
+use std::sync::Arc;
+
+pub enum Ask {
+    Replay(Arc<Case>),
+    Check(Arc<Case>),
+    Step(Trial),
+}
+
+#[derive(Clone, Copy, PartialEq, Eq)]
+pub enum Source {
+    ByHand,
+    Generated,
+}
+
+pub struct Request {
+    pub ask: Ask,
+    pub source: Source,
+}
+
+impl Request {
+    /// The request as it goes to the program.
+    pub fn bytes(&self) -> Vec<u8> {
+        let (command, room) = match &self.ask {
+            Ask::Replay(case) => (Command::Replay, case.row_space),
+            Ask::Check(case) => (Command::Check, case.row_space),
+            Ask::Step(_) => (Command::Step, 0),
+        };
+        wire::request(command, &self.payload(), room)
+    }
+
+    /// A book, or a plan, a state and an event.
+    pub fn payload(&self) -> Cow<'_, [u8]> {
+        match &self.ask {
+            Ask::Replay(case) | Ask::Check(case) => Cow::from(&case.book),
+            Ask::Step(trial) => {
+                let record = trial.event.record();
+                Cow::from([trial.given.bytes(), &record[..]].concat())
+            }
+        }
+    }
+
+    /// What is asked, in words.
+    pub fn name(&self) -> String {
+        match &self.ask {
+            Ask::Replay(case) => format!("replay of {}", case.told()),
+            Ask::Check(case) => format!("check of {}", case.told()),
+            Ask::Step(trial) => format!("{}, {:?}", trial.name, trial.event),
+        }
+    }
+}
+
+/// How many generated steps there are for each short book, as long as there are
+/// both.
+const STEPS_FOR_A_BOOK: u64 = 5;
+
+/// How many of each sort are generated, and from which seed.
+#[derive(Clone, Copy)]
+pub struct Amounts {
+    pub seed: u64,
+    pub short: u64,
+    pub long: u64,
+    pub steps: u64,
+}
+
+/// The hand-made cases and the set pieces.
+pub fn by_hand(by_hand: ByHand) -> impl Iterator<Item = Request> {
+    let steps = by_hand.steps.into_iter().map(|case| Ask::Step(case.trial));
+    let books = by_hand.books.into_iter().map(|case| case.case);
+    let pieces = by_hand.pieces.into_iter().map(|piece| piece.case);
+    let asks = steps.chain(books.chain(pieces).flat_map(of_book));
+    asks.map(|ask| Request {
+        ask,
+        source: Source::ByHand,
+    })
+}
+
+/// Generated books and steps in turn, then the long books.
+pub fn generated(amounts: Amounts) -> impl Iterator<Item = Request> {
+    let Amounts {
+        seed,
+        short,
+        long,
+        steps,
+    } = amounts;
+    let turns = short.max(steps.div_ceil(STEPS_FOR_A_BOOK));
+    let in_turn = (0..turns).flat_map(move |turn| {
+        let book = (turn < short).then(|| of_book(generate::short(seed, turn)));
+        let first = STEPS_FOR_A_BOOK * turn;
+        let numbers = first..(first + STEPS_FOR_A_BOOK).min(steps);
+        let steps = numbers.map(move |number| Ask::Step(trials::trial(seed, number)));
+        book.into_iter().flatten().chain(steps)
+    });
+    let long = (0..long).flat_map(move |number| of_book(generate::long(seed, number)));
+    in_turn.chain(long).map(|ask| Request {
+        ask,
+        source: Source::Generated,
+    })
+}
+
+fn of_book(case: Case) -> [Ask; 2] {
+    let case = Arc::new(case);
+    [Ask::Replay(Arc::clone(&case)), Ask::Check(case)]
+}

@@ -1,0 +1,78 @@
+//! The lazy scheduler from the figures of a sound state, and back to figures.
+
+use crate::lazy::{Kept, Lazy, OpenLock, TaskFigures, Word};
+use crate::plan::{Plan, MOST_OPEN, NOBODY};
+use crate::whole::{
+    slot, Whole, ACCEPTED, DELAY, EAGER, KEPT, LAZY, NEXT, OPEN, OWNER, RELEASED, ROW, RUNNING,
+    SAVED, UNITS, USER,
+};
+use crate::wrong::Wrong;
+
+/// The scheduler that a sound state stands for. The plan is that of the state.
+pub fn resume<'p>(plan: &'p Plan, whole: &Whole, wrong: Wrong) -> Lazy<'p> {
+    let mut lazy = Lazy::new(plan, wrong);
+    lazy.accepted = whole.get(ACCEPTED, 0) as u32;
+    lazy.running = Some(whole.get(RUNNING, 0))
+        .filter(|running| *running != u64::from(NOBODY))
+        .map(|running| running as usize);
+    lazy.user_word = Word(whole.get(USER, 0) as u8);
+    lazy.next_word = Word(whole.get(NEXT, 0) as u8);
+    lazy.calls = whole.get(LAZY, 0) as u32;
+    lazy.eager_calls = whole.get(EAGER, 0) as u32;
+    for task in 0..lazy.tasks.len() {
+        let figures = task_figures(whole, task);
+        for open in &figures.open {
+            lazy.sections[open.lock].holder = Some(task);
+        }
+        lazy.tasks[task] = figures;
+    }
+    for (lock, section) in lazy.sections.iter_mut().enumerate() {
+        section.units = whole.get(UNITS, lock) as u32;
+    }
+    lazy
+}
+
+fn task_figures(whole: &Whole, task: usize) -> TaskFigures {
+    // Newest first there, oldest first here.
+    let open = (0..whole.get(OPEN, task) as usize)
+        .rev()
+        .map(|at| OpenLock {
+            lock: whole.get(ROW, slot(task, at)) as usize,
+            saved: Word(whole.get(SAVED, slot(task, at)) as u8),
+        });
+    TaskFigures {
+        release_number: whole.get(RELEASED, task) as u32,
+        kept: Kept(whole.get(KEPT, task) as u8),
+        open: open.collect(),
+        delay: whole.get(DELAY, task) as u16,
+    }
+}
+
+/// The plan and the state of the scheduler, figure by figure.
+pub fn figures(lazy: &Lazy) -> Whole {
+    let mut whole = Whole::of_plan(lazy.plan);
+    whole.set(ACCEPTED, 0, u64::from(lazy.accepted));
+    let running = lazy.running.map_or(u64::from(NOBODY), |task| task as u64);
+    whole.set(RUNNING, 0, running);
+    whole.set(USER, 0, u64::from(lazy.user_word.0));
+    whole.set(NEXT, 0, u64::from(lazy.next_word.0));
+    whole.set(LAZY, 0, u64::from(lazy.calls));
+    whole.set(EAGER, 0, u64::from(lazy.eager_calls));
+    for (task, figures) in lazy.tasks.iter().enumerate() {
+        whole.set(RELEASED, task, u64::from(figures.release_number));
+        whole.set(KEPT, task, u64::from(figures.kept.0));
+        whole.set(DELAY, task, u64::from(figures.delay));
+        whole.set(OPEN, task, figures.open.len() as u64);
+        // A row has no place for more; only a wrong way opens more.
+        for (at, open) in figures.open.iter().rev().take(MOST_OPEN).enumerate() {
+            whole.set(ROW, slot(task, at), open.lock as u64);
+            whole.set(SAVED, slot(task, at), u64::from(open.saved.0));
+        }
+    }
+    for (lock, section) in lazy.sections.iter().enumerate() {
+        whole.set(UNITS, lock, u64::from(section.units));
+        let owner = section.holder.map_or(0, |task| task as u64 + 1);
+        whole.set(OWNER, lock, owner);
+    }
+    whole
+}

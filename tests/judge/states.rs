@@ -1,0 +1,185 @@
+//! Random sound states that mostly no fresh start reaches: any of the released
+//! tasks runs, locks are open that their holders never could have taken beside
+//! each other, and counts and delays are at their edges.
+
+use crate::aims::Scene;
+use crate::plan::{Plan, MOST_ACCEPTED, MOST_OPEN, MOST_UNITS, NOBODY};
+use crate::plans;
+use crate::random::Random;
+use crate::sound;
+use crate::whole::{
+    slot, Whole, ACCEPTED, DELAY, EAGER, KEPT, LAZY, LOCKS, NEXT, OPEN, OWNER, RELEASED, ROW,
+    RUNNING, SAVED, TASKS, UNITS, USER,
+};
+
+impl Scene for Whole {
+    fn running(&self) -> Option<usize> {
+        let running = self.get(RUNNING, 0);
+        Some(running as usize).filter(|_| running != u64::from(NOBODY))
+    }
+
+    fn is_released(&self, task: usize) -> bool {
+        self.get(RELEASED, task) != 0
+    }
+
+    fn open_locks(&self, task: usize) -> Vec<usize> {
+        (0..self.get(OPEN, task) as usize)
+            .rev()
+            .map(|at| self.get(ROW, slot(task, at)) as usize)
+            .collect()
+    }
+
+    fn units(&self, lock: usize) -> usize {
+        self.get(UNITS, lock) as usize
+    }
+}
+
+/// A plan, and a sound state of it.
+pub fn any(random: &mut Random) -> (Plan, Whole) {
+    let plan = match random.below(10) {
+        0..=5 => plans::any(random),
+        6..=8 => plans::deep(random),
+        _ => plans::contended(random),
+    };
+    let whole = of_plan(random, &plan);
+    (plan, whole)
+}
+
+pub fn of_plan(random: &mut Random, plan: &Plan) -> Whole {
+    let mut whole = Whole::fresh(plan);
+    let mut released = released_tasks(random, plan.bases.len());
+    let accepted = accepted_events(random, released.len());
+    whole.set(ACCEPTED, 0, accepted as u64);
+    for field in [LAZY, EAGER] {
+        let calls = up_to(random, accepted);
+        whole.set(field, 0, calls as u64);
+    }
+    let numbers = release_numbers(random, released.len(), accepted);
+    for (task, number) in released.iter().zip(numbers) {
+        whole.set(RELEASED, *task, number as u64);
+    }
+    // The task that runs is the first to open locks.
+    random.shuffle(&mut released);
+    if let Some(task) = released.first() {
+        whole.set(RUNNING, 0, *task as u64);
+    }
+    open_some(random, plan, &released, &mut whole);
+    for task in 0..plan.bases.len() {
+        let delay = match random.below(2) {
+            0 => 0,
+            _ => up_to(random, usize::from(MOST_UNITS)),
+        };
+        whole.set(DELAY, task, delay as u64);
+    }
+    refit(&mut whole);
+    whole
+}
+
+/// A number up to the greatest one; the edges are favoured.
+fn up_to(random: &mut Random, most: usize) -> usize {
+    match random.below(6) {
+        0 => 0,
+        1 => most,
+        2 => most.saturating_sub(1),
+        3 => most - random.below(most.min(8) + 1),
+        _ => random.between(0, most),
+    }
+}
+
+fn released_tasks(random: &mut Random, tasks: usize) -> Vec<usize> {
+    match random.below(12) {
+        0 => Vec::new(),
+        1 | 2 => vec![random.below(tasks)],
+        3 => (0..tasks).collect(),
+        _ => {
+            let rest_in = random.pick(&[2, 2, 4, 8]);
+            let mut rests = || random.one_in(rest_in);
+            (0..tasks).filter(|_| !rests()).collect()
+        }
+    }
+}
+
+/// At least as many as there are release numbers.
+fn accepted_events(random: &mut Random, least: usize) -> usize {
+    let most = MOST_ACCEPTED as usize;
+    match random.below(12) {
+        0..=3 => least + random.below(4),
+        4..=6 => least + random.below(200),
+        7 | 8 => most - 1,
+        9 => most,
+        _ => random.between(least, most),
+    }
+}
+
+/// So many different numbers from 1 on; the lowest and the highest are favoured.
+fn release_numbers(random: &mut Random, count: usize, accepted: usize) -> Vec<usize> {
+    let mut numbers = Vec::new();
+    while numbers.len() < count {
+        let number = match random.below(4) {
+            0 => random.between(1, count),
+            1 => accepted - random.below(count),
+            _ => random.between(1, accepted),
+        };
+        if !numbers.contains(&number) {
+            numbers.push(number);
+        }
+    }
+    numbers
+}
+
+/// Opens declared locks for the released tasks, each for at most one of them.
+fn open_some(random: &mut Random, plan: &Plan, released: &[usize], whole: &mut Whole) {
+    let mut free: Vec<usize> = (0..plan.locks.len()).collect();
+    random.shuffle(&mut free);
+    for task in released {
+        let depth = match random.below(6) {
+            0 | 1 => 0,
+            2 => 1,
+            3 => random.between(2, 3),
+            4 => random.between(1, MOST_OPEN),
+            _ => MOST_OPEN,
+        };
+        let may = |lock: &&usize| plan.declares(*task, **lock);
+        let taken: Vec<usize> = free.iter().filter(may).take(depth).copied().collect();
+        free.retain(|lock| !taken.contains(lock));
+        for lock in taken {
+            push(whole, *task, lock);
+            let units = up_to(random, usize::from(plan.locks[lock].limit));
+            whole.set(UNITS, lock, units as u64);
+        }
+    }
+}
+
+/// Puts a lock at the front of a row; the row has a free place.
+pub fn push(whole: &mut Whole, task: usize, lock: usize) {
+    let open = whole.get(OPEN, task);
+    for at in (0..open as usize).rev() {
+        let older = whole.get(ROW, slot(task, at));
+        whole.set(ROW, slot(task, at + 1), older);
+    }
+    whole.set(ROW, slot(task, 0), lock as u64);
+    whole.set(OPEN, task, open + 1);
+}
+
+/// Sets all that follows from who runs, the release numbers and the rows: both
+/// words, the kept and saved priorities, and the owners.
+pub fn refit(whole: &mut Whole) {
+    let (tasks, locks) = (whole.get(TASKS, 0) as usize, whole.get(LOCKS, 0) as usize);
+    for lock in 0..locks {
+        whole.set(OWNER, lock, 0);
+    }
+    for task in 0..tasks {
+        for lock in whole.open_locks(task) {
+            if lock < locks {
+                whole.set(OWNER, lock, task as u64 + 1);
+            }
+        }
+        for at in 0..whole.get(OPEN, task) as usize {
+            let saved = sound::saved_by_rule(whole, task, at);
+            whole.set(SAVED, slot(task, at), saved);
+        }
+        whole.set(KEPT, task, sound::kept_by_rule(whole, task));
+    }
+    whole.set(USER, 0, sound::user_by_rule(whole));
+    whole.set(NEXT, 0, sound::next_by_rule(whole));
+}

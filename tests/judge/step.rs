@@ -1,0 +1,80 @@
+//! A single step from any state: 10 where it isn't sound, and else one step of
+//! the lazy scheduler that the figures stand for.
+
+use crate::event::Event;
+use crate::resume::{figures, resume};
+use crate::sound;
+use crate::whole::Whole;
+use crate::wrong::Wrong;
+
+/// All that a program under judgement has to answer for a step.
+#[derive(Clone, PartialEq, Eq)]
+pub struct Stepped {
+    /// 0 if the event is accepted.
+    pub number: u8,
+    /// 1 for a lazy call.
+    pub call: u8,
+    /// The plan, and the state after the event; the given one where refused.
+    pub after: Whole,
+}
+
+pub struct Outcome {
+    pub stepped: Stepped,
+    /// The conditions of soundness that the given state breaks, by place.
+    pub broken: Vec<usize>,
+    /// What the judge demands of itself and did not hold, in words.
+    pub violation: Option<String>,
+}
+
+pub fn step(given: &Whole, event: Event, wrong: Wrong) -> Outcome {
+    let broken = sound::broken(given);
+    if !broken.is_empty() {
+        return Outcome {
+            stepped: refused(given, 10),
+            broken,
+            violation: None,
+        };
+    }
+    let plan = given.plan();
+    let mut lazy = resume(&plan, given, wrong);
+    let answer = lazy.step(event);
+    let after = figures(&lazy);
+    let violation = match answer {
+        _ if wrong != Wrong::Nothing => None,
+        Ok(_) => unsound(&after),
+        Err(_) if after == *given => None,
+        Err(_) => Some("a refused step changed the judge's own scheduler".to_string()),
+    };
+    let stepped = match answer {
+        Ok(call) => Stepped {
+            number: 0,
+            call: u8::from(call),
+            after,
+        },
+        Err(number) => refused(given, number),
+    };
+    Outcome {
+        stepped,
+        broken,
+        violation,
+    }
+}
+
+fn refused(given: &Whole, number: u8) -> Stepped {
+    Stepped {
+        number,
+        call: 0,
+        after: given.clone(),
+    }
+}
+
+/// From a sound state an accepted event leads to a sound one. The test of
+/// soundness works out all priorities from the open locks, which the lazy
+/// scheduler never does.
+fn unsound(after: &Whole) -> Option<String> {
+    let names = sound::names(&sound::broken(after));
+    if names.is_empty() {
+        return None;
+    }
+    Some(format!("the state after it is not sound: {names:?}"))
+}

@@ -1,0 +1,170 @@
+//! What the judge makes of the replies: each is compared with its own answer,
+//! the first ones that differ are told in words, and what was reached is
+//! counted.
+
+use crate::compare;
+use crate::refusals::named;
+use crate::requests::{Ask, Request, Source};
+use crate::sound;
+use crate::state_notation::written;
+use crate::step_tally::StepTally;
+use crate::tally::Tally;
+use crate::trials::Trial;
+use crate::wire;
+use crate::wrong::Wrong;
+use crate::Options;
+use std::io::{Read, Result};
+
+/// So many differing replies are told in words; the others are only counted.
+const TOLD: usize = 5;
+
+/// So many fields or figures of one reply are told.
+const TOLD_FIELDS: usize = 6;
+
+/// A book of up to so many bytes is told with its bytes, and a state of up to so
+/// many changes with its figures.
+const SHORT_BOOK: usize = 1_024;
+const SHORT_STATE: usize = 80;
+
+pub struct Verdict<'o> {
+    options: &'o Options,
+    pub heard: usize,
+    by_hand: usize,
+    pub differing: usize,
+    /// How often the judge was not content with itself.
+    pub violations: usize,
+    books: Tally,
+    steps: StepTally,
+}
+
+impl<'o> Verdict<'o> {
+    pub fn new(options: &'o Options) -> Verdict<'o> {
+        Verdict {
+            options,
+            heard: 0,
+            by_hand: 0,
+            differing: 0,
+            violations: 0,
+            books: Tally::default(),
+            steps: StepTally::default(),
+        }
+    }
+
+    /// Reads the reply to a request and compares it with the judge's answer.
+    pub fn hear(&mut self, request: &Request, replies: &mut impl Read) -> Result<()> {
+        let wrong = self.options.wrong;
+        let is_generated = request.source == Source::Generated;
+        let (found, violation) = match &request.ask {
+            Ask::Replay(case) => {
+                let reply = wire::read_replay(replies, case.row_space)?;
+                let outcome = case.replay(wrong);
+                if is_generated {
+                    self.books.count(&outcome);
+                }
+                let found = compare::answers(&outcome.answer, &reply);
+                (found, outcome.violation)
+            }
+            Ask::Check(case) => {
+                let reply = wire::read_check(replies)?;
+                (compare::checks(&case.check(), &reply), None)
+            }
+            Ask::Step(trial) => {
+                let reply = wire::read_step(replies, &trial.given)?;
+                let outcome = trial.step(wrong);
+                if is_generated {
+                    self.steps.count(trial, &outcome);
+                }
+                let found = compare::steps(&outcome.stepped, &reply);
+                (found, outcome.violation)
+            }
+        };
+        self.heard += 1;
+        self.by_hand += usize::from(!is_generated);
+        self.conclude(request, &found, violation);
+        Ok(())
+    }
+
+    fn conclude(&mut self, request: &Request, found: &[String], violation: Option<String>) {
+        if let Some(words) = violation {
+            self.violations += 1;
+            if self.violations <= TOLD {
+                println!("{}: the judge's own demand: {words}", request.name());
+            }
+        }
+        if found.is_empty() {
+            return;
+        }
+        self.differing += 1;
+        if self.differing <= TOLD {
+            tell(request, found);
+        }
+        if self.differing == 1 {
+            self.dump(request);
+        }
+    }
+
+    /// Writes the payload of the first request whose reply differs.
+    fn dump(&self, request: &Request) {
+        let Some(path) = &self.options.dump else {
+            return;
+        };
+        match std::fs::write(path, request.payload()) {
+            Ok(()) => println!("  what was handed in is written to {path}"),
+            Err(error) => println!("  cannot write {path}: {error}"),
+        }
+    }
+
+    /// The tables and the summary; false if something had to be reached and was
+    /// not.
+    pub fn close(&self) -> bool {
+        self.books.print_table();
+        self.steps.print_table();
+        println!("{}", self.books.summary());
+        println!("{}", self.steps.summary());
+        println!(
+            "{} replies, {} of them to hand-made cases and set pieces: {} differ",
+            self.heard, self.by_hand, self.differing,
+        );
+        self.options.is_covered(&self.books, &self.steps)
+    }
+}
+
+fn tell(request: &Request, found: &[String]) {
+    println!("{}:", request.name());
+    for words in found.iter().take(TOLD_FIELDS) {
+        println!("  {words}");
+    }
+    if found.len() > TOLD_FIELDS {
+        println!("  and {} more", found.len() - TOLD_FIELDS);
+    }
+    match &request.ask {
+        Ask::Replay(case) | Ask::Check(case) if case.book.len() <= SHORT_BOOK => {
+            print!("{}", hex_dump(&case.book));
+        }
+        Ask::Step(trial) => tell_state(trial),
+        _ => {}
+    }
+}
+
+/// The state as a hand-made case would have it, and what it breaks.
+fn tell_state(trial: &Trial) {
+    let figures = written(&trial.given);
+    if figures.len() <= SHORT_STATE {
+        println!("    fresh of blank, {}", figures.join(", "));
+    }
+    let outcome = trial.step(Wrong::Nothing);
+    println!("    by the rules {}", named(outcome.stepped.number));
+    for name in sound::names(&outcome.broken) {
+        println!("    broken: {name}");
+    }
+}
+
+/// Bytes in hexadecimal, 32 to a line.
+fn hex_dump(bytes: &[u8]) -> String {
+    let mut text = String::new();
+    for line in bytes.chunks(32) {
+        let bytes: Vec<String> = line.iter().map(|byte| format!("{byte:02x}")).collect();
+        text += &format!("    {}\n", bytes.join(" "));
+    }
+    text
+}

@@ -14,7 +14,7 @@ use Rattle.rules.specs.Books.Book.{countAt, sizeOf, bodyAt, layoutFault, eventB
 use Rattle.rules.specs.declared.answer.Verdict.{Verdict}
 use Rattle.rules.specs.declared.refusal.Refusal.the-variants.{WrongLayout, WrongEvent, ShortRows}
 use Rattle.rules.proofs.Numbers.Checks.{clean-for}
-use Rattle.rules.proofs.Demands.Replayed.{passed-contents, passed-events}
+use Rattle.rules.proofs.Books.Passes.{passed-contents, passed-events}
 
 module _ (b : List ℕ) (room : ℕ) (passed : checkOf b room ≡ Verdict.Passed) where
   pub ends : bodyAt b 3 + countAt b 3 * 4 ≡ length b

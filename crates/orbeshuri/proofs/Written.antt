@@ -16,7 +16,7 @@ use Rattle.rules.specs.declared.answer.Verdict.{Verdict}
 use Rattle.rules.specs.declared.answer.Replayed.{Replayed}
 use Rattle.rules.proofs.Books.Cut.{cut-same, long-refused}
 use Rattle.rules.proofs.Books.Obeyed.{few-tasks}
-use Rattle.rules.proofs.Demands.Replayed.{passed-obeys}
+use Rattle.rules.proofs.Books.Passes.{passed-obeys}
 use Rattle.report.specs.Report.{reportOf}
 use Rattle.report.specs.Page.{wrote}
 use Rattle.orbeshuri.specs.Text.{rowSpace, ranOf, textOf}

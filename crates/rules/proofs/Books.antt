@@ -1,5 +1,6 @@
 -- What a plan that obeys the rules gives, that a loaded plan does, and that every list of events has its book.
 pub mod Obeyed
 pub mod Loaded
+pub mod Passes
 pub mod WithEvents
 pub mod Cut

@@ -1,5 +1,5 @@
 -- The demands hold: of the definitions, and of every replay.
-pub mod Exactly
+pub mod Demand1
 pub mod History
 pub mod Urgency
 pub mod EagerRuled

@@ -2,6 +2,7 @@
 pub mod Bound
 pub mod History
 pub mod Job
+pub mod Demand1
 pub mod Demand2
 pub mod Demand3
 pub mod Replayed

@@ -20,7 +20,7 @@ use Rattle.rules.specs.declared.answer.Checked.{Checked}
 use Rattle.rules.specs.declared.answer.Replayed.{Replayed}
 use Rattle.rules.specs.declared.answer.Verdict.{Verdict}
 use Rattle.rules.proofs.Numbers.Place.{length-from}
-use Rattle.rules.proofs.Demands.Replayed.{passed-obeys}
+use Rattle.rules.proofs.Books.Passes.{passed-obeys}
 use Rattle.rules.proofs.Soundness.SoundKept.{fresh-sound}
 use Rattle.book.proofs.Accepted.{ends, records, no-fault, rows-fit}
 use Rattle.scheduler.specs.Going.{untouchedAs, Readable}

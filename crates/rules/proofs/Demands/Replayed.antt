@@ -7,41 +7,23 @@ use lib.ListN.{length}
 use borrow.Author.Tests.{ltb-false}
 use Rattle.rules.specs.Numbers.Choice.{if_then_else_}
 use Rattle.rules.specs.Numbers.Place.{at}
-use Rattle.rules.specs.Numbers.Refusal.{numberOf, firstFault, checkFor}
+use Rattle.rules.specs.Numbers.Refusal.{numberOf, checkFor}
 use Rattle.rules.specs.Books.Plan.{Obeys}
-use Rattle.rules.specs.Books.Load.{loadChecks}
-use Rattle.rules.specs.Books.Book.{countAt, tasksOf, locksOf, usesOf, planIn, eventsOf, recordEvent, eventBody, contentsChecks, eventChecks, checkOf}
+use Rattle.rules.specs.Books.Book.{countAt, planIn, eventsOf, recordEvent, eventBody, eventChecks, checkOf}
 use Rattle.rules.specs.Schedulers.State.{freshOf}
 use Rattle.rules.specs.Replays.Run.{Ran, runFrom}
 use Rattle.rules.specs.Replays.Replay.{replayAs, replayOf}
 use Rattle.rules.specs.Demands.Demand3.{worstCase}
-use Rattle.rules.specs.Demands.Replayed.{Untouched, RanUpTo, BookReaches, Promised}
+use Rattle.rules.specs.Demands.Replayed.{RanUpTo, BookReaches, Promised}
 use Rattle.rules.specs.declared.answer.Verdict.{Verdict}
-use Rattle.rules.specs.declared.refusal.Refusal.{Refusal}
 use Rattle.rules.specs.declared.refusal.Refusal.the-variants.{ShortRows}
 use Rattle.rules.specs.declared.event.Event.{Event}
 use Rattle.rules.proofs.Numbers.Place.{length-from}
-use Rattle.rules.proofs.Numbers.Checks.{clean-for, passed-both}
-use Rattle.rules.proofs.Books.Loaded.{loaded-obeys}
+use Rattle.rules.proofs.Numbers.Checks.{clean-for}
+use Rattle.rules.proofs.Books.Passes.{check-passes, passed-obeys, passed-events}
 use Rattle.rules.proofs.Books.WithEvents.{withEvents, plan-same, events-same, bytes-with, accepted-with}
 use Rattle.rules.proofs.Demands.Running.{ran-up-to}
 use Rattle.rules.proofs.Demands.WorstRun.{worst-few, worst-recorded, worst-reaches}
-
--- a book that passes: its contents pass, its plan, which obeys the rules, and its events
-module _ (b : List ℕ) (room : ℕ) (passed : checkOf b room ≡ Verdict.Passed) where
-  pub passed-contents : firstFault (contentsChecks b) ≡ Verdict.Passed
-  unfolding checkOf
-  passed-contents = passed-both (contentsChecks b) _ passed .0
-
-  passed-rest : (firstFault (loadChecks (tasksOf b) (locksOf b) (usesOf b)) ≡ Verdict.Passed) × (firstFault (eventChecks b room) ≡ Verdict.Passed)
-  unfolding checkOf
-  passed-rest = passed-both (loadChecks (tasksOf b) (locksOf b) (usesOf b)) (eventChecks b room) (passed-both (contentsChecks b) _ passed .1)
-
-  pub passed-obeys : Obeys (planIn b)
-  passed-obeys = loaded-obeys (tasksOf b) (locksOf b) (usesOf b) (passed-rest .0)
-
-  pub passed-events : firstFault (eventChecks b room) ≡ Verdict.Passed
-  passed-events = passed-rest .1
 
 module _ (b rows : List ℕ) where
   module _ (passed : checkOf b (length rows) ≡ Verdict.Passed) where
@@ -56,10 +38,6 @@ module _ (b rows : List ℕ) where
     replay-runs : replayOf b rows ≡ runFrom (planIn b) (eventsOf b) 0 freshOf rows
     unfolding replayOf replayAs
     replay-runs = ap (λ v. replayAs v (planIn b) (eventsOf b) rows) passed
-
-  replay-refused : (why : Refusal) (place : ℕ) → checkOf b (length rows) ≡ Verdict.Refused why place → Untouched rows (replayOf b rows) why place
-  unfolding replayOf replayAs
-  replay-refused why place e = rw e (record { verdict = refl; state = refl; bytes = refl })
 
 -- the book of the list that reaches the bound
 book-reaches : (b : List ℕ) (room : ℕ) → checkOf b room ≡ Verdict.Passed → Obeys (planIn b) → (t : ℕ) → t < planIn b .tasks → BookReaches b t
@@ -80,8 +58,8 @@ book-reaches b room passed O t h =
 -- every book, with every row space
 pub replayed : (b rows : List ℕ) → Promised b rows
 replayed b rows = record {
-  untouched = replay-refused b rows;
-  ran = λ e. subst (λ (ran : Ran). RanUpTo (planIn b) (eventsOf b) rows ran (ran .state .head .accepted)) (sym (replay-runs b rows e))
+  ran = λ z. let e = check-passes b (length rows) z in
+      subst (λ (ran : Ran). RanUpTo (planIn b) (eventsOf b) rows ran (ran .state .head .accepted)) (sym (replay-runs b rows e))
       (ran-up-to (passed-obeys b (length rows) e) (eventsOf b) rows (rows-fit b rows e));
-  reached = λ e. book-reaches b (length rows) e (passed-obeys b (length rows) e);
+  reached = λ z. let e = check-passes b (length rows) z in book-reaches b (length rows) e (passed-obeys b (length rows) e);
 }

@@ -9,7 +9,6 @@ use lib.ListN.{length, drop, drop-of-length-le}
 use lib.Seq.{drop-cons}
 use Rattle.rules.specs.Numbers.Choice.{if_then_else_}
 use Rattle.rules.specs.Numbers.Place.{at}
-use Rattle.rules.specs.Numbers.Refusal.{numberOf}
 use Rattle.rules.specs.Books.Plan.{Obeys}
 use Rattle.rules.specs.Schedulers.State.{freshOf}
 use Rattle.rules.specs.Schedulers.Figures.{Figures, figuresOf, holds}
@@ -17,7 +16,7 @@ use Rattle.rules.specs.Schedulers.EventRefusals.{refusalOf}
 use Rattle.rules.specs.Schedulers.Eager.{eagerTest}
 use Rattle.rules.specs.Schedulers.Lazy.{wordsOf, lazyCall}
 use Rattle.rules.specs.Replays.Step.{stepOf}
-use Rattle.rules.specs.Numbers.Answer.{passes, testedNumber, answerNumber, answerCalls}
+use Rattle.rules.specs.Numbers.Answer.{passes, testedNumber, answerNumber, answerCalls, verdictNumber, verdictPlace}
 use Rattle.rules.specs.Replays.Run.{Ran, withRow, onward, runFrom}
 use Rattle.rules.specs.Demands.History.{eventAt, eagerAt, lazyAt, acceptedAt, callsDue}
 use Rattle.rules.specs.Demands.Demand2.{Demand2}
@@ -32,9 +31,9 @@ use Rattle.rules.specs.declared.event.Event.{Event}
 use Rattle.rules.specs.declared.event.Event.the-variants.{Tick}
 use Rattle.rules.proofs.Numbers.Choice.{lt-or-le}
 use Rattle.rules.proofs.Numbers.Place.{below}
-use Rattle.rules.proofs.Numbers.Checks.{refused-not}
 use Rattle.rules.proofs.Demands.Follow.{same-test, follows, same-figures}
 use Rattle.rules.proofs.Demands.Calls.{due}
+use Rattle.rules.proofs.Demands.Demand1.{answer-numbered}
 use Rattle.rules.proofs.Demands.Demand2.{demand2}
 use Rattle.rules.proofs.Demands.History.{passedAt, all-counted}
 use Rattle.rules.proofs.Demands.Jobs.{lateAt, delays-same, delay-counted, demand3}
@@ -177,18 +176,34 @@ module _ {p : Plan} (O : Obeys p) (es : List Event) (rows : List ℕ) (room : le
     delay-said : (t : ℕ) → at (ran .state .delay) t ≡ at (lazyAt p es a .delay) t
     delay-said t = ap (λ (s : State). at (s .delay) t) (E .state)
 
-    refused-at : a < length es
-        → (why : Refusal) × (ran .verdict ≡ Verdict.Refused why a) × (numberOf why ≡ testedNumber (eagerTest p (eagerAt p es a) (eventAt es a)))
-        × (numberOf why ≢ 10) × (numberOf why ≢ 17)
-    unfolding answerNumber
-    refused-at h =
-        let (why, v, said) = E .refused h in
-        let D : Demand2 p es a = demand2 O es a in
-        let n : answerNumber (stepOf p (lazyAt p es a) (eventAt es a) .answer) ≡ numberOf why = ap answerNumber said in
-        (why, v, sym n ∙ D .answers, λ e. D .no10 (n ∙ e), λ e. D .no17 (n ∙ e))
+    module _ (h : a < length es) where
+      number-is : verdictNumber (ran .verdict) ≡ answerNumber (stepOf p (lazyAt p es a) (eventAt es a) .answer)
+      unfolding verdictNumber answerNumber
+      number-is = let (why, v, said) = E .refused h in ap verdictNumber v ∙ ap answerNumber (sym said)
 
-    all-passed : ran .verdict ≡ Verdict.Passed → a ≡ length es
-    all-passed v = ⊎-elim (λ h. let (why, w, _) = E .refused h in refused-not why a (sym w ∙ v)) (λ h. omega (arith, E .within)) (lt-or-le a (length es))
+      number-said : verdictNumber (ran .verdict) ≡ testedNumber (eagerTest p (eagerAt p es a) (eventAt es a))
+      number-said = number-is ∙ demand2 O es a .answers
+
+      place-said : verdictPlace (ran .verdict) ≡ a
+      unfolding verdictPlace
+      place-said = let (why, v, _) = E .refused h in ap verdictPlace v
+
+      not-passed : verdictNumber (ran .verdict) ≢ 0
+      unfolding verdictNumber
+      not-passed e = let (why, v, said) = E .refused h in omega (arith, answer-numbered p (lazyAt p es a) (eventAt es a) why said, ap verdictNumber v, e)
+
+    -- the number of a run is that of an event's answer, or 0
+    never : (n : ℕ) → 0 < n → answerNumber (stepOf p (lazyAt p es a) (eventAt es a) .answer) ≢ n → verdictNumber (ran .verdict) ≢ n
+    unfolding verdictNumber
+    never n q f e = ⊎-elim (λ h. f (sym (number-is h) ∙ e)) (λ h. omega (arith, ap verdictNumber (E .passed (omega (arith, E .within))), e))
+        (lt-or-le a (length es))
+
+    all-passed : verdictNumber (ran .verdict) ≡ 0 → a ≡ length es
+    all-passed v = ⊎-elim (λ h. absurd (not-passed h v)) (λ h. omega (arith, E .within)) (lt-or-le a (length es))
+
+    none-passed : a ≡ length es → verdictNumber (ran .verdict) ≡ 0
+    unfolding verdictNumber
+    none-passed e = ap verdictNumber (E .passed e)
 
     ran-so : RanUpTo p es rows ran a
     ran-so =
@@ -197,8 +212,11 @@ module _ {p : Plan} (O : Obeys p) (es : List Event) (rows : List ℕ) (room : le
           within = E .within;
           accepted = E .soFar .accepted;
           state = E .state;
-          passed = (all-passed, E .passed);
-          refused = refused-at;
+          passed = (all-passed, none-passed);
+          number = number-said;
+          place = place-said;
+          no10 = never 10 (omega arith) (D .no10);
+          no17 = never 17 (omega arith) (D .no17);
           written = E .soFar .written;
           stay = E .soFar .stay;
           size = E .soFar .size;

@@ -7,10 +7,8 @@ use Prim.Native.Nat.{ℕ, suc, _+_, _*_, _≤_, _<_}
 use lib.ListN.{length}
 use Rattle.rules.specs.Numbers.Capacity.{nobody}
 use Rattle.rules.specs.Numbers.Place.{at}
-use Rattle.rules.specs.Numbers.Refusal.{numberOf}
-use Rattle.rules.specs.Numbers.Answer.{testedNumber}
+use Rattle.rules.specs.Numbers.Answer.{testedNumber, verdictNumber, verdictPlace}
 use Rattle.rules.specs.Books.Book.{planIn, eventsOf, checkOf}
-use Rattle.rules.specs.Schedulers.State.{freshOf}
 use Rattle.rules.specs.Schedulers.Figures.{figuresOf, holds, rankOf}
 use Rattle.rules.specs.Schedulers.Eager.{eagerTest}
 use Rattle.rules.specs.Replays.Run.{Ran}
@@ -21,16 +19,8 @@ use Rattle.rules.specs.Demands.Job.{Accepted, Does, Job, lowerTotal}
 use Rattle.rules.specs.Demands.Demand2.{Foremost, NextWord, Outranked}
 use Rattle.rules.specs.Demands.Demand3.{Demand3}
 use Rattle.rules.specs.declared.plan.Plan.{Plan}
-use Rattle.rules.specs.declared.refusal.Refusal.{Refusal}
-use Rattle.rules.specs.declared.answer.Verdict.{Verdict}
 use Rattle.rules.specs.declared.event.Event.{Event}
 use Rattle.rules.specs.declared.event.Event.the-variants.{Release, Acquire, Unlock, Finish}
-
--- "They return no state and leave the rows untouched": what is returned for a refusal of 1 to 9, with row space `rows`
-pub record Untouched (rows : List ℕ) (ran : Ran) (why : Refusal) (place : ℕ) : Type 0 where
-  pub verdict : ran .verdict ≡ Verdict.Refused why place
-  pub state : ran .state ≡ freshOf
-  pub bytes : ran .rows ≡ rows
 
 -- "a row of four bytes is written: running task (255 for nobody), user word, next word, 1 for a lazy call or else 0": the row of the event at place k
 pub record RowAt (p : Plan) (es : List Event) (k : ℕ) (task user next call : ℕ) : Type 0 where
@@ -57,10 +47,11 @@ pub record RanUpTo (p : Plan) (es : List Event) (rows : List ℕ) (ran : Ran) (a
   pub state : ran .state ≡ lazyAt p es a
   -- nothing is refused exactly where these are all the events; else the event at place a is, with the number that the eager scheduler gives it,
   -- which is neither 10 nor 17
-  pub passed : (ran .verdict ≡ Verdict.Passed) ↔ (a ≡ length es)
-  pub refused : a < length es
-      → (why : Refusal) × (ran .verdict ≡ Verdict.Refused why a) × (numberOf why ≡ testedNumber (eagerTest p (eagerAt p es a) (eventAt es a)))
-      × (numberOf why ≢ 10) × (numberOf why ≢ 17)
+  pub passed : (verdictNumber (ran .verdict) ≡ 0) ↔ (a ≡ length es)
+  pub number : a < length es → verdictNumber (ran .verdict) ≡ testedNumber (eagerTest p (eagerAt p es a) (eventAt es a))
+  pub place : a < length es → verdictPlace (ran .verdict) ≡ a
+  pub no10 : verdictNumber (ran .verdict) ≢ 10
+  pub no17 : verdictNumber (ran .verdict) ≢ 17
   -- each accepted event has its row, and all other row bytes stay
   pub written : (k : ℕ) → k < a → RowAt p es k (at (ran .rows) (k * 4)) (at (ran .rows) (k * 4 + 1)) (at (ran .rows) (k * 4 + 2)) (at (ran .rows) (k * 4 + 3))
   pub stay : (i : ℕ) → a * 4 ≤ i → at (ran .rows) i ≡ at rows i
@@ -81,7 +72,7 @@ pub record RanUpTo (p : Plan) (es : List Event) (rows : List ℕ) (ran : Ran) (a
 
 -- the run of a list is accepted whole, t's job goes on at its end, and the delay that is reported is the bound
 pub record Reaches (p : Plan) (es : List Event) (t : ℕ) (ran : Ran) : Type 0 where
-  pub verdict : ran .verdict ≡ Verdict.Passed
+  pub verdict : verdictNumber (ran .verdict) ≡ 0
   pub released : ℕ
   pub job : Job p es t released (length es)
   pub delay : at (ran .state .delay) t ≡ boundOf p t
@@ -95,9 +86,8 @@ pub record BookReaches (b : List ℕ) (t : ℕ) : Type 0 where
 
 -- what is promised of the replay of a book b with row space `rows`
 pub record Promised (b rows : List ℕ) : Type 0 where
-  -- 1 to 9 in order, each with its place
-  pub untouched : (why : Refusal) (place : ℕ) → checkOf b (length rows) ≡ Verdict.Refused why place → Untouched rows (replayOf b rows) why place
-  -- or its events run; the state says how many were accepted
-  pub ran : checkOf b (length rows) ≡ Verdict.Passed → RanUpTo (planIn b) (eventsOf b) rows (replayOf b rows) (replayOf b rows .state .head .accepted)
+  -- where none of 1 to 9 refuses it (demand 1), its events run; the state says how many were accepted
+  pub ran : verdictNumber (checkOf b (length rows)) ≡ 0
+      → RanUpTo (planIn b) (eventsOf b) rows (replayOf b rows) (replayOf b rows .state .head .accepted)
   -- and the bound of every task of its plan is reached
-  pub reached : checkOf b (length rows) ≡ Verdict.Passed → (t : ℕ) → t < planIn b .tasks → BookReaches b t
+  pub reached : verdictNumber (checkOf b (length rows)) ≡ 0 → (t : ℕ) → t < planIn b .tasks → BookReaches b t

@@ -1,3 +1,6 @@
 -- The promises, said of the code.
 pub mod OneResult
-pub mod SaidOfCode
+pub mod Unread
+pub mod Obeying
+pub mod Refusals
+pub mod Steps

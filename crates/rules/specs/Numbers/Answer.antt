@@ -7,6 +7,8 @@ use Rattle.rules.specs.declared.answer.Tested.{Tested}
 use Rattle.rules.specs.declared.answer.Answer.{Answer}
 use Rattle.rules.specs.declared.answer.Verdict.{Verdict}
 use Rattle.rules.specs.declared.answer.Found.{Found}
+use Rattle.rules.specs.declared.event.Event.{Event}
+use Rattle.rules.specs.declared.event.Event.the-variants.{Tick}
 
 -- nothing is refused
 unfoldable pub passes : Tested → Bool
@@ -35,6 +37,22 @@ verdictNumber (Verdict.Refused why place) = numberOf why
 unfoldable pub verdictPlace : Verdict → ℕ
 verdictPlace Verdict.Passed = 0
 verdictPlace (Verdict.Refused why place) = place
+
+-- what a reader finds at a place: whether there is an event, which one (a tick where there is none) and the next place
+unfoldable pub foundSome : Found → Bool
+foundSome (Found.Got e next) = true
+foundSome (Found.Refused why place) = false
+foundSome Found.End = false
+
+unfoldable pub foundEvent : Found → Event
+foundEvent (Found.Got e next) = e
+foundEvent (Found.Refused why place) = Tick
+foundEvent Found.End = Tick
+
+unfoldable pub foundNext : Found → ℕ
+foundNext (Found.Got e next) = next
+foundNext (Found.Refused why place) = 0
+foundNext Found.End = 0
 
 -- the number of a record that is refused, and 0 for an event or the end
 unfoldable pub foundNumber : Found → ℕ

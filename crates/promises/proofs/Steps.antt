@@ -1,0 +1,55 @@
+-- Demands 2 and 3, said of a run of `step` from a fresh start. Assumes nothing.
+use mathlib.Core.Path.{_≡_, refl, sym, _∙_, ap, subst}
+use mathlib.Core.Bool.{true}
+use mathlib.Core.List.{List}
+use Prim.Native.Nat.{ℕ, zero, suc, _≤_}
+use native.Mathlib.Omega.{arith}
+use Rattle.rules.specs.Books.Plan.{Obeys}
+use Rattle.rules.specs.Numbers.Place.{at}
+use Rattle.rules.specs.Schedulers.Figures.{figuresOf, holds}
+use Rattle.rules.specs.Replays.Step.{stepOf}
+use Rattle.rules.specs.Demands.History.{eventAt, lazyAt}
+use Rattle.rules.specs.Demands.Demand2.{Demand2}
+use Rattle.rules.specs.declared.plan.Plan.{Plan}
+use Rattle.rules.specs.declared.state.State.{State}
+use Rattle.rules.specs.declared.event.Event.{Event}
+use Rattle.rules.specs.declared.answer.Stepped.{Stepped}
+use Rattle.rules.proofs.Demands.Demand2.{demand2}
+use Rattle.rules.proofs.Demands.Jobs.{lateAt, delays-same, delay-counted}
+use Rattle.promises.specs.Stepping.{StepsTo, ComesTo, StepAt}
+
+module _ {p : Plan} (O : Obeys p) (es : List Event) where
+  -- the state is the history's
+  comes-to : (k : ℕ) (s : State) → ComesTo p es k s → s ≡ lazyAt p es k
+  unfolding ComesTo lazyAt
+  comes-to zero s h = h
+  comes-to (suc k) s (t, r, before, stepped, e) =
+      e ∙ ap (λ (q : Stepped). q .state) stepped ∙ ap (λ (u : State). stepOf p u (eventAt es k) .state) (comes-to k t before)
+
+  at-place : (k : ℕ) → StepAt p es k (stepOf p (lazyAt p es k) (eventAt es k))
+  unfolding lazyAt
+  at-place k =
+      let D : Demand2 p es k = demand2 O es k in
+      let E : Demand2 p es (suc k) = demand2 O es (suc k) in
+      record {
+        figures = E .figures;
+        running = E .running;
+        user = E .user;
+        next = E .next;
+        oneHolder = subst (λ f. (x y l : ℕ) → holds f x l ≡ true → holds f y l ≡ true → x ≡ y) (sym (E .figures)) (E .oneHolder);
+        lazy = E .lazy;
+        eager = E .eager;
+        delays = delay-counted O es (suc k);
+        bounded = λ t n h. omega (arith, h, delays-same O es (suc k) t, lateAt O es (suc k) .bounded t);
+        number = D .answers;
+        no10 = D .no10;
+        no17 = D .no17;
+        once = D .calls;
+        unlock = D .unlock;
+        acquire = D .acquire;
+      }
+
+  -- at every place of every list
+  pub steps-keep : (k : ℕ) (s : State) (r : Stepped) → ComesTo p es k s → StepsTo p es k s r → StepAt p es k r
+  steps-keep k s r before stepped =
+      subst (StepAt p es k) (sym (stepped ∙ ap (λ (u : State). stepOf p u (eventAt es k)) (comes-to k s before))) (at-place k)

@@ -1,0 +1,3 @@
+-- What is promised of the code, over the contracts of its functions.
+pub mod Stepping
+pub mod Reaching

@@ -1,6 +1,9 @@
 -- The promises, said of the code.
 pub mod OneResult
 pub mod Unread
+pub mod Passed
 pub mod Obeying
 pub mod Refusals
 pub mod Steps
+pub mod Replays
+pub mod Reading

@@ -38,7 +38,7 @@ module _ {M : Type 1} (𝓤 : URA M) (H : Heap 𝓤) (A : Atoms 𝓤) (mem : Mem
 
   pub one-next : (κs : Lfts 1) (a : _) (r q : Found) (e f : _)
       → ent 𝓤 (sep 𝓤 (next.clauses 𝓤 H A mem run κs a .ensures tt r e) (next.clauses 𝓤 H A mem run κs a .ensures tt q f)) (fact 𝓤 (r ≡ q))
-  one-next κs a r q e f = both 𝓤 (r ≡ foundAt (now (a .0 .body)) (a .0 .place)) (q ≡ foundAt (now (a .0 .body)) (a .0 .place)) (r ≡ q) (λ h k. h ∙ sym k)
+  one-next κs a r q e f = both 𝓤 _ _ (r ≡ q) (λ h k. h ∙ sym k)
 
   pub moved-says : (κs : Lfts 1) (a : _) (r : Reader) (e : _)
       → moved.clauses 𝓤 H A mem run κs a .ensures tt r e ≡ fact 𝓤 (r ≡ readerAt (a .0) (a .1 .0))
@@ -46,7 +46,7 @@ module _ {M : Type 1} (𝓤 : URA M) (H : Heap 𝓤) (A : Atoms 𝓤) (mem : Mem
 
   pub one-moved : (κs : Lfts 1) (a : _) (r q : Reader) (e f : _)
       → ent 𝓤 (sep 𝓤 (moved.clauses 𝓤 H A mem run κs a .ensures tt r e) (moved.clauses 𝓤 H A mem run κs a .ensures tt q f)) (fact 𝓤 (r ≡ q))
-  one-moved κs a r q e f = both 𝓤 (r ≡ readerAt (a .0) (a .1 .0)) (q ≡ readerAt (a .0) (a .1 .0)) (r ≡ q) (λ h k. h ∙ sym k)
+  one-moved κs a r q e f = both 𝓤 _ _ (r ≡ q) (λ h k. h ∙ sym k)
 
   -- ---- the load of a lent table of task records
 
@@ -56,12 +56,14 @@ module _ {M : Type 1} (𝓤 : URA M) (H : Heap 𝓤) (A : Atoms 𝓤) (mem : Mem
 
   pub one-load-table : (κs : Lfts 3) (a : _) (r q : Loaded) (e f : _)
       → ent 𝓤 (sep 𝓤 (load-table.clauses 𝓤 H A mem run κs a .ensures tt r e) (load-table.clauses 𝓤 H A mem run κs a .ensures tt q f)) (fact 𝓤 (r ≡ q))
-  one-load-table κs a r q e f = both 𝓤 (r ≡ loadOf (numbersOf (now (a .0))) (now (a .1 .0)) (now (a .1 .1 .0))) (q ≡ loadOf (numbersOf (now (a .0))) (now (a .1 .0)) (now (a .1 .1 .0))) (r ≡ q) (λ h k. h ∙ sym k)
+  one-load-table κs a r q e f = both 𝓤 _ _ (r ≡ q) (λ h k. h ∙ sym k)
 
   pub recorder-load-table-says : (κs : Lfts 3) (a : _) (r : DeviceLoad) (e : _)
-      → recorder-load-table.clauses 𝓤 H A mem run κs a .ensures tt r e ≡ fact 𝓤 (r ≡ loadSpelled (loadOf (numbersOf (now (a .0))) (now (a .1 .0)) (now (a .1 .1 .0))))
+      → recorder-load-table.clauses 𝓤 H A mem run κs a .ensures tt r e
+      ≡ fact 𝓤 (r ≡ loadSpelled (loadOf (numbersOf (now (a .0))) (now (a .1 .0)) (now (a .1 .1 .0))))
   recorder-load-table-says κs a r e = refl
 
   pub one-recorder-load-table : (κs : Lfts 3) (a : _) (r q : DeviceLoad) (e f : _)
-      → ent 𝓤 (sep 𝓤 (recorder-load-table.clauses 𝓤 H A mem run κs a .ensures tt r e) (recorder-load-table.clauses 𝓤 H A mem run κs a .ensures tt q f)) (fact 𝓤 (r ≡ q))
-  one-recorder-load-table κs a r q e f = both 𝓤 (r ≡ loadSpelled (loadOf (numbersOf (now (a .0))) (now (a .1 .0)) (now (a .1 .1 .0)))) (q ≡ loadSpelled (loadOf (numbersOf (now (a .0))) (now (a .1 .0)) (now (a .1 .1 .0)))) (r ≡ q) (λ h k. h ∙ sym k)
+      → ent 𝓤 (sep 𝓤 (recorder-load-table.clauses 𝓤 H A mem run κs a .ensures tt r e) (recorder-load-table.clauses 𝓤 H A mem run κs a .ensures tt q f))
+      (fact 𝓤 (r ≡ q))
+  one-recorder-load-table κs a r q e f = both 𝓤 _ _ (r ≡ q) (λ h k. h ∙ sym k)

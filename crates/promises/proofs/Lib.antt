@@ -7,3 +7,4 @@ pub mod Refusals
 pub mod Steps
 pub mod Replays
 pub mod Reading
+pub mod Device

@@ -1,0 +1,48 @@
+-- What a host in another language is answered is what the library's own functions answer, in numbers; so whatever is promised of these holds for the host.
+-- Assumes nothing.
+use mathlib.Core.Path.{_≡_, refl, sym, _∙_, ap}
+use mathlib.Core.Bool.{true, false}
+use Prim.Native.Nat.{ℕ}
+use contract.Lifetimes.{Lfts}
+use denote.Ref.{now}
+use Rattle.rules.specs.Numbers.Choice.{if_then_else_}
+use Rattle.rules.specs.Books.Event.{eventOf}
+use Rattle.rules.specs.Replays.Run.{Ran}
+use Rattle.rules.specs.declared.plan.Plan.{Plan}
+use Rattle.rules.specs.declared.state.State.{State}
+use Rattle.rules.specs.declared.answer.Checked.{Checked}
+use Rattle.rules.specs.declared.answer.Stepped.{Stepped}
+use Rattle.rules.specs.declared.answer.Replayed.{Replayed}
+use Rattle.device.specs.Device.{checkSpelled, replaySpelled, stepSpelled, noEvent, notStepped}
+use Rattle.device.specs.declared.check.DeviceCheck.{DeviceCheck}
+use Rattle.device.specs.declared.replay.DeviceReplay.{DeviceReplay}
+use Rattle.device.specs.declared.step.DeviceStep.{DeviceStep}
+use Rattle.book.proofs.check.Reads as check
+use Rattle.scheduler.proofs.step.Reads as step
+use Rattle.scheduler.proofs.replay.Reads as replay
+use Rattle.device.proofs.check.recorder_check.Reads as recorder-check
+use Rattle.device.proofs.replay.recorder_replay.Reads as recorder-replay
+use Rattle.device.proofs.step.recorder_step.Reads as recorder-step
+
+pub check-for-host : (κs : Lfts 1) (a : _) (b c : _) (r : DeviceCheck) (q : Checked) → recorder-check.Post κs a r b → check.Post κs a q c → r ≡ checkSpelled q
+check-for-host κs a b c r q h k = h ∙ ap checkSpelled (sym k)
+
+pub replay-for-host : (κs : Lfts 2) (a : _) (b c : _) (r : DeviceReplay) (q : Replayed) → recorder-replay.Post κs a r b → replay.Post κs a q c
+    → (r ≡ replaySpelled (q .verdict) (q .plan) (q .state)) × (now (b .1 .0) ≡ now (c .1 .0))
+replay-for-host κs a b c r q h k = (
+  h .0 ∙ (λ i. let ran : Ran = sym (k .0) i in replaySpelled (ran .verdict) (sym (k .1) i) (ran .state)),
+  h .1 ∙ ap (λ (ran : Ran). ran .rows) (sym (k .0)),
+)
+
+module _ (p : Plan) (s : State) (kind id amount : ℕ) (r : DeviceStep)
+    (h : recorder-step.Post tt (p, (s, (kind, (id, (amount, tt))))) r (p, (s, (kind, (id, (amount, tt)))))) where
+  -- numbers that are an event's
+  pub step-for-host : (q : Stepped) → noEvent kind id amount ≡ false
+      → step.Post tt (p, (s, (eventOf kind id amount, tt))) q (p, (s, (eventOf kind id amount, tt))) → r ≡ stepSpelled q
+  unfolding if_then_else_
+  step-for-host q e k = h ∙ rw e (ap stepSpelled (sym k))
+
+  -- and others, which are refused with 8 and leave the state
+  pub no-step-for-host : noEvent kind id amount ≡ true → r ≡ notStepped s
+  unfolding if_then_else_
+  no-step-for-host e = h ∙ rw e refl

@@ -1,5 +1,5 @@
--- The reader walks the event body where it lies, one record at a time: in a book that passes 1 to 9, what it finds at place k is event k, with the next place;
--- after the last one it finds the end. Assumes nothing.
+-- RULES 4.8: a reader comes by every event of a book that passes 1 to 9: what it finds at place k is event k, with the next place; after the last one it
+-- finds the end. Assumes nothing.
 use mathlib.Core.Path.{_≡_, sym, _∙_, ap}
 use mathlib.Core.List.{List}
 use Prim.Native.Nat.{ℕ, _+_, _/_, _≤_, _<_}

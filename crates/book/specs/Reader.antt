@@ -1,4 +1,4 @@
--- A reader of the event body at a place. Assumes nothing.
+-- RULES 4.8: a reader of the event body at a place. Assumes nothing.
 use Prim.Native.Nat.{ℕ}
 use Rattle.book.specs.declared.reader.Reader.{Reader}
 

@@ -1,4 +1,4 @@
--- Each refusal of document 01's table is given exactly where its own test holds, at its first offender, and none before it does. Assumes nothing.
+-- RULES 5.1: each refusal is given exactly where its own test holds, at its first offender, and none before it does. Assumes nothing.
 use mathlib.Core.Path.{_≡_, refl, sym, _∙_, ap}
 use mathlib.Core.Logic.{_↔_}
 use mathlib.Core.Bool.{Bool, true, false, not}

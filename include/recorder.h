@@ -3,7 +3,8 @@
  * A slice is passed as its address and its length in elements. An address is never null, also where the length is 0;
  * the library keeps none of them after it returns. The rows overlap nothing else that is passed.
  * A plan and a state are passed and returned by value: the library keeps nothing between two calls.
- * No function fails otherwise than by the number that it returns, whatever it is handed. docs/RULES.md has the numbers. */
+ * No function fails otherwise than by the number that it returns, whatever it is handed. docs/RULES.md has the numbers
+ * in its section 5, and what each function takes and answers in its section 16. */
 #ifndef RECORDER_H
 #define RECORDER_H
 
@@ -26,7 +27,7 @@ extern "C" {
 /* The running task's byte where nobody runs. */
 #define RECORDER_NOBODY 255
 
-/* A plan. Tasks and locks are named by place, from 0; places past the last one hold 0. */
+/* A plan. A task or a lock is its place, from 0. Places past the last one hold 0. */
 struct recorder_plan {
     size_t tasks;
     size_t locks;
@@ -109,13 +110,13 @@ struct recorder_load recorder_load_table(const struct recorder_task *tasks, size
 /* The state before the first event. */
 struct recorder_state recorder_fresh(void);
 
-/* Steps one event of a kind; what the kind does not use is 0, or it is refused by 8. Any plan and any state may be
- * handed in: what no scheduler can be in is refused by 10. */
+/* Steps one event of a kind; what the kind does not use is 0, or it is refused by 8. Work of 0 units is an event, which
+ * 20 refuses. Plan and state may be anything: what no scheduler can be in is refused by 10. */
 struct recorder_step recorder_step(struct recorder_plan plan, struct recorder_state state, uint8_t kind, uint8_t id,
                                    uint16_t amount);
 
-/* Replays a book until its first refusal, and writes a row of four bytes for each accepted event:
- * running task, user word, next word, 1 for a lazy call or else 0. All other row bytes stay. */
+/* Replays a book up to its first refusal. The accepted event at place k has the four row bytes from 4 * k on: who runs
+ * after it, the user word, the next word, and whether it was a lazy call, as 1 or 0. No other row byte changes. */
 struct recorder_replay recorder_replay(const uint8_t *book, size_t length, uint8_t *rows, size_t room);
 
 /* The bound on the delay of a task of the book's plan; 0 for any other task, and for a book that is refused. */

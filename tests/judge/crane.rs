@@ -1,6 +1,6 @@
-//! The crane plan with its runs P1 to P12 and the values that are given for
-//! them, and the four ways that are easy to go wrong, each of which must show on
-//! the run that is meant to show it.
+//! RULES 18: the crane plan with its runs P1 to P12 and the values that are given
+//! for them, and the four mistakes, each of which must show on the run that is
+//! meant to show it.
 
 use crate::draft::Draft;
 use crate::eager::Eager;
@@ -251,7 +251,7 @@ fn single_steps(tests: &mut Tests) {
     tests.expect("lazy: then work of 0 is 11", lazy.step(Work(0)), Err(11));
 }
 
-/// Each easy way to go wrong, on the run that is meant to show it.
+/// RULES 18.4: each of the four mistakes, on the run that is meant to show it.
 fn wrong_ways(tests: &mut Tests) {
     let p2 = RUNS[1].1;
     let p4 = RUNS[3].1;

@@ -1,6 +1,6 @@
-//! An independent judge of the scheduler project: a second reading of the exact
-//! rules, with its own reader of books, its own two schedulers and its own test
-//! of soundness. It makes books and states, has the program under judgement
+//! An independent judge of the scheduler project: a second reading of the rules,
+//! with its own reader of books, its own two schedulers and its own test of
+//! soundness. It makes books and states, has the program under judgement
 //! replay, check and step them, and compares every field and figure of every
 //! answer with its own. It shares no line with what it judges.
 //!

@@ -1,4 +1,4 @@
-//! Ways to go wrong on purpose: four that are known to be easy, and others that
+//! Ways to go wrong on purpose: the four mistakes of RULES 18.4, and others that
 //! only single steps can show. The judge can follow one of them; a right
 //! program must then differ from it, which shows that the judge is able to fail
 //! a program.

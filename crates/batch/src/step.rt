@@ -1,5 +1,5 @@
 // A single step. It is handed a plan, a state and an event's four bytes (kind, id, amount; work of 0
-// may be handed in too). The reply: the refusal's number or 0, 1 for a lazy call or else 0, and the
+// may be handed in too). The reply: the refusal's number or 0, the lazy calls, 1 or 0, and the
 // state after it, figure by figure.
 use crate::figures::PLAN_SIZE;
 use crate::figures::STATE_SIZE;

@@ -13,7 +13,8 @@ use Rattle.rules.specs.Numbers.Place.{firstFrom}
 use Rattle.rules.specs.Numbers.Refusal.{numberOf, firstFault, checkFor}
 use Rattle.rules.specs.Books.Plan.{most, countFault}
 use Rattle.rules.specs.Books.Load.{loadOf, loadChecks}
-use Rattle.rules.specs.Books.Book.{contents, countAt, bodyAt, layoutFault, tasksOf, locksOf, usesOf, planIn, eventBody, recordFault, contentsChecks, eventChecks, checkOf, passedCheck, refusedCheck, checkedAs, checkedOf}
+use Rattle.rules.specs.Books.Book.{contents, countAt, bodyAt, layoutFault, tasksOf, locksOf, usesOf, planIn, eventBody, recordFault}
+use Rattle.rules.specs.Books.Book.{contentsChecks, eventChecks, checkOf, passedCheck, refusedCheck, checkedAs, checkedOf}
 use Rattle.rules.specs.declared.plan.Plan.{Plan}
 use Rattle.rules.specs.declared.answer.Verdict.{Verdict}
 use Rattle.rules.specs.declared.answer.Loaded.{Loaded}

@@ -1,4 +1,5 @@
--- A book whose contents pass 1 to 3: it has them, its counts are in range, and its bodies lie one after the other up to its end. Assumes nothing.
+-- RULES 4.2, 4.3: a book whose contents pass 1 to 3: it has them, its counts are in range, and its bodies lie one after the other up to its end.
+-- Assumes nothing.
 use mathlib.Core.Path.{_≡_}
 use mathlib.Core.List.{List}
 use Prim.Native.Nat.{ℕ, _≤_}

@@ -1,3 +1,3 @@
--- What the code of this crate asks of its own callers, and the reader at a place.
+-- RULES 4: what the code of this crate asks of its own callers, and the reader at a place.
 pub mod Laid
 pub mod Reader

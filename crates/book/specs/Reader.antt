@@ -1,4 +1,4 @@
--- A reader of the event body at a place, and what it finds in a book that is accepted. Assumes nothing.
+-- RULES 4.8: a reader of the event body at a place, and what it finds in a book that is accepted. Assumes nothing.
 use mathlib.Core.Path.{_≡_}
 use mathlib.Core.Bool.{true, false}
 use mathlib.Core.List.{List}

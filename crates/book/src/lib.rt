@@ -1,5 +1,5 @@
-// A book: its contents (1 to 3), its plan (2 and 4 to 7), its events where they lie (8), and the
-// row space for them (9).
+// RULES 4 and 5: a book, that is its contents (1 to 3), its plan (2 and 4 to 7), its events where they
+// lie (8), and the row space for them (9).
 mod bodies;
 mod contents;
 pub mod cursor;

@@ -1,5 +1,5 @@
-// A reader walks the event body where it lies in the lent book: it holds the event bytes and a place,
-// and each function over it takes it apart for the cursor.
+// RULES 4.8: a reader of the event body, which stays in the lent book: the bytes of the body and a
+// place. Each function over it takes it apart for the cursor.
 use crate::cursor::cursor;
 use rules::answer::Found;
 ghost use mathlib.Core.Path.{_≡_};

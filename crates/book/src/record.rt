@@ -3,7 +3,7 @@ use rules::event::Event;
 ghost use mathlib.Core.Path.{_≡_};
 ghost use Rattle.rules.specs.Books.Event.{eventFault, eventOf};
 
-// 8: a kind outside 1 to 6, an unused field that isn't 0, or work of 0.
+// 8: no event's kind, something in a field without use, or work of no units.
 pub fn event_fault(kind: u8, id: u8, amount: u16) -> bool
     ensures { λ r. ⌜ r ≡ eventFault kind id amount ⌝ }
 {

@@ -186,7 +186,7 @@ module _ (ts : List TaskRecord) (locks uses : List ℕ) where
     records = refl;
   }
 
-  -- "gives the same plan or refusal as the book form would", for every table, all locks and all uses
+  -- RULES 6.4, for every table, all locks and all uses
   pub table-as-book : loadOf (numbersOf ts) locks uses ≡ answerOf (checkedOf (bookOf ts locks uses) 0)
   table-as-book = sym (same-as-book b 0 only-plan ∙ ap (λ xs. loadOf (numbersOf xs) (locksOf b) (usesOf b)) records-back
       ∙ ap₂ (loadOf (numbersOf ts)) locks-back uses-back)

@@ -1,4 +1,4 @@
--- A table gives "the same plan or refusal as the book form would" for the same records. Assumes nothing.
+-- RULES 6.4: a book and the table of its task records give the same plan or the same refusal. Assumes nothing.
 use mathlib.Core.Path.{_≡_, refl, sym, _∙_, ap}
 use mathlib.Core.Logic.{_⊎_, inl, inr, ⊎-elim}
 use mathlib.Core.Bool.{Bool, false}
@@ -63,7 +63,7 @@ module _ (b : List ℕ) where
   pub same-numbers : numbersOf (recordsOf b) ≡ tasksOf b
   same-numbers = map-from (recordAt b) 0 (countAt b 0)
 
-  -- "with the locks and uses as plain numbers": the load that the book's check asks
+  -- the load that the book's check asks, with its locks and its uses
   pub same-load : loadOf (numbersOf (recordsOf b)) (locksOf b) (usesOf b) ≡ loadOf (tasksOf b) (locksOf b) (usesOf b)
   same-load = ap (λ tasks. loadOf tasks (locksOf b) (usesOf b)) same-numbers
 

@@ -1,4 +1,4 @@
--- "The same plan or refusal as the book form would": the task records of a book as a table, and what a book answers of its plan. Assumes nothing.
+-- RULES 6.4: the task records of a book as a table, what a book answers of its plan, and the book of a table's records. Assumes nothing.
 use mathlib.Core.Path.{_≡_}
 use mathlib.Core.Bool.{false}
 use mathlib.Core.List.{List, [], _∷_, _++_}

@@ -1,5 +1,5 @@
--- What the library answers a host in another language: a verdict by its number and place, an answer by its number and calls, and beside them what the function
--- gives. Assumes nothing.
+-- RULES 16: what the library answers a host in another language: a verdict by its number and place, an answer by its number and calls, and beside them
+-- what the function gives. Assumes nothing.
 use mathlib.Core.Bool.{Bool, not}
 use Prim.Native.Nat.{ℕ, _*_}
 use lib.Dec.{eqb}

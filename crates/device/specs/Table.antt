@@ -1,4 +1,4 @@
--- "The device hands its tasks over as a lent table of task records": their numbers, and what is kept of them while they are read. Assumes nothing.
+-- RULES 6.3: the numbers of the task records of a lent table, and what is kept of them while they are read. Assumes nothing.
 use mathlib.Core.List.{List, [], _∷_, map}
 use Prim.Native.Nat.{ℕ, _+_, _*_, min}
 use lib.Dec.{ltb}
@@ -8,7 +8,7 @@ use Rattle.rules.specs.Numbers.Choice.{if_then_else_}
 use Rattle.device.specs.declared.table.TaskRecord.{TaskRecord}
 use Rattle.device.specs.declared.numbers.Numbers.{Numbers}
 
--- "A record has the two bytes of the book's task": its number, little-endian
+-- the number of a record's two bytes, the low one first
 abbrev pub wordOf : TaskRecord → ℕ
 wordOf t = t .base + t .second * 256
 

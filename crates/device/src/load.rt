@@ -1,4 +1,4 @@
-// The load of a plan from a lent table of task records.
+// RULES 6.3: the load of a plan from a lent table.
 use crate::table::TaskRecord;
 use crate::table::load_table;
 use rules::answer::Loaded;

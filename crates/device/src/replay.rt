@@ -19,8 +19,8 @@ pub struct DeviceReplay {
     pub state: State,
 }
 
-// 1 to 9 first, leaving the rows untouched; then the events until the first refusal, with four row
-// bytes for each accepted one. All other row bytes stay.
+// 1 to 9 first, and no row byte changes where one refuses; then the events up to the first refusal,
+// each accepted one with its four row bytes. No other byte of the rows changes.
 #[no_mangle]
 pub extern "C" fn recorder_replay(book: &[u8], rows: &mut [u8]) -> DeviceReplay
     ensures { λ r. ⌜ r ≡ replaySpelled (replayOf (now (book .entry)) (now (rows .entry)) .verdict)

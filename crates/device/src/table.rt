@@ -1,4 +1,4 @@
-// "A lent table of task records": a thin loader hands their numbers to the plan check.
+// RULES 6.3: a thin loader over a lent table, which hands the numbers of its records to the plan check.
 use crate::numbers;
 use crate::numbers::Numbers;
 use rules::answer::Loaded;
@@ -6,7 +6,7 @@ ghost use mathlib.Core.Path.{_≡_};
 ghost use Rattle.rules.specs.Books.Load.{loadOf};
 ghost use Rattle.device.specs.Table.{numbersOf, keptOf};
 
-// The two bytes of the book's task, as they lie in the table.
+// RULES 4.4: the two bytes of a task's record, as they lie in the table.
 #[repr(C)]
 pub struct TaskRecord {
     pub base: u8,

@@ -1,4 +1,4 @@
-// The two kinds of priority: the word of user space and the kernel's record. Here, and nowhere else, a
+// RULES 1.11: the two kinds of priority, words of user space and records of the kernel. Here alone a
 // number of the one kind becomes one of the other, meets it, or becomes a byte of a table and comes
 // back: tables are lent, and what is lent holds plain numbers.
 use rules::priority::KernelPriority;
@@ -48,7 +48,7 @@ pub fn recorded(u: UserPriority) -> KernelPriority
     KernelPriority(u.0)
 }
 
-// Whether a newcomer's base is strictly above the user word.
+// Whether the user word is strictly below a newcomer's base.
 pub fn above(base: KernelPriority, user: UserPriority) -> bool
     ensures { λ r. ⌜ r ≡ ltb (user .0) (base .0) ⌝ }
 {

@@ -1,5 +1,5 @@
--- The arms of the act: in a sound state each event's answer is document 01's. The parts that an event's code speaks of are put together here, and nowhere else.
--- Assumes nothing.
+-- The arms of the act: in a sound state each event's answer is the one of RULES 9. The parts that an event's code speaks of are put together here, and
+-- nowhere else. Assumes nothing.
 use mathlib.Core.Path.{_≡_, refl, sym, _∙_, ap, ap₂}
 use mathlib.Core.Bool.{Bool, false}
 use mathlib.Core.List.{List}

@@ -1,5 +1,5 @@
--- In a sound state the tests as the code makes them are document 01's: nobody's place is past the last, a lock's owner is the task whose row it stands in, and
--- the open sections are those along the row. Assumes nothing.
+-- In a sound state the tests as the code makes them are those of RULES 9.2: nobody's place is past the last, a lock's owner is the task whose row it stands
+-- in, and the open sections are those along the row. Assumes nothing.
 use mathlib.Core.Path.{_≡_, refl, sym, _∙_, ap, ap₂}
 use mathlib.Core.Logic.{⊎-elim}
 use mathlib.Core.Bool.{Bool, true, false, not, _&&_, _||_}

@@ -1,4 +1,4 @@
--- What the code answers beside the arrays that it is lent. Assumes nothing.
+-- RULES 7.1, 12.1: what the code answers beside the arrays that it is lent. Assumes nothing.
 use mathlib.Core.Bool.{Bool}
 use mathlib.Core.List.{List}
 use Prim.Native.Nat.{ℕ, _+_}

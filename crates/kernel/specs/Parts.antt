@@ -1,5 +1,5 @@
--- What the code of each event does with what it is lent, and with nothing else: the tests as it makes them, the figures by name, the words by their definition.
--- Assumes nothing.
+-- RULES 9: what the code of each event does with what it is lent, and with nothing else: the tests as it makes them, the figures by name, the words by
+-- their definition. Assumes nothing.
 use mathlib.Core.Path.{_≡_}
 use mathlib.Core.Bool.{Bool, false, not, _||_}
 use mathlib.Core.List.{List, [], _∷_}

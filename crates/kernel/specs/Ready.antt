@@ -1,4 +1,4 @@
--- What the code of each event asks of its caller: numbers that a sound state has, and that the tests of the event do not give. Assumes nothing.
+-- RULES 8: what the code of each event asks of its caller: numbers that a sound state has, and that the tests of the event do not give. Assumes nothing.
 use mathlib.Core.Path.{_≡_}
 use mathlib.Core.List.{List}
 use Prim.Native.Nat.{ℕ, _≤_, _<_, _^_}

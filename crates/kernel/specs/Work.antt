@@ -1,4 +1,4 @@
--- What work does, as the code goes about it: task by task, and along the row of the running task's open locks. Assumes nothing.
+-- RULES 9.7: what work does, as the code goes about it: task by task, and along the row of the running task's open locks. Assumes nothing.
 use mathlib.Core.Path.{_≡_}
 use mathlib.Core.Bool.{Bool, true, false, _&&_, _||_}
 use mathlib.Core.List.{List}

@@ -1,4 +1,4 @@
-// Acquire.
+// RULES 9.5: acquire.
 use crate::acted::Acted;
 use crate::counts::accepted;
 use crate::counts::refused;

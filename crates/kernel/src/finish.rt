@@ -1,4 +1,4 @@
-// Finish.
+// RULES 9.8: finish.
 use crate::acted::Acted;
 use crate::counts::accepted;
 use crate::counts::refused;

@@ -1,6 +1,6 @@
-// The words of the lazy scheduler after each event that moves them: who runs, the user word and the
-// next word, and the kept and saved priorities. The figures are moved elsewhere: another protocol
-// replaces what stands here, and nothing else.
+// RULES 9.4 to 9.8: the words of the lazy scheduler after each event that moves them: who runs, the
+// user word, the next word, kept priorities and saved words. The figures are moved elsewhere: another
+// protocol replaces what stands here, and nothing else.
 use crate::switch::Turn;
 use crate::switch::keep;
 use crate::switch::switch;
@@ -27,8 +27,8 @@ ghost use Rattle.rules.specs.Numbers.Place.{at, greatest};
 ghost use Rattle.kernel.specs.Lent.{turned, turnOf, wordsOn};
 ghost use Rattle.kernel.specs.Parts.{UnlockWords};
 
-// Release: the kernel keeps the newcomer t's base, and switches only where that is strictly above the
-// user word.
+// Release: the kernel keeps the newcomer t's base. It switches where the user word is strictly below
+// that base, and only there.
 pub fn after_release(
     h: Head,
     n: usize,
@@ -88,8 +88,8 @@ pub struct Unlocked {
     pub call: bool,
 }
 
-// Unlock: the saved word is back. Where it is strictly below the next word, that is one lazy call, and
-// the kernel switches.
+// Unlock: the saved word is back. Where the next word is strictly above it, the kernel is called once
+// and switches.
 pub fn after_unlock(
     h: Head,
     n: usize,

@@ -1,4 +1,4 @@
-// The tests of each event, in their order: the first that holds refuses.
+// RULES 9.2: the tests of each event, in their order; the first that holds refuses.
 use figures::mask::has_bit;
 use figures::number::place_of;
 use figures::number::wide_word;

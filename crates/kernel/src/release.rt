@@ -1,4 +1,4 @@
-// Release.
+// RULES 9.4: release.
 use crate::acted::Acted;
 use crate::counts::accepted;
 use crate::counts::refused;

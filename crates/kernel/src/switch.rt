@@ -1,4 +1,4 @@
-// The kernel's switch: of the kept priorities the greatest runs, ties to the earlier release.
+// RULES 9.10: the kernel's switch. The greatest kept priority runs, ties to the earlier release.
 use figures::priority::higher;
 use figures::priority::kernel_byte;
 use figures::priority::kernel_of;

@@ -1,4 +1,4 @@
-// Unlock.
+// RULES 9.6: unlock.
 use crate::acted::Acted;
 use crate::counts::accepted;
 use crate::counts::refused;

@@ -1,4 +1,4 @@
-// Work.
+// RULES 9.7: work.
 use crate::acted::Acted;
 use crate::counts::accepted;
 use crate::counts::refused;
@@ -67,7 +67,8 @@ fn delays(
 // A units more for the section of lock l.
 fn bump(units: &mut [u16; MAX_LOCKS], l: u8, a: u16)
     requires { ⌜ length (now units) ≡ maxLocks ⌝ }
-    ensures { λ _. ⌜ (now (units .exit) ≡ set (now (units .entry)) l (min maxDelay (at (now (units .entry)) l + a))) × (length (now (units .exit)) ≡ maxLocks) ⌝ }
+    ensures { λ _. ⌜ (now (units .exit) ≡ set (now (units .entry)) l (min maxDelay (at (now (units .entry)) l + a)))
+        × (length (now (units .exit)) ≡ maxLocks) ⌝ }
 {
     let y = l as usize;
     if y >= MAX_LOCKS {

@@ -63,7 +63,7 @@ refused-text : (b : List ℕ) (why : Refusal) (place : ℕ) → checkOf b rowSpa
 unfolding replayOf replayAs checkedAs
 refused-text b why place e = rw (rows-room, e)
 
--- "a longer input is refused as the rules say for the whole of it": its front gives the text of the whole
+-- RULES 15.7: its front gives the text of the whole
 pub cut-text : (b : List ℕ) (n : ℕ) → n ≤ length b → largestBook < n → textOf (take n b) ≡ textOf b
 cut-text b n long enough =
     let (why, place, e) = long-refused b (omega arith) rowSpace in

@@ -1,2 +1,2 @@
--- What the program writes.
+-- RULES 15: what the program writes.
 pub mod Text

@@ -1,4 +1,4 @@
--- "Given it on standard input, the program prints exactly": the report of the book's replay. Assumes nothing.
+-- RULES 15.1: what the program writes for the bytes on its standard input: the report of the replay of that book. Assumes nothing.
 use mathlib.Core.List.{List}
 use Prim.Native.Nat.{ℕ, _*_}
 use lib.ListN.{take, replicate}

@@ -1,4 +1,4 @@
-// The replay of a book: the book on standard input, the report on standard output.
+// RULES 15: the replay of a book, which is on standard input, and its report, on standard output.
 use report::report;
 use rules::answer::Verdict;
 use rules::capacity::MAX_EVENTS;
@@ -66,8 +66,8 @@ fn write_front(out: &[u8], n: usize) {
     }
 }
 
-// The buffer is larger than the largest book: a longer input is refused as the rules say for the
-// whole of it.
+// RULES 15.7: the buffer is larger than the largest book. What is read of a longer input has the
+// report of all of it.
 fn main() {
     let mut book = io::large_buffer();
     let n = io::read_full(0, &mut book);

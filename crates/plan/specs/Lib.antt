@@ -1,2 +1,2 @@
--- What the code of this crate asks of its own callers.
+-- RULES 6: what the code of this crate asks of its own callers.
 pub mod Placed

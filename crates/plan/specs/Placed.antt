@@ -1,4 +1,4 @@
--- Every use names places that a plan's tables have. Assumes nothing.
+-- RULES 3.5: every use names places that a plan's tables have. Assumes nothing.
 use mathlib.Core.List.{List}
 use Prim.Native.Nat.{ℕ, _<_}
 use lib.ListN.{length}

@@ -1,4 +1,4 @@
-// Refusal 7: a lock without users, or whose ceiling isn't the greatest base among them.
+// 7: nobody uses a lock, or its ceiling is not the highest base of its users.
 use figures::mask::has_bit;
 use figures::number::greater_byte;
 use rules::capacity::MAX_TASKS;

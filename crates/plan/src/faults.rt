@@ -16,7 +16,8 @@ ghost use lib.ListN.{length};
 ghost use Rattle.rules.specs.Numbers.Choice.{if_then_else_};
 ghost use Rattle.rules.specs.Numbers.Place.{firstFrom};
 ghost use Rattle.rules.specs.Books.Plan.{taskFault, lockFault};
-ghost use Rattle.rules.specs.Books.Load.{taskBase, taskSecond, lockCeiling, lockSecond, lockLimit, useKey, countFaultOf, taskFaultAt, lockFaultAt, useFault, recordChecks};
+ghost use Rattle.rules.specs.Books.Load.{taskBase, taskSecond, lockCeiling, lockSecond, lockLimit, useKey};
+ghost use Rattle.rules.specs.Books.Load.{countFaultOf, taskFaultAt, lockFaultAt, useFault, recordChecks};
 ghost use Rattle.rules.specs.Numbers.Refusal.{firstFault};
 
 fn count_of(n: usize, m: usize, u: usize, e: usize) -> usize
@@ -133,7 +134,7 @@ fn first_use(n: usize, m: usize, uses: &[u16]) -> usize
     i
 }
 
-// 2, 4, 5 and 6, in this order, each with the place of its first offender.
+// 2, 4, 5 and 6, in this order, each at its first offender.
 pub fn first_record(tasks: &[u16], locks: &[u32], uses: &[u16]) -> Verdict
     ensures { λ r. ⌜ r ≡ firstFault (recordChecks (now (tasks .entry)) (now (locks .entry)) (now (uses .entry))) ⌝ }
 {

@@ -1,4 +1,4 @@
-// A plan from its records, and the bound on a task's delay.
+// RULES 6 and 13.4: a plan from its records, and the bound on a task's delay.
 mod build;
 mod ceilings;
 pub mod count;

@@ -16,7 +16,8 @@ use Rattle.rules.specs.declared.refusal.Refusal.{Refusal}
 use Rattle.rules.specs.declared.answer.Verdict.{Verdict}
 use Rattle.rules.proofs.Numbers.Choice.{if-true, if-false}
 use Rattle.report.specs.Page.{Page, typed}
-use Rattle.report.specs.Report.{newline, space, dash, calls, delayed, refused, digits, spaced, line, header, runner, rowWords, rowLine, rowLines, callsLine, delayedLine, refusedLine, reportOf}
+use Rattle.report.specs.Report.{newline, space, dash, calls, delayed, refused, digits, spaced, line, header}
+use Rattle.report.specs.Report.{runner, rowWords, rowLine, rowLines, callsLine, delayedLine, refusedLine, reportOf}
 use Rattle.report.proofs.Typed.{typed-on, typed-two, typed-cons}
 
 -- ---- any line: its first word, one more word, none more, the newline

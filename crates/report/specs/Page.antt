@@ -1,4 +1,4 @@
--- A text written into lent bytes: it is cut where they end. Assumes nothing.
+-- RULES 15: a text written into lent bytes; it is cut where they end. Assumes nothing.
 use mathlib.Core.List.{List, [], _∷_}
 use Prim.Native.Nat.{ℕ, suc, _+_}
 use lib.Dec.{ltb}

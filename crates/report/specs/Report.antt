@@ -1,4 +1,4 @@
--- The text that the program prints for a replay, as document 01 shows it under P1, in bytes. Assumes nothing.
+-- RULES 15.2 to 15.6: the text that the program prints for a replay, in bytes. Assumes nothing.
 use mathlib.Core.List.{List, [], _∷_, _++_, map}
 use Prim.Native.Nat.{ℕ, zero, suc, _+_, _*_, _/_, _%_}
 use lib.Dec.{eqb, ltb}
@@ -108,7 +108,7 @@ delayedLine delays = line delayed (map digits delays)
 unfoldable pub refusedLine : Refusal → ℕ → List ℕ
 refusedLine why place = line refused (digits (numberOf why) ∷ digits place ∷ [])
 
--- the whole report: "for any refusal it prints the header line, the rows so far, then `refused`, number, place, and nothing more"
+-- the whole report: it ends with the calls and the delays, or with the refusal
 unfoldable pub reportOf : Verdict → ℕ → List ℕ → ℕ → ℕ → List ℕ → List ℕ
 reportOf Verdict.Passed accepted rows lazy eager delays = header ++ rowLines rows accepted ++ callsLine lazy eager ++ delayedLine delays
 reportOf (Verdict.Refused why place) accepted rows lazy eager delays = header ++ rowLines rows accepted ++ refusedLine why place

@@ -1,4 +1,4 @@
--- The block that document 01 prints under P1, and P5 with its refusal, as one claim. Assumes nothing.
+-- RULES 18.2, 18.3: the report of P1, and that of P5, which ends with its refusal, as one claim. Assumes nothing.
 use mathlib.Core.Bool.{Bool, true, false, _&&_}
 use mathlib.Core.List.{List, [], _∷_}
 use Prim.Native.Nat.{ℕ}
@@ -7,7 +7,8 @@ use Rattle.rules.specs.Numbers.Choice.{if_then_else_}
 use Rattle.rules.specs.Numbers.Refusal.{numberOf}
 use Rattle.rules.specs.declared.refusal.Refusal.the-variants.{PastLimit}
 use Rattle.rules.specs.declared.answer.Verdict.{Verdict}
-use Rattle.report.specs.Report.{digitsIn, digits, spaced, line, header, runner, rowWords, rowLine, rowLines, callsLine, delayedLine, refusedLine, reportOf}
+use Rattle.report.specs.Report.{digitsIn, digits, spaced, line, header, runner, rowWords}
+use Rattle.report.specs.Report.{rowLine, rowLines, callsLine, delayedLine, refusedLine, reportOf}
 
 same : List ℕ → List ℕ → Bool
 same [] [] = true

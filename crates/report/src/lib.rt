@@ -1,4 +1,4 @@
-// The text of the replay's report.
+// RULES 15: the text of the replay's report.
 mod lines;
 mod page;
 

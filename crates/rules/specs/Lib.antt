@@ -1,4 +1,4 @@
--- The rules as definitions, one subject a file; the rooms in the order in which to read them.
+-- docs/RULES.md as definitions, one subject a file; the rooms in the order in which to read them.
 pub mod Numbers
 pub mod Books
 pub mod Schedulers

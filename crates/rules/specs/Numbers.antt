@@ -1,4 +1,4 @@
--- Capacities, choices, places, sets and rows as numbers; refusal numbers, and how tests in order give one.
+-- RULES 2 and 5: capacities, choices, places, sets and rows as numbers; refusal numbers, and how tests in order give one.
 pub mod Capacity
 pub mod Choice
 pub mod Place

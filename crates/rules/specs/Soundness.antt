@@ -1,3 +1,3 @@
--- What a state obeys that a scheduler can be in, and the test for it: refusal 10.
+-- RULES 8: what a state obeys that a scheduler can be in, and the test for it, which gives refusal 10.
 pub mod Sound
 pub mod SoundTest

@@ -62,7 +62,7 @@ pub struct Replayed {
     pub state: State,
 }
 
-// A verdict in the paper's number and place; both 0 where nothing is refused.
+// A verdict as its number and place; both 0 where nothing is refused.
 pub fn verdict_number(v: Verdict) -> u8
     ensures { λ r. ⌜ r ≡ verdictNumber v ⌝ }
 {
@@ -81,7 +81,7 @@ pub fn verdict_place(v: Verdict) -> usize
     }
 }
 
-// An answer in the paper's number, 0 where the event is accepted, and its lazy calls.
+// An answer as its number, 0 where the event is accepted, and its lazy calls.
 pub fn answer_number(a: Answer) -> u8
     ensures { λ r. ⌜ r ≡ answerNumber a ⌝ }
 {

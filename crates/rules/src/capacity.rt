@@ -1,4 +1,5 @@
-// How much the recorder holds. specs/Capacity.antt names the same numbers; no other file writes them.
+// RULES 2: how much the recorder holds. specs/Numbers/Capacity.antt names the same numbers; no other
+// file writes them.
 
 pub const MAX_TASKS: usize = 96;
 

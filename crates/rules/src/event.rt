@@ -1,4 +1,4 @@
-// An event is one of six: a release names a task, an acquire and an unlock a lock, work an amount.
+// The six events: a release names a task, an acquire and an unlock a lock, work its units.
 pub enum Event {
     Release(u8),
     Acquire(u8),

@@ -1,4 +1,4 @@
-// The types of the recorder's scheduler, as document 01 names them. What each must do is in specs/,
+// The types of the recorder's scheduler, by the names of docs/RULES.md. What each must do is in specs/,
 // and that the rules keep the demands is proved in proofs/.
 pub mod answer;
 pub mod capacity;

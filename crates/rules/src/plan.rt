@@ -3,7 +3,7 @@ use crate::capacity::MAX_TASKS;
 ghost use mathlib.Core.Path.{_≡_};
 ghost use Rattle.rules.specs.Books.Load.{blankPlan};
 
-// A recorder's plan. Tasks and locks are named by place, from 0; places past the last one hold 0.
+// RULES 3.5: a recorder's plan. A task or a lock is its place, from 0. Places past the last one hold 0.
 // Bit l of a task's uses says that the task may take lock l.
 #[repr(C)]
 pub struct Plan {

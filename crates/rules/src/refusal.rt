@@ -1,7 +1,7 @@
 ghost use mathlib.Core.Path.{_≡_};
 ghost use Rattle.rules.specs.Numbers.Refusal.{numberOf};
 
-// Why a book, a plan, a state or an event is refused, in the order of document 01's table.
+// Why a book, a plan, a state or an event is refused, in the order of the numbers of RULES 5.1.
 pub enum Refusal {
     ShortBook,
     WrongCount,
@@ -27,7 +27,7 @@ pub enum Refusal {
     StillOpen,
 }
 
-// The paper's number.
+// Its number.
 pub fn number(why: Refusal) -> u8
     ensures { λ r. ⌜ r ≡ numberOf why ⌝ }
 {

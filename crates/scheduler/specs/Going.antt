@@ -1,4 +1,4 @@
--- A run of events under way: what one turn comes to, and what is left to run. Assumes nothing.
+-- RULES 12.3: a run of events under way: what one turn comes to, and what is left to run. Assumes nothing.
 use mathlib.Core.Path.{_≡_}
 use mathlib.Core.Bool.{Bool, false}
 use mathlib.Core.List.{List}

@@ -1,2 +1,2 @@
--- A run of events under way, and what a refused book leaves.
+-- RULES 12: a run of events under way, and what a refused book leaves.
 pub mod Going

@@ -1,4 +1,4 @@
-// The step and the replay.
+// RULES 12: the step and the replay.
 mod by_value;
 mod run;
 mod turn;
@@ -20,8 +20,8 @@ ghost use Rattle.rules.specs.Replays.Replay.{ranAs, replayOf};
 ghost use Rattle.rules.specs.Replays.Step.{stepOf};
 ghost use Rattle.scheduler.specs.Going.{untouchedAs};
 
-// Any plan, any state, any event: 10, or the answer of 11 to 22 or of an accepted event, and the
-// state after it, which is the given one where the event is refused.
+// Whatever plan, state and event are handed in: 10, or the answer of 11 to 22 or of an accepted event,
+// and the state after it, which is the given one where the event is refused.
 pub fn step(p: Plan, s: State, e: Event) -> Stepped
     ensures { λ r. ⌜ r ≡ stepOf p s e ⌝ }
 {
@@ -43,8 +43,8 @@ fn untouched(why: Refusal, place: usize, plan: Plan) -> Replayed
     }
 }
 
-// The replay of a book: 1 to 9 first, leaving the rows untouched; then its events until the first
-// refusal, with four row bytes for each accepted one. All other row bytes stay.
+// The replay of a book: 1 to 9 first, and no row byte changes where one refuses; then its events up
+// to the first refusal, each accepted one with its four row bytes. No other byte of the rows changes.
 pub fn replay(book: &[u8], rows: &mut [u8]) -> Replayed
     ensures { λ r. ⌜ (ranAs r (now (rows .exit)) ≡ replayOf (now (book .entry)) (now (rows .entry)))
         × (r .plan ≡ checkedOf (now (book .entry)) (length (now (rows .entry))) .plan) ⌝ }

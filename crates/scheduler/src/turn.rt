@@ -38,7 +38,7 @@ fn event_at(body: &[u8], k: usize) -> Event
     }
 }
 
-// 1 for a lazy call, or else 0.
+// Whether there was a call, as a byte.
 fn call_byte(call: bool) -> u8
     ensures { λ r. ⌜ r ≡ (if call then 1 else 0) ⌝ }
 {

@@ -1,2 +1,2 @@
--- What the code of this crate tells its own callers.
+-- RULES 8: what the code of this crate tells its own callers.
 pub mod Placed

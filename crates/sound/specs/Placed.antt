@@ -1,4 +1,4 @@
--- A release number above 0 stands at a place of the table. Assumes nothing.
+-- RULES 7.1: a release number above 0 stands at a place of the table. Assumes nothing.
 use Prim.Native.Nat.{ℕ, _<_}
 use Rattle.rules.specs.Numbers.Capacity.{maxTasks}
 

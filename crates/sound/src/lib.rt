@@ -1,4 +1,4 @@
-// The test of soundness that stands before every step of a state that is handed in.
+// RULES 8: the test of soundness that stands before every step of a state that is handed in.
 mod all;
 mod head;
 mod lock;

@@ -26,7 +26,8 @@ fn ceiling_at(ceiling: &[u8; MAX_LOCKS], l: u8) -> u8
     0
 }
 
-// The greater of the newest ceiling and the priority under it, down to the base.
+// RULES 7.3: without open locks the base; else the newest ceiling, or what the locks under it give,
+// whichever is greater.
 pub fn row_priority(base: UserPriority, ceiling: &[u8; MAX_LOCKS], row: u64, k: u8) -> UserPriority
     requires { ⌜ length (now ceiling) ≡ maxLocks ⌝ }
     ensures { λ r. ⌜ r .0 ≡ priority (at (now (ceiling .entry))) (base .0) row k ⌝ }

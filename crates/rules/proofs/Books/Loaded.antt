@@ -15,7 +15,8 @@ use Rattle.rules.specs.Numbers.Choice.{if_then_else_}
 use Rattle.rules.specs.Numbers.Place.{at, any, tabulate}
 use Rattle.rules.specs.Numbers.Mask.{hasBit, withBit}
 use Rattle.rules.specs.Books.Plan.{most, countFault, taskFault, lockFault, declares, Obeys}
-use Rattle.rules.specs.Books.Load.{taskBase, lockCeiling, lockSecond, lockLimit, useTask, useLock, taskFaultAt, lockFaultAt, countFaultOf, useFault, masksOf, planOf, recordChecks, loadChecks, loadedAs, loadOf}
+use Rattle.rules.specs.Books.Load.{taskBase, lockCeiling, lockSecond, lockLimit, useTask, useLock, taskFaultAt, lockFaultAt}
+use Rattle.rules.specs.Books.Load.{countFaultOf, useFault, masksOf, planOf, recordChecks, loadChecks, loadedAs, loadOf}
 use Rattle.rules.specs.Numbers.Refusal.{numberOf, firstFault, checkFor}
 use Rattle.rules.specs.declared.plan.Plan.{Plan}
 use Rattle.rules.specs.declared.refusal.Refusal.{Refusal}
@@ -74,7 +75,7 @@ module _ (uses : List ℕ) where
     masks-past zero t h q = zero-past maxTasks t
     masks-past (suc k) t h q = masks-other k t (λ e. omega (arith, known k h .0)) ∙ masks-past k t (omega arith) q
 
-    -- "A use says that one task may take one lock": the first k uses let t take l exactly where one of them says so
+    -- the first k uses let t take l exactly where one of them says so
     pub masks-say : (k t l : ℕ) → k ≤ length uses → hasBit (at (masksOf uses k) t) l ≡ any (λ i. eqb (useTask (at uses i)) t && eqb (useLock (at uses i)) l) k
     unfolding masksOf any
     masks-say zero t l h = ap (λ q. hasBit q l) (zero-past maxTasks t) ∙ bit-none l

@@ -16,7 +16,8 @@ use Rattle.rules.specs.Numbers.Refusal.{numberOf, firstFault, checkFor}
 use Rattle.rules.specs.Books.Event.{kindOf, idOf, amountOf, eventFault, eventOf}
 use Rattle.rules.specs.Books.Plan.{most, countFault}
 use Rattle.rules.specs.Books.Load.{planOf, loadChecks}
-use Rattle.rules.specs.Books.Book.{word, long, contents, kindAt, countAt, offsetAt, sizeOf, bodyAt, layoutFault, tasksOf, locksOf, usesOf, planIn, eventBody, recordFault, recordEvent, eventsOf, contentsChecks, eventChecks, checkOf}
+use Rattle.rules.specs.Books.Book.{word, long, contents, kindAt, countAt, offsetAt, sizeOf, bodyAt, layoutFault, tasksOf, locksOf}
+use Rattle.rules.specs.Books.Book.{usesOf, planIn, eventBody, recordFault, recordEvent, eventsOf, contentsChecks, eventChecks, checkOf}
 use Rattle.rules.specs.Demands.History.{eventAt}
 use Rattle.rules.specs.declared.answer.Verdict.{Verdict}
 use Rattle.rules.specs.declared.refusal.Refusal.{Refusal}

@@ -1,4 +1,5 @@
--- A lazy call is made exactly where another released task strictly outranks the restored priority, and both counts are the history's. Assumes nothing.
+-- RULES 14.2, of calls: an unlock is a lazy call exactly where another released task is strictly above the restored priority, and both counts are the
+-- history's. Assumes nothing.
 use mathlib.Core.Path.{_≡_, refl, sym, _∙_, ap, ap₂}
 use mathlib.Core.Logic.{_≢_, ⊎-elim}
 use mathlib.Core.Bool.{Bool, true, false, not, _&&_}
@@ -15,7 +16,8 @@ use Rattle.rules.specs.Schedulers.Figures.{Figures, figuresOf, priorityO
 use Rattle.rules.specs.Schedulers.EventRefusals.{refusalOf}
 use Rattle.rules.specs.Schedulers.FiguresAfter.{eagerCalls, figuresAfter}
 use Rattle.rules.specs.Schedulers.Eager.{eagerTest}
-use Rattle.rules.specs.Schedulers.Lazy.{Words, wordsOf, callsFor, backOf, runsOn, switched, waits, afterRelease, afterAcquire, restored, afterUnlock, wordsAfter, lazyCall}
+use Rattle.rules.specs.Schedulers.Lazy.{Words, wordsOf, callsFor, backOf, runsOn, switched, waits, afterRelease}
+use Rattle.rules.specs.Schedulers.Lazy.{afterAcquire, restored, afterUnlock, wordsAfter, lazyCall}
 use Rattle.rules.specs.Soundness.Sound.{keptOf, SoundWords}
 use Rattle.rules.specs.Replays.Step.{afterOf, answered, actOf, stepOf}
 use Rattle.rules.specs.Numbers.Answer.{passes}

@@ -16,7 +16,8 @@ use Rattle.rules.specs.Schedulers.Elect.{elected}
 use Rattle.rules.specs.Schedulers.EventRefusals.{refusalOf}
 use Rattle.rules.specs.Schedulers.FiguresAfter.{figuresAfter}
 use Rattle.rules.specs.Schedulers.Eager.{runningOf, settle, eagerTest, eagerStep}
-use Rattle.rules.specs.Schedulers.Lazy.{Words, wordsOf, callsFor, backOf, runsOn, switched, waits, afterRelease, afterAcquire, restored, afterUnlock, wordsAfter, lazyCall}
+use Rattle.rules.specs.Schedulers.Lazy.{Words, wordsOf, callsFor, backOf, runsOn, switched, waits, afterRelease}
+use Rattle.rules.specs.Schedulers.Lazy.{afterAcquire, restored, afterUnlock, wordsAfter, lazyCall}
 use Rattle.rules.specs.Soundness.Sound.{keptOf, SoundFigures, SoundWords, SoundAndSized}
 use Rattle.rules.specs.Replays.Step.{afterOf, answered, actOf, stepOf}
 use Rattle.rules.specs.Demands.History.{eventAt, eagerAt, lazyAt, runnerAt}

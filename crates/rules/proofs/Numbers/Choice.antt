@@ -9,7 +9,7 @@ use native.Mathlib.Omega.{arith}
 use lib.Dec.{T}
 use borrow.Author.Tests.{lt-ltb, le-ltb, le-leb, lt-leb, eq-eqb, ne-eqb, not-true, not-false}
 use Rattle.rules.specs.Numbers.Choice.{if_then_else_, allTrue}
--- every proof rests on this file, so the paper's own runs are checked before them all: a wrong rule that they show is refused there first
+-- every proof rests on this file, so the runs of RULES 18 are checked before them all: a wrong rule that they show is refused there first
 use Rattle.rules.specs.Demands.Crane
 
 pub if-true : {A : Type 0} (t : Bool) (a b : A) → t ≡ true → (if t then a else b) ≡ a

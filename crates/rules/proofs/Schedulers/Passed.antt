@@ -13,12 +13,14 @@ use Rattle.rules.specs.Numbers.Refusal.{numberOf, firstTrue, testFor}
 use Rattle.rules.specs.Numbers.Row.{newest}
 use Rattle.rules.specs.Books.Plan.{declares}
 use Rattle.rules.specs.Schedulers.Figures.{Figures, holds}
-use Rattle.rules.specs.Schedulers.EventRefusals.{elsewhere, notNewest, pastLimit, testsOf, releaseOrder, acquireOrder, unlockOrder, workOrder, finishOrder, allTests, refusalOf}
+use Rattle.rules.specs.Schedulers.EventRefusals.{elsewhere, notNewest, pastLimit, testsOf, releaseOrder, acquireOrder}
+use Rattle.rules.specs.Schedulers.EventRefusals.{unlockOrder, workOrder, finishOrder, allTests, refusalOf}
 use Rattle.rules.specs.declared.plan.Plan.{Plan}
 use Rattle.rules.specs.declared.answer.Tested.{Tested}
 use Rattle.rules.specs.declared.event.Event.{Event}
 use Rattle.rules.specs.declared.event.Event.the-variants.{Release, Acquire, Unlock, Work, Finish, Tick}
-use Rattle.rules.specs.declared.refusal.Refusal.the-variants.{Exhausted, NobodyRuns, Unknown, AlreadyReleased, NotDeclared, AlreadyOpen, OpenElsewhere, RowFull, NotNewest, NoWork, PastLimit, StillOpen}
+use Rattle.rules.specs.declared.refusal.Refusal.the-variants.{Exhausted, NobodyRuns, Unknown, AlreadyReleased, NotDeclared, AlreadyOpen}
+use Rattle.rules.specs.declared.refusal.Refusal.the-variants.{OpenElsewhere, RowFull, NotNewest, NoWork, PastLimit, StillOpen}
 use Rattle.rules.proofs.Numbers.Choice.{or-false}
 use Rattle.rules.proofs.Numbers.Order.{none-holds}
 

@@ -1,4 +1,4 @@
--- One law for each small rule of document 01 that the proofs rest on: a wrong rule is refused here, at the fact that it breaks. Assumes nothing.
+-- One law for each small rule that the proofs rest on: a wrong rule is refused here, at the fact that it breaks. Assumes nothing.
 use mathlib.Core.Path.{_≡_, refl, sym, _∙_, ap}
 use mathlib.Core.Logic.{_≢_, _⊎_, inl, inr, ⊎-elim}
 use mathlib.Core.Bool.{Bool, true, false, _&&_}
@@ -22,7 +22,7 @@ use Rattle.rules.proofs.Numbers.Choice.{if-true, if-false, by-test, unt
 use Rattle.rules.proofs.Numbers.Place.{any-some, some-any}
 use Rattle.rules.proofs.Numbers.Row.{priority-none, priority-base}
 
--- ---- "among equals, the one released earliest"
+-- ---- RULES 11.2: ties go to the earlier release
 
 module _ (released : ℕ → ℕ) where
   pub earlier-nobody : (b : ℕ) → earlier released nobody b ≡ b
@@ -43,7 +43,7 @@ module _ (released : ℕ → ℕ) where
       either-way : (t : Bool) → t ≡ false → (if t then b else a) ≡ a
       either-way t e = if-false t b a e
 
--- ---- a released task's priority
+-- ---- RULES 7.3: a released task's priority
 
 pub rank-out : (p : Plan) (f : Figures) (x : ℕ) → 0 < at (f .released) x → rankOf p f x ≡ priorityOf p f x
 unfolding rankOf
@@ -62,7 +62,7 @@ unfolding priorityOf
 plain-priority p f x z = ap (priority (at (p .ceiling)) (at (p .base) x) (at (f .takes) x)) z
     ∙ priority-none (at (p .ceiling)) (at (p .base) x) (at (f .takes) x)
 
--- ---- "the running task's kept priority is 0 until it leaves"
+-- ---- RULES 7.6: what is kept for a task
 
 pub kept-other : (p : Plan) (f : Figures) (r x : ℕ) → x ≢ r → keptOf p f r x ≡ rankOf p f x
 unfolding keptOf
@@ -72,7 +72,7 @@ pub kept-own : (p : Plan) (f : Figures) (r : ℕ) → keptOf p f r r ≡ 0
 unfolding keptOf
 kept-own p f r = if-true (eqb r r) 0 (rankOf p f r) (eq-eqb r r refl)
 
--- ---- "if it is then strictly below the next word, that is one lazy call"
+-- ---- RULES 10.1: where an unlock calls
 
 pub call-below : (back next : ℕ) → callsFor back next ≡ true → back < next
 unfolding callsFor
@@ -86,7 +86,7 @@ pub below-call : (back next : ℕ) → back < next → callsFor back next ≡ tr
 unfolding callsFor
 below-call back next h = by-test (callsFor back next) (λ e. e) (λ e. absurd (omega (arith, no-call back next e)))
 
--- ---- "Work adds its amount to every open section of the running task"
+-- ---- RULES 9.7: work counts for each open section
 
 pub charged-open : (f : Figures) (r a l : ℕ) → holds f r l ≡ true → charged f r a l ≡ at (f .units) l + a
 unfolding charged
@@ -96,7 +96,7 @@ pub charged-closed : (f : Figures) (r a l : ℕ) → holds f r l ≡ false → c
 unfolding charged
 charged-closed f r a l h = if-false _ _ _ h
 
--- ---- "units worked ... by running tasks of strictly lower base", for a released task; the count sticks
+-- ---- RULES 9.7: and for the delay of each released task of greater base, which has a greatest value
 
 -- r's work counts for t
 pub record Counts (p : Plan) (f : Figures) (r t : ℕ) : Type 0 where
@@ -122,7 +122,7 @@ module _ (p : Plan) (f : Figures) (r a t : ℕ) where
   pub delayed-same : (Counts p f r t → ⊥) → delayed p f r a t ≡ at (f .delay) t
   delayed-same n = ⊎-elim (λ (c, _). absurd (n c)) (λ (_, e). e) delayed-cases
 
--- ---- "locks with ceiling at least p and a user of base below p"
+-- ---- RULES 13.4: the locks that may hold up a task
 
 module _ (p : Plan) (b l : ℕ) where
   pub block-high : mayBlock p b l ≡ true → b ≤ at (p .ceiling) l

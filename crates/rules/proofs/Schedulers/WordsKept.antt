@@ -20,7 +20,8 @@ use Rattle.rules.specs.Books.Plan.{Obeys}
 use Rattle.rules.specs.Schedulers.Figures.{Figures, holds, priorityOf, rankOf}
 use Rattle.rules.specs.Schedulers.Elect.{elected}
 use Rattle.rules.specs.Schedulers.FiguresAfter.{figuresAfter}
-use Rattle.rules.specs.Schedulers.Lazy.{Words, WordsSized, callsFor, secondWord, backOf, runsOn, switched, waits, afterRelease, afterAcquire, restored, afterUnlock, wordsAfter}
+use Rattle.rules.specs.Schedulers.Lazy.{Words, WordsSized, callsFor, secondWord, backOf, runsOn, switched}
+use Rattle.rules.specs.Schedulers.Lazy.{waits, afterRelease, afterAcquire, restored, afterUnlock, wordsAfter}
 use Rattle.rules.specs.Soundness.Sound.{SoundFigures, keptOf, savedOf, ownerOf, SoundWords}
 use Rattle.rules.specs.declared.plan.Plan.{Plan}
 use Rattle.rules.specs.declared.event.Event.{Event}

@@ -14,7 +14,8 @@ use Rattle.rules.specs.Schedulers.Figures.{Figures, figuresOf, freshFigu
 use Rattle.rules.specs.Schedulers.Elect.{elected}
 use Rattle.rules.specs.Schedulers.EventRefusals.{refusalOf}
 use Rattle.rules.specs.Schedulers.FiguresAfter.{figuresAfter}
-use Rattle.rules.specs.Schedulers.Lazy.{Words, WordsSized, wordsOf, backOf, runsOn, switched, waits, afterRelease, afterAcquire, restored, afterUnlock, wordsAfter}
+use Rattle.rules.specs.Schedulers.Lazy.{Words, WordsSized, wordsOf, backOf, runsOn, switched, waits}
+use Rattle.rules.specs.Schedulers.Lazy.{afterRelease, afterAcquire, restored, afterUnlock, wordsAfter}
 use Rattle.rules.specs.Schedulers.State.{freshOf}
 use Rattle.rules.specs.Soundness.Sound.{SoundFigures, keptOf, SoundWords, Sound, SoundAndSized}
 use Rattle.rules.specs.Soundness.SoundTest.{soundTest}

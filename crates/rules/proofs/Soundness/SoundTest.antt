@@ -15,7 +15,8 @@ use Rattle.rules.specs.Books.Plan.{countFault, taskFault, lockFault, cei
 use Rattle.rules.specs.Schedulers.Figures.{Figures, figuresOf, holds, rankOf}
 use Rattle.rules.specs.Schedulers.Lazy.{Words, wordsOf}
 use Rattle.rules.specs.Soundness.Sound.{distinct, SoundFigures, keptOf, savedOf, ownerOf, SoundWords, Sound}
-use Rattle.rules.specs.Soundness.SoundTest.{taskObeys, lockObeys, spareObeys, obeys, rowTest, ownTest, numberNew, numberTest, taskTest, lockTest, runsTest, headTest, spareTest, soundTest}
+use Rattle.rules.specs.Soundness.SoundTest.{taskObeys, lockObeys, spareObeys, obeys, rowTest, ownTest, numberNew}
+use Rattle.rules.specs.Soundness.SoundTest.{numberTest, taskTest, lockTest, runsTest, headTest, spareTest, soundTest}
 use Rattle.rules.specs.declared.plan.Plan.{Plan}
 use Rattle.rules.specs.declared.state.State.{State}
 use Rattle.rules.proofs.Numbers.Choice.{if-true, if-false, by-test, untrue, not-so, and-true, true-and, at-or, lt-or-le, Each, all-so, so-all}

@@ -1,4 +1,4 @@
--- "The book: contents, then bodies", and refusals 1 to 9 in order. Assumes nothing.
+-- RULES 4 and 5.2 to 5.8: the bytes of a book, its contents and its bodies, and refusals 1 to 9 in order. Assumes nothing.
 use mathlib.Core.Bool.{Bool, not, _||_}
 use mathlib.Core.List.{List, [], _∷_, _++_}
 use Prim.Native.Nat.{ℕ, zero, suc, _+_, _*_, _/_}
@@ -26,7 +26,7 @@ word b i = at b i + at b (i + 1) * 256
 abbrev pub long : List ℕ → ℕ → ℕ
 long b i = word b i + word b (i + 2) * 65536
 
--- "four entries of 8 bytes: kind (2 bytes), record count (2), offset from the book's start (4)". The entries are 0 tasks, 1 locks, 2 uses, 3 events
+-- RULES 4.2: the kind of an entry, its count of records, and its offset. Here the entries count from 0: tasks, locks, uses, events
 abbrev pub contents : ℕ
 contents = 32
 
@@ -43,16 +43,16 @@ offsetAt b e = long b (e * 8 + 4)
 unfoldable pub sizeOf : ℕ → ℕ
 sizeOf e = if eqb e 0 then 2 else if eqb e 1 then 4 else if eqb e 2 then 2 else 4
 
--- "The bodies follow in that order, the first at 32, without gaps": where the body of entry e starts, by the counts; of entry 4 it is the end of the last body
+-- RULES 4.3: where the body of entry e starts, by the counts of the entries before it; of entry 4 it is where the last body ends
 unfoldable pub bodyAt : List ℕ → ℕ → ℕ
 bodyAt b zero = contents
 bodyAt b (suc e) = bodyAt b e + countAt b e * sizeOf e
 
--- "The largest book is 54,496 bytes"
+-- RULES 2.1: the bytes of a book that has as many records as there may be
 abbrev pub largestBook : ℕ
 largestBook = contents + maxTasks * 2 + maxLocks * 4 + maxUses * 2 + maxEvents * 4
 
--- 3: a kind or offset wrong, or the end isn't the book's end
+-- 3: an entry has another kind or another offset than it should; for 4, the last body ends elsewhere than the book
 unfoldable pub layoutFault : List ℕ → ℕ → Bool
 layoutFault b e =
     if ltb e 4 then not (eqb (kindAt b e) (e + 1)) || not (eqb (offsetAt b e) (bodyAt b e))
@@ -78,7 +78,7 @@ usesOf b = wordsAt b 2
 abbrev pub eventBody : List ℕ → List ℕ
 eventBody b = drop (bodyAt b 3) b
 
--- "Event, 4 bytes: kind, id, amount (2)": the event of record k of a body, and whether it is refused
+-- RULES 4.7: whether 8 refuses record k of an event body, and the event that stands there
 abbrev pub recordFault : List ℕ → ℕ → Bool
 recordFault body k = eventFault (at body (k * 4)) (at body (k * 4 + 1)) (word body (k * 4 + 2))
 
@@ -88,7 +88,7 @@ recordEvent body k = eventOf (at body (k * 4)) (at body (k * 4 + 1)) (word body 
 abbrev pub eventsOf : List ℕ → List Event
 eventsOf b = tabulate (countAt b 3) (recordEvent (eventBody b))
 
--- "A reader walks the event body where it lies in the lent book, one record at a time": what stands at record k
+-- RULES 4.8: what a reader finds at record k of an event body
 unfoldable pub foundAt : List ℕ → ℕ → Found
 foundAt body k =
     if ltb k (length body / 4) then (if recordFault body k then Found.Refused WrongEvent k else Found.Got (recordEvent body k) (k + 1))
@@ -112,7 +112,7 @@ eventChecks b room =
     ∷ (record { refusal = ShortRows; first = 0; count = 1; fault = λ _. ltb room (countAt b 3 * 4) })
     ∷ []
 
--- "1 to 9 are tested in that order, each with the place of its first offender"
+-- RULES 5.2: 1 to 9 in order, each at its first offender
 unfoldable pub checkOf : List ℕ → ℕ → Verdict
 checkOf b room = firstFault (contentsChecks b ++ (loadChecks (tasksOf b) (locksOf b) (usesOf b) ++ eventChecks b room))
 

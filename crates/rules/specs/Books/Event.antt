@@ -1,4 +1,4 @@
--- "An event is one of six": its kind, id and amount in the book, refusal 8, and the event of a record. Assumes nothing.
+-- RULES 4.7: the six events, the kind, id and amount of each in a book, refusal 8, and the event of a record. Assumes nothing.
 use mathlib.Core.Bool.{Bool, true, not}
 use Prim.Native.Nat.{ℕ}
 use lib.Dec.{eqb, leb}
@@ -6,7 +6,7 @@ use Rattle.rules.specs.Numbers.Choice.{if_then_else_}
 use Rattle.rules.specs.declared.event.Event.{Event}
 use Rattle.rules.specs.declared.event.Event.the-variants.{Release, Acquire, Unlock, Work, Finish, Tick}
 
--- 1 release (a task), 2 acquire (a lock), 3 unlock (a lock), 4 work (an amount), 5 finish, 6 tick
+-- the kind, 1 to 6
 unfoldable pub kindOf : Event → ℕ
 kindOf (Release t) = 1
 kindOf (Acquire l) = 2
@@ -15,7 +15,7 @@ kindOf (Work a) = 4
 kindOf Finish = 5
 kindOf Tick = 6
 
--- "A field that its kind doesn't use is zero"
+-- the task or the lock, and the units; 0 where the kind has none
 unfoldable pub idOf : Event → ℕ
 idOf (Release t) = t
 idOf (Acquire l) = l
@@ -32,7 +32,7 @@ amountOf (Work a) = a
 amountOf Finish = 0
 amountOf Tick = 0
 
--- refusal 8: kind outside 1 to 6, an unused field not 0, or work of 0
+-- 8: no event's kind, something in a field without use, or work of no units
 unfoldable pub eventFault : ℕ → ℕ → ℕ → Bool
 eventFault kind id amount =
     if eqb kind 0 then true

@@ -1,4 +1,5 @@
--- A plan from its records, one number for a record, little-endian: refusals 2 and 4 to 7 with their places, or the plan. Assumes nothing.
+-- RULES 6.1, 6.2: a plan from its records, one number for a record, low byte first: refusals 2 and 4 to 7 with their places, or the plan.
+-- Assumes nothing.
 use mathlib.Core.Bool.{Bool, _&&_, _||_}
 use mathlib.Core.List.{List, [], _∷_, _++_}
 use Prim.Native.Nat.{ℕ, zero, suc, _+_, _*_, _-_, _/_, _%_}
@@ -16,14 +17,14 @@ use Rattle.rules.specs.declared.answer.Loaded.{Loaded}
 use Rattle.rules.specs.declared.refusal.Refusal.{Refusal}
 use Rattle.rules.specs.declared.refusal.Refusal.the-variants.{WrongCount, WrongTask, WrongLock, WrongUse, WrongCeiling}
 
--- "Task, 2 bytes: base, zero"
+-- RULES 4.4: the two bytes of a task
 abbrev pub taskBase : ℕ → ℕ
 taskBase w = w % 256
 
 abbrev pub taskSecond : ℕ → ℕ
 taskSecond w = w / 256 % 256
 
--- "Lock, 4 bytes: ceiling, zero, limit (2)"
+-- RULES 4.5: the first two bytes of a lock, and its limit in the others
 abbrev pub lockCeiling : ℕ → ℕ
 lockCeiling w = w % 256
 
@@ -33,7 +34,7 @@ lockSecond w = w / 256 % 256
 abbrev pub lockLimit : ℕ → ℕ
 lockLimit w = w / 65536 % 65536
 
--- "Use, 2 bytes: task, lock; pairs strictly increasing by task, then lock"
+-- RULES 4.6: the two bytes of a use, and the key by which uses are in order: by task, and by lock where the task is the same
 abbrev pub useTask : ℕ → ℕ
 useTask w = w % 256
 
@@ -50,7 +51,7 @@ taskFaultAt tasks t = taskFault (taskBase (at tasks t)) (taskSecond (at tasks t)
 unfoldable pub lockFaultAt : List ℕ → ℕ → Bool
 lockFaultAt locks l = lockFault (lockCeiling (at locks l)) (lockSecond (at locks l)) (lockLimit (at locks l))
 
--- 6: a use with an unknown id, or out of order: it does not come after the record before it
+-- 6: its task or its lock is not there, or it does not come after the use before it
 unfoldable pub useFault : ℕ → ℕ → List ℕ → ℕ → Bool
 useFault n m uses i = leb n (useTask (at uses i)) || leb m (useLock (at uses i)) || (ltb 0 i && leb (useKey (at uses i)) (useKey (at uses (i - 1))))
 

@@ -1,4 +1,4 @@
--- What a plan must obey (01, "The recorder's plan", and refusals 2 and 4 to 7). Assumes nothing.
+-- RULES 3: what a plan must obey, and the faults that 2 and 4 to 7 refuse. Assumes nothing.
 use mathlib.Core.Path.{_≡_}
 use mathlib.Core.Bool.{Bool, false, not, _&&_, _||_}
 use Prim.Native.Nat.{ℕ, _≤_, _<_, _^_}
@@ -13,15 +13,15 @@ use Rattle.rules.specs.declared.plan.Plan.{Plan}
 unfoldable pub most : ℕ → ℕ
 most e = if eqb e 0 then maxTasks else if eqb e 1 then maxLocks else if eqb e 2 then maxUses else maxEvents
 
--- 2: a count out of range. There is at least one task
+-- 2: more records than there may be, or no task
 unfoldable pub countFault : ℕ → ℕ → Bool
 countFault e n = (eqb e 0 && eqb n 0) || ltb (most e) n
 
--- 4: a task with base 0 or second byte not 0
+-- 4: no base, or something in the second byte
 unfoldable pub taskFault : ℕ → ℕ → Bool
 taskFault base second = eqb base 0 || not (eqb second 0)
 
--- 5: a lock with ceiling 0, second byte not 0, or limit 0
+-- 5: no ceiling, no limit, or something in the second byte
 unfoldable pub lockFault : ℕ → ℕ → ℕ → Bool
 lockFault ceiling second limit = eqb ceiling 0 || not (eqb second 0) || eqb limit 0
 
@@ -36,13 +36,13 @@ users p l = count (λ x. declares p x l) (p .tasks)
 unfoldable pub usersBase : Plan → ℕ → ℕ
 usersBase p l = greatest (λ x. if declares p x l then at (p .base) x else 0) (p .tasks)
 
--- 7: a lock without users, or its ceiling isn't the greatest base
+-- 7: nobody uses it, or its ceiling is not the highest base of its users
 unfoldable pub ceilingFault : Plan → ℕ → Bool
 ceilingFault p l = eqb (users p l) 0 || not (eqb (at (p .ceiling) l) (usersBase p l))
 
 -- a plan obeys 2 and 4 to 7
 pub record Obeys (p : Plan) : Type 0 where
-  -- 2: 1 to 96 tasks, 0 to 32 locks
+  -- 2: no more tasks and locks than there may be, and at least one task
   pub tasks : countFault 0 (p .tasks) ≡ false
   pub locks : countFault 1 (p .locks) ≡ false
   -- 4: a base of 1 to 255
@@ -54,7 +54,7 @@ pub record Obeys (p : Plan) : Type 0 where
   pub limitBytes : (l : ℕ) → at (p .limit) l < 2 ^ 16
   -- 6: a use names a lock of the plan
   pub uses : (t : ℕ) → t < p .tasks → at (p .uses) t < 2 ^ p .locks
-  -- 7: a lock has users, and its ceiling is the greatest base among them
+  -- 7: somebody uses each lock, and its ceiling is the highest base of its users
   pub ceilings : (l : ℕ) → l < p .locks → ceilingFault p l ≡ false
   -- places past the last task and the last lock hold 0
   pub noTask : (t : ℕ) → p .tasks ≤ t → (at (p .base) t ≡ 0) × (at (p .uses) t ≡ 0)

@@ -1,4 +1,4 @@
--- "The bound for a task of base p is the greatest limit among locks with ceiling at least p and a user of base below p; 0 if there are none." Assumes nothing.
+-- RULES 13.4: the bound on a task's delay, by the plan alone. Assumes nothing.
 use mathlib.Core.Bool.{Bool, _&&_}
 use Prim.Native.Nat.{ℕ}
 use lib.Dec.{leb, ltb}

@@ -1,4 +1,4 @@
--- The crane plan and its runs P1 to P12, as one table under one claim. Assumes nothing.
+-- RULES 18.1, 18.2: the crane plan and its runs P1 to P12, as one table under one claim. Assumes nothing.
 use mathlib.Core.Bool.{Bool, true, false, _&&_}
 use mathlib.Core.List.{List, [], _∷_}
 use Prim.Native.Nat.{ℕ, suc}
@@ -17,12 +17,14 @@ use Rattle.rules.specs.Schedulers.State.{freshOf}
 use Rattle.rules.specs.Numbers.Row.{has, priority, saves}
 use Rattle.rules.specs.Schedulers.Figures.{holds, priorityOf, rankOf}
 use Rattle.rules.specs.Schedulers.Elect.{earlier, earliest, elected}
-use Rattle.rules.specs.Schedulers.EventRefusals.{elsewhere, notNewest, pastLimit, testsOf, releaseOrder, acquireOrder, unlockOrder, workOrder, finishOrder, refusalOf}
+use Rattle.rules.specs.Schedulers.EventRefusals.{elsewhere, notNewest, pastLimit, testsOf, releaseOrder}
+use Rattle.rules.specs.Schedulers.EventRefusals.{acquireOrder, unlockOrder, workOrder, finishOrder, refusalOf}
 use Rattle.rules.specs.Schedulers.FiguresAfter.{eagerCalls, charged, delayed, figuresAfter}
 use Rattle.rules.specs.Schedulers.Eager.{runningOf, settle, eagerTest, eagerStep}
 use Rattle.rules.specs.Schedulers.Lazy.{callsFor, runsOn, switched, waits, afterRelease, afterAcquire, restored, afterUnlock, wordsAfter, lazyCall}
 use Rattle.rules.specs.Soundness.Sound.{keptOf, savedOf, ownerOf}
-use Rattle.rules.specs.Soundness.SoundTest.{taskObeys, lockObeys, spareObeys, obeys, rowTest, ownTest, numberNew, numberTest, taskTest, lockTest, runsTest, headTest, spareTest, soundTest}
+use Rattle.rules.specs.Soundness.SoundTest.{taskObeys, lockObeys, spareObeys, obeys, rowTest, ownTest, numberNew}
+use Rattle.rules.specs.Soundness.SoundTest.{numberTest, taskTest, lockTest, runsTest, headTest, spareTest, soundTest}
 use Rattle.rules.specs.Replays.Step.{afterOf, answered, actOf, stepOf}
 use Rattle.rules.specs.Replays.Run.{withRow, onward, runFrom}
 use Rattle.rules.specs.Replays.Replay.{replayAs, replayOf}
@@ -34,7 +36,7 @@ use Rattle.rules.specs.declared.event.Event.{Event}
 use Rattle.rules.specs.declared.event.Event.the-variants.{Release, Acquire, Unlock, Work, Finish}
 use Rattle.rules.specs.declared.answer.Answer.{Answer}
 
--- Tasks 0 to 3 have bases 1, 3, 5, 7. Lock 0: ceiling 5, limit 4, users 0 and 2. Lock 1: ceiling 3, limit 10, users 0 and 1.
+-- RULES 18.1: the bases of four tasks; the limit and ceiling of two locks; the lock and task of four uses
 crane : Plan
 crane = planOf (1 ∷ 3 ∷ 5 ∷ 7 ∷ []) (0x4_0005 ∷ 0xa_0003 ∷ []) (0x0000 ∷ 0x0100 ∷ 0x0101 ∷ 0x0002 ∷ [])
 
@@ -114,43 +116,43 @@ cases =
     ((0 ∷ 1 ∷ 0 ∷ 0 ∷ []) ∷ (0 ∷ 5 ∷ 0 ∷ 0 ∷ []) ∷ (0 ∷ 5 ∷ 3 ∷ 0 ∷ []) ∷ (0 ∷ 5 ∷ 3 ∷ 0 ∷ []) ∷ (1 ∷ 3 ∷ 1 ∷ 1 ∷ []) ∷ (0 ∷ 1 ∷ 0 ∷ 0 ∷ [])
     ∷ (255 ∷ 0 ∷ 0 ∷ 0 ∷ []) ∷ [])
     (255 ∷ 0 ∷ 0 ∷ 1 ∷ 2 ∷ 0 ∷ 2 ∷ 0 ∷ 0 ∷ [])
-    -- P2: restored 3, next 3, no call, 0 runs; then one call, 1 runs
+    -- P2: the inner unlock restores 3, as great as the next word, and does not call; the outer one does, and task 1 runs
     ∷ run (Release 0 ∷ Acquire 1 ∷ Acquire 0 ∷ Release 1 ∷ Unlock 0 ∷ Unlock 1 ∷ [])
     ((0 ∷ 1 ∷ 0 ∷ 0 ∷ []) ∷ (0 ∷ 3 ∷ 0 ∷ 0 ∷ []) ∷ (0 ∷ 5 ∷ 0 ∷ 0 ∷ []) ∷ (0 ∷ 5 ∷ 3 ∷ 0 ∷ []) ∷ (0 ∷ 3 ∷ 3 ∷ 0 ∷ []) ∷ (1 ∷ 3 ∷ 1 ∷ 1 ∷ []) ∷ [])
     (1 ∷ 3 ∷ 1 ∷ 1 ∷ 4 ∷ 0 ∷ 0 ∷ 0 ∷ 0 ∷ [])
-    -- P3: 0 runs, words 5 and 5; then call, 2 runs
+    -- P3: task 2 waits while both words are 5, until the unlock calls
     ∷ run (Release 0 ∷ Acquire 0 ∷ Release 2 ∷ Unlock 0 ∷ [])
     ((0 ∷ 1 ∷ 0 ∷ 0 ∷ []) ∷ (0 ∷ 5 ∷ 0 ∷ 0 ∷ []) ∷ (0 ∷ 5 ∷ 5 ∷ 0 ∷ []) ∷ (2 ∷ 5 ∷ 1 ∷ 1 ∷ []) ∷ [])
     (2 ∷ 5 ∷ 1 ∷ 1 ∷ 2 ∷ 0 ∷ 0 ∷ 0 ∷ 0 ∷ [])
-    -- P4: 3 runs; then 0 runs, not 2
+    -- P4: after task 3 has finished task 0 runs again, and not task 2
     ∷ run (Release 0 ∷ Acquire 0 ∷ Release 2 ∷ Release 3 ∷ Finish ∷ [])
     ((0 ∷ 1 ∷ 0 ∷ 0 ∷ []) ∷ (0 ∷ 5 ∷ 0 ∷ 0 ∷ []) ∷ (0 ∷ 5 ∷ 5 ∷ 0 ∷ []) ∷ (3 ∷ 7 ∷ 5 ∷ 0 ∷ []) ∷ (0 ∷ 5 ∷ 5 ∷ 0 ∷ []) ∷ [])
     (0 ∷ 5 ∷ 5 ∷ 0 ∷ 1 ∷ 0 ∷ 0 ∷ 0 ∷ 0 ∷ [])
-    -- P5: work 4 is accepted, and work 1 refused 21
+    -- P5: a section is worked up to its limit, and one unit more is refused
     ∷ run (Release 0 ∷ Acquire 0 ∷ Work 4 ∷ Work 1 ∷ [])
     ((0 ∷ 1 ∷ 0 ∷ 0 ∷ []) ∷ (0 ∷ 5 ∷ 0 ∷ 0 ∷ []) ∷ (0 ∷ 5 ∷ 0 ∷ 0 ∷ []) ∷ (21 ∷ []) ∷ [])
     (0 ∷ 5 ∷ 0 ∷ 0 ∷ 1 ∷ 0 ∷ 0 ∷ 0 ∷ 0 ∷ [])
-    -- P6
+    -- P6: not the newest lock
     ∷ run (Release 0 ∷ Acquire 1 ∷ Acquire 0 ∷ Unlock 1 ∷ [])
     ((0 ∷ 1 ∷ 0 ∷ 0 ∷ []) ∷ (0 ∷ 3 ∷ 0 ∷ 0 ∷ []) ∷ (0 ∷ 5 ∷ 0 ∷ 0 ∷ []) ∷ (19 ∷ []) ∷ [])
     (0 ∷ 5 ∷ 0 ∷ 0 ∷ 2 ∷ 0 ∷ 0 ∷ 0 ∷ 0 ∷ [])
-    -- P7
+    -- P7: a lock is open
     ∷ run (Release 0 ∷ Acquire 0 ∷ Finish ∷ [])
     ((0 ∷ 1 ∷ 0 ∷ 0 ∷ []) ∷ (0 ∷ 5 ∷ 0 ∷ 0 ∷ []) ∷ (22 ∷ []) ∷ [])
     (0 ∷ 5 ∷ 0 ∷ 0 ∷ 1 ∷ 0 ∷ 0 ∷ 0 ∷ 0 ∷ [])
-    -- P8
+    -- P8: released twice
     ∷ run (Release 0 ∷ Release 0 ∷ [])
     ((0 ∷ 1 ∷ 0 ∷ 0 ∷ []) ∷ (14 ∷ []) ∷ [])
     (0 ∷ 1 ∷ 0 ∷ 0 ∷ 0 ∷ 0 ∷ 0 ∷ 0 ∷ 0 ∷ [])
-    -- P9
+    -- P9: no use of the lock
     ∷ run (Release 1 ∷ Acquire 0 ∷ [])
     ((1 ∷ 3 ∷ 0 ∷ 0 ∷ []) ∷ (15 ∷ []) ∷ [])
     (1 ∷ 3 ∷ 0 ∷ 0 ∷ 0 ∷ 0 ∷ 0 ∷ 0 ∷ 0 ∷ [])
-    -- P10: no events: nobody, words 0 and 0
+    -- P10: the fresh start
     ∷ run [] [] (255 ∷ 0 ∷ 0 ∷ 0 ∷ 0 ∷ 0 ∷ 0 ∷ 0 ∷ 0 ∷ [])
-    -- P11
+    -- P11: the bounds
     ∷ bounds (0 ∷ 10 ∷ 4 ∷ 0 ∷ [])
-    -- P12: task 1's delay is 10; work 1 is refused 21
+    -- P12: task 1 is delayed by its bound, and one unit more is refused
     ∷ run (Release 0 ∷ Acquire 1 ∷ Release 1 ∷ Work 10 ∷ Work 1 ∷ [])
     ((0 ∷ 1 ∷ 0 ∷ 0 ∷ []) ∷ (0 ∷ 3 ∷ 0 ∷ 0 ∷ []) ∷ (0 ∷ 3 ∷ 3 ∷ 0 ∷ []) ∷ (0 ∷ 3 ∷ 3 ∷ 0 ∷ []) ∷ (21 ∷ []) ∷ [])
     (0 ∷ 3 ∷ 3 ∷ 0 ∷ 1 ∷ 0 ∷ 10 ∷ 0 ∷ 0 ∷ [])

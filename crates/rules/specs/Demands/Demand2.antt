@@ -1,7 +1,5 @@
--- Demand 2, at place k of a list of events from a fresh start, before its event; so it speaks of every moment of every list. Assumes nothing.
--- "The lazy scheduler (user and next words) runs the task that the eager immediate-ceiling scheduler runs, ties to the earlier release.
--- No lock has two holders; no acquire is refused because another task holds the lock. An accepted unlock calls the kernel once exactly
--- when another released task strictly outranks the restored priority; an acquire never calls."
+-- RULES 14.2: the lazy scheduler does what the eager one does. Said of place k of a list of events from a fresh start, before its event; so it speaks of
+-- every moment of every list. Assumes nothing.
 use mathlib.Core.Path.{_≡_}
 use mathlib.Core.Logic.{_≢_, _↔_}
 use mathlib.Core.Bool.{true}
@@ -20,7 +18,7 @@ use Rattle.rules.specs.declared.plan.Plan.{Plan}
 use Rattle.rules.specs.declared.event.Event.{Event}
 use Rattle.rules.specs.declared.event.Event.the-variants.{Acquire, Unlock}
 
--- task r is the released one of greatest priority, and who was released earlier has a smaller one
+-- task r is released, no released task has a greater priority, and those released earlier have smaller ones
 pub record Foremost (p : Plan) (f : Figures) (r : ℕ) : Type 0 where
   pub released : 0 < at (f .released) r
   pub greatest : (y : ℕ) → 0 < at (f .released) y → priorityOf p f y ≤ priorityOf p f r
@@ -42,7 +40,7 @@ pub record Demand2 (p : Plan) (es : List Event) (k : ℕ) : Type 0 where
   -- which is the foremost one, and nobody exactly where none is released
   pub foremost : runnerAt p es k ≢ nobody → Foremost p (eagerAt p es k) (runnerAt p es k)
   pub idle : runnerAt p es k ≡ nobody → (x : ℕ) → at (eagerAt p es k .released) x ≡ 0
-  -- the user word is that task's priority, 0 with nobody; the next word is the greatest of the others; kept and saved priorities are what 01 gives
+  -- both words, and the kept and saved priorities, are those of RULES 7.4 to 7.7
   pub user : lazyAt p es k .head .user .0 ≡ rankOf p (eagerAt p es k) (runnerAt p es k)
   pub next : NextWord p (eagerAt p es k) (runnerAt p es k) (lazyAt p es k .head .next .0)
   pub kept : (x : ℕ) → at (lazyAt p es k .kept) x ≡ keptOf p (eagerAt p es k) (runnerAt p es k) x
@@ -53,7 +51,7 @@ pub record Demand2 (p : Plan) (es : List Event) (k : ℕ) : Type 0 where
   pub oneHolder : (x y l : ℕ) → holds (eagerAt p es k) x l ≡ true → holds (eagerAt p es k) y l ≡ true → x ≡ y
   pub no10 : answerNumber (stepOf p (lazyAt p es k) (eventAt es k) .answer) ≢ 10
   pub no17 : answerNumber (stepOf p (lazyAt p es k) (eventAt es k) .answer) ≢ 17
-  -- an accepted unlock calls once exactly where another released task strictly outranks the restored priority, and not at all elsewhere; an acquire never calls
+  -- an accepted unlock is one call where another released task is strictly above the restored priority, and none elsewhere; no acquire is a call
   pub unlock : (l : ℕ) → eventAt es k ≡ Unlock l → acceptedAt p es k ≡ true
       → (answerCalls (stepOf p (lazyAt p es k) (eventAt es k) .answer) ≡ 1) ↔ Outranked p (eagerAt p es k) (runnerAt p es k) l
   pub calls : answerCalls (stepOf p (lazyAt p es k) (eventAt es k) .answer) ≤ 1

@@ -1,7 +1,4 @@
--- Demand 3, over the eager scheduler of demand 2 and its history. Assumes nothing.
--- "Take any job from release to finish or the list's end. All work in that span by tasks of lower base belongs to one section of one lock, taken
--- before the release, none after the job first runs; its units, as counted and reported, never pass the longest section limit among locks with
--- ceiling at least the job's priority that some lower task may use; and for every task some list reaches that limit."
+-- RULES 14.3, over the history of the eager scheduler: what delays a job, how long, and that the bound is reached. Assumes nothing.
 use mathlib.Core.Path.{_≡_}
 use mathlib.Core.Logic.{_↔_}
 use mathlib.Core.Bool.{true, _&&_}
@@ -19,7 +16,7 @@ use Rattle.rules.specs.declared.plan.Plan.{Plan}
 use Rattle.rules.specs.declared.event.Event.{Event}
 use Rattle.rules.specs.declared.event.Event.the-variants.{Release, Acquire, Work, Finish}
 
--- all work of lower tasks in the job of t that was released at place i belongs to one section: that of one task and one lock, taken before the release
+-- all work of lower tasks in the job of t that was released at place i belongs to one section, which one task began before the release by taking one lock
 pub record OneSection (p : Plan) (es : List Event) (t i : ℕ) : Type 0 where
   pub task : ℕ
   pub lock : ℕ

@@ -1,4 +1,5 @@
--- The history of a list of events from a fresh start. A place is an event's number in the list, from 0; a refused event changes nothing. Assumes nothing.
+-- What RULES 14 speaks of: the history of a list of events from a fresh start. A place is an event's number in the list, from 0; a refused event
+-- changes nothing. Assumes nothing.
 use mathlib.Core.Bool.{Bool, not, _&&_}
 use mathlib.Core.List.{List}
 use Prim.Native.Nat.{ℕ, zero, suc, _+_}
@@ -17,7 +18,7 @@ use Rattle.rules.specs.declared.state.State.{State}
 use Rattle.rules.specs.declared.event.Event.{Event}
 use Rattle.rules.specs.declared.event.Event.the-variants.{Release, Acquire, Unlock, Work, Finish, Tick}
 
--- the event at place k; past the list's end it is a tick, which changes nothing but the event number
+-- the event at place k; past the list's end it is a tick, which does nothing but count
 abbrev pub eventAt : List Event → ℕ → Event
 eventAt es k = getD es k Tick
 
@@ -45,7 +46,7 @@ acceptedAt p es k = passes (eagerTest p (eagerAt p es k) (eventAt es k))
 unfoldable pub outranked : Plan → Figures → Figures → ℕ → Bool
 outranked p f g r = any (λ y. not (eqb y r) && ltb (priorityOf p g r) (rankOf p f y)) (p .tasks)
 
--- the lazy calls that the rule asks for: one for an unlock after which another released task strictly outranks the restored priority
+-- the lazy calls that the rule asks for: one for an unlock after which another released task is strictly above the restored priority
 unfoldable pub callsDue : Plan → Figures → Event → ℕ
 callsDue p f (Release t) = 0
 callsDue p f (Acquire l) = 0

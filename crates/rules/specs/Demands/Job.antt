@@ -1,4 +1,4 @@
--- Jobs, sections and the work of lower tasks, by places in the history of the eager scheduler. Assumes nothing.
+-- RULES 1.6, 1.7: jobs, sections and the work of lower tasks, by places in the history of the eager scheduler. Assumes nothing.
 use mathlib.Core.Path.{_≡_}
 use mathlib.Core.Bool.{true, _&&_}
 use mathlib.Core.List.{List}

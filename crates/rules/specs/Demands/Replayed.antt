@@ -1,4 +1,4 @@
--- Demands 2 and 3, said of what the replay of a book returns: its rows, its verdict and its state. Assumes nothing.
+-- RULES 14.2 and 14.3, said of what the replay of a book returns: its rows, its verdict and its state. Assumes nothing.
 use mathlib.Core.Path.{_≡_}
 use mathlib.Core.Logic.{_≢_, _↔_}
 use mathlib.Core.Bool.{true}
@@ -22,7 +22,7 @@ use Rattle.rules.specs.declared.plan.Plan.{Plan}
 use Rattle.rules.specs.declared.event.Event.{Event}
 use Rattle.rules.specs.declared.event.Event.the-variants.{Release, Acquire, Unlock, Finish}
 
--- "a row of four bytes is written: running task (255 for nobody), user word, next word, 1 for a lazy call or else 0": the row of the event at place k
+-- RULES 12.4: what the four bytes of the event at place k say
 pub record RowAt (p : Plan) (es : List Event) (k : ℕ) (task user next call : ℕ) : Type 0 where
   -- after the event the eager scheduler's task runs: the foremost one, ties to the earlier release, and nobody exactly where none is released
   pub runs : task ≡ runnerAt p es (suc k)
@@ -31,15 +31,14 @@ pub record RowAt (p : Plan) (es : List Event) (k : ℕ) (task user next call : �
   -- the user word is its priority, 0 with nobody, and the next word the greatest of the other released tasks
   pub own : user ≡ rankOf p (eagerAt p es (suc k)) (runnerAt p es (suc k))
   pub others : NextWord p (eagerAt p es (suc k)) (runnerAt p es (suc k)) next
-  -- the calls are those that the rule asks for: an unlock calls the kernel exactly when another released task strictly outranks the restored
-  -- priority, and an acquire never calls
+  -- the calls are those that the rule asks for: one for an unlock after which another released task is strictly above the restored priority,
+  -- and none for an acquire
   pub due : call ≡ callsDue p (eagerAt p es k) (eventAt es k)
   pub once : call ≤ 1
   pub unlock : (l : ℕ) → eventAt es k ≡ Unlock l → (call ≡ 1) ↔ Outranked p (eagerAt p es k) (runnerAt p es k) l
   pub acquire : (l : ℕ) → eventAt es k ≡ Acquire l → call ≡ 0
 
--- "Then events run until the first refusal: the answer names its number, its event's place from 0 and the state before it."
--- What the run of a list from a fresh start comes to, with row space `rows`, where its state reports a accepted events
+-- RULES 12.3: what the run of a list from a fresh start comes to, with row space `rows`, where its state reports a accepted events
 pub record RanUpTo (p : Plan) (es : List Event) (rows : List ℕ) (ran : Ran) (a : ℕ) : Type 0 where
   -- they are the events before place a, and the state is the one before that place
   pub within : a ≤ length es
@@ -77,7 +76,7 @@ pub record Reaches (p : Plan) (es : List Event) (t : ℕ) (ran : Ran) : Type 0 w
   pub job : Job p es t released (length es)
   pub delay : at (ran .state .delay) t ≡ boundOf p t
 
--- "for every task some list reaches that limit": some book with the plan of b, and of bytes where b is, whose replay with enough row space reaches it
+-- RULES 14.3, its last point: some book with the plan of b, and of bytes where b is, whose replay with enough row space reaches the bound of t
 pub record BookReaches (b : List ℕ) (t : ℕ) : Type 0 where
   pub book : List ℕ
   pub plan : planIn book ≡ planIn b

@@ -1,4 +1,4 @@
--- What each answer says in document 01's numbers, and whether it is a refusal. Assumes nothing.
+-- RULES 5, 10.1: each answer as its number, its place and its calls, and whether it refuses. Assumes nothing.
 use mathlib.Core.Bool.{Bool, true, false}
 use Prim.Native.Nat.{ℕ}
 use Rattle.rules.specs.Numbers.Choice.{if_then_else_}

@@ -1,7 +1,7 @@
--- How much the recorder holds. src/capacity.rt names the same numbers; no other file writes them. Assumes nothing.
+-- RULES 2: how much the recorder holds. src/capacity.rt names the same numbers; no other file writes them. Assumes nothing.
 use Prim.Native.Nat.{ℕ}
 
--- "A plan has 1 to 96 tasks, 0 to 32 locks and 0 to 3,072 uses", and a book at most 12,000 events
+-- the most tasks, locks and uses of a plan, and the most events of a book
 abbrev pub maxTasks : ℕ
 maxTasks = 96
 
@@ -14,18 +14,18 @@ maxUses = 3_072
 abbrev pub maxEvents : ℕ
 maxEvents = 12_000
 
--- "eight locks open for this task already"
+-- the most locks that one task has open at a time
 abbrev pub maxOpen : ℕ
 maxOpen = 8
 
--- "1,000,000 events already accepted"
+-- the most events that a state may have accepted
 abbrev pub maxAccepted : ℕ
 maxAccepted = 1_000_000
 
--- "the count sticks at 65,535"
+-- where the count of a delay stays
 abbrev pub maxDelay : ℕ
 maxDelay = 65_535
 
--- "running task (255 for nobody)"
+-- the running task where nobody runs
 abbrev pub nobody : ℕ
 nobody = 255

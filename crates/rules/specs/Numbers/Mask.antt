@@ -1,4 +1,4 @@
--- A set of locks as a number: bit l says that lock l is in it. Assumes nothing.
+-- RULES 3.5: a set of locks as a number, whose bit l says that lock l is in it. Assumes nothing.
 use mathlib.Core.Bool.{Bool}
 use Prim.Native.Nat.{ℕ, _+_, _/_, _%_, _^_}
 use lib.Dec.{eqb}

@@ -1,4 +1,4 @@
--- The refusal numbers of document 01, all in this place, and how a list of tests in order gives one. Assumes nothing.
+-- RULES 5.1: the refusal numbers, all in this place, and how a list of tests in order gives one. Assumes nothing.
 use mathlib.Core.Path.{_≡_}
 use mathlib.Core.Bool.{Bool, true, false}
 use mathlib.Core.List.{List, [], _∷_}
@@ -11,49 +11,49 @@ use Rattle.rules.specs.declared.answer.Tested.{Tested}
 use Rattle.rules.specs.declared.answer.Verdict.{Verdict}
 
 unfoldable pub numberOf : Refusal → ℕ
--- book under 32 bytes
+-- the book has fewer bytes than its contents take
 numberOf Refusal.ShortBook = 1
--- a count out of range
+-- an entry counts more records than there may be, or no task
 numberOf Refusal.WrongCount = 2
--- a kind or offset wrong, or the end isn't the book's end
+-- an entry's kind or offset, or the place where the last body ends, is another than it should be
 numberOf Refusal.WrongLayout = 3
--- a task with base 0 or second byte not 0
+-- a task's base is 0, or its byte 1 is not
 numberOf Refusal.WrongTask = 4
--- a lock with ceiling 0, second byte not 0, or limit 0
+-- a lock's ceiling or limit is 0, or its byte 1 is not
 numberOf Refusal.WrongLock = 5
--- a use with an unknown id, or out of order
+-- a use names a task or a lock that is not there, or does not come after the use before it
 numberOf Refusal.WrongUse = 6
--- a lock without users, or its ceiling isn't the greatest base
+-- nobody uses a lock, or its ceiling is not the highest base of its users
 numberOf Refusal.WrongCeiling = 7
--- an event of kind outside 1 to 6, unused field not 0, or work of 0
+-- a record of no event's kind, with something in a field without use, or that works no units
 numberOf Refusal.WrongEvent = 8
--- row space under 4 bytes an event
+-- there are fewer than four row bytes for each event
 numberOf Refusal.ShortRows = 9
--- state not sound
+-- the state is not sound (RULES 8)
 numberOf Refusal.Unsound = 10
--- 1,000,000 events already accepted
+-- the state has accepted as many events as it may
 numberOf Refusal.Exhausted = 11
--- nobody runs
+-- an act, and nobody runs
 numberOf Refusal.NobodyRuns = 12
--- no such task or lock
+-- the plan does not have that task or that lock
 numberOf Refusal.Unknown = 13
--- task already released
+-- the task is released
 numberOf Refusal.AlreadyReleased = 14
--- not a declared user
+-- the running task has no use of the lock
 numberOf Refusal.NotDeclared = 15
--- lock already open for this task
+-- the running task has the lock open
 numberOf Refusal.AlreadyOpen = 16
--- lock open for another task
+-- another task has the lock open
 numberOf Refusal.OpenElsewhere = 17
--- eight locks open for this task already
+-- the running task's row is full
 numberOf Refusal.RowFull = 18
--- not this task's newest open lock
+-- the lock is not the running task's newest
 numberOf Refusal.NotNewest = 19
--- work of 0
+-- work of no units
 numberOf Refusal.NoWork = 20
--- an open section would pass its limit
+-- the work would bring an open section above its limit
 numberOf Refusal.PastLimit = 21
--- finish with a lock open
+-- the running task still has a lock open
 numberOf Refusal.StillOpen = 22
 
 -- tests in order, each with its refusal: the first that holds refuses
@@ -92,7 +92,7 @@ pub record Check : Type 0 where
 unfoldable pub found : Check → ℕ → Verdict → Verdict
 found c i rest = if ltb i (c .count) then Verdict.Refused (c .refusal) (c .first + i) else rest
 
--- checks in order, each with the place of its first offender: the first that finds one refuses
+-- checks in order: the first that finds an offender refuses, at the first place where it does
 unfoldable pub firstFault : List Check → Verdict
 firstFault [] = Verdict.Passed
 firstFault (c ∷ cs) = found c (firstFrom (c .fault) 0 (c .count)) (firstFault cs)

@@ -1,4 +1,5 @@
--- A task's row of open locks, and its row of saved words: a number in base 256, newest first. Assumes nothing.
+-- RULES 7.2 to 7.4: a row of open locks, or of saved words, as a number in base 256, newest first; the priority of a row, and its saved words.
+-- Assumes nothing.
 use mathlib.Core.Bool.{Bool, false, _||_}
 use Prim.Native.Nat.{ℕ, zero, suc, _+_, _*_, _/_, _%_, max}
 use lib.Dec.{eqb}
@@ -17,7 +18,8 @@ unfoldable pub has : ℕ → ℕ → ℕ → Bool
 has row zero l = false
 has row (suc k) l = eqb (newest row) l || has (under row) k l
 
--- the priority of a task of this base with a row of k open locks: "the greater of the newest ceiling and the priority under it, down to the base"
+-- the priority of a task of this base with a row of k open locks: without any its base, else the newest one's ceiling or what the rest of the row gives,
+-- whichever is greater
 unfoldable pub priority : (ℕ → ℕ) → ℕ → ℕ → ℕ → ℕ
 priority ceiling base row zero = base
 priority ceiling base row (suc k) = max (ceiling (newest row)) (priority ceiling base (under row) k)

@@ -1,4 +1,4 @@
--- The replay of a book: 1 to 9 first, leaving the rows untouched; then its events from a fresh start. Assumes nothing.
+-- RULES 12.2, 12.3: the replay of a book: 1 to 9 first, and then its events from a fresh start. Assumes nothing.
 use mathlib.Core.List.{List}
 use Prim.Native.Nat.{ℕ}
 use lib.ListN.{length}
@@ -10,7 +10,7 @@ use Rattle.rules.specs.declared.event.Event.{Event}
 use Rattle.rules.specs.declared.answer.Verdict.{Verdict}
 use Rattle.rules.specs.declared.answer.Replayed.{Replayed}
 
--- what a refusal of 1 to 9 leaves: no state but the fresh one, and the rows as they were
+-- RULES 5.8: beside a refusal of 1 to 9 there is no state but the fresh one, and the rows are as they were
 unfoldable pub replayAs : Verdict → Plan → List Event → List ℕ → Ran
 replayAs Verdict.Passed p es rows = runFrom p es 0 freshOf rows
 replayAs (Verdict.Refused why place) p es rows = record { verdict = Verdict.Refused why place; state = freshOf; rows = rows }

@@ -1,4 +1,4 @@
--- "Then events run until the first refusal: the answer names its number, its event's place from 0 and the state before it." Assumes nothing.
+-- RULES 12.3 to 12.5: the run of a list of events up to its first refusal, with a row for each event before that. Assumes nothing.
 use mathlib.Core.Bool.{Bool}
 use mathlib.Core.List.{List, [], _∷_}
 use Prim.Native.Nat.{ℕ, suc, _+_, _*_}
@@ -12,7 +12,7 @@ use Rattle.rules.specs.declared.event.Event.{Event}
 use Rattle.rules.specs.declared.answer.Answer.{Answer}
 use Rattle.rules.specs.declared.answer.Verdict.{Verdict}
 
--- "a row of four bytes is written: running task (255 for nobody), user word, next word, 1 for a lazy call or else 0"
+-- RULES 12.4: the row bytes, with the four of the event at place k; h is the head after it
 unfoldable pub withRow : List ℕ → ℕ → Head → Bool → List ℕ
 withRow rows k h call =
     set (set (set (set rows (k * 4) (h .running)) (k * 4 + 1) (h .user .0)) (k * 4 + 2) (h .next .0)) (k * 4 + 3) (if call then 1 else 0)

@@ -1,4 +1,4 @@
--- A single step: "any plan, any state, any event". Assumes nothing.
+-- RULES 12.1: a single step, whatever plan, state and event are handed in. Assumes nothing.
 use mathlib.Core.Bool.{Bool}
 use Rattle.rules.specs.Numbers.Choice.{if_then_else_}
 use Rattle.rules.specs.Schedulers.Figures.{figuresOf}
@@ -15,7 +15,7 @@ use Rattle.rules.specs.declared.answer.Tested.{Tested}
 use Rattle.rules.specs.declared.answer.Answer.{Answer}
 use Rattle.rules.specs.declared.answer.Stepped.{Stepped}
 
--- "A single step returns the given state with 10 to 22"
+-- a refusal of 10 to 22 beside the state that was given
 abbrev pub refusedWith : State → Refusal → Stepped
 refusedWith s why = record { answer = Answer.Refused why; state = s }
 

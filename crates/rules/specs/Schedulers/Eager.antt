@@ -1,4 +1,4 @@
--- The eager scheduler: its state is the figures alone, and the running task is worked out anew after each event. Assumes nothing.
+-- RULES 11: the eager scheduler. Its state is the figures alone, and the running task is worked out anew after each event. Assumes nothing.
 use Prim.Native.Nat.{ℕ}
 use Rattle.rules.specs.Numbers.Place.{at}
 use Rattle.rules.specs.Schedulers.Figures.{Figures, rankOf}
@@ -9,7 +9,7 @@ use Rattle.rules.specs.declared.plan.Plan.{Plan}
 use Rattle.rules.specs.declared.answer.Tested.{Tested}
 use Rattle.rules.specs.declared.event.Event.{Event}
 
--- "After each event the running task is the released one of greatest priority; among equals, the one released earliest."
+-- RULES 11.2: the task that it runs
 unfoldable pub runningOf : Plan → Figures → ℕ
 runningOf p f = elected (at (f .released)) (rankOf p f) (p .tasks)
 

@@ -1,4 +1,5 @@
--- "The released one of greatest priority; among equals, the one released earliest. With none released, nobody." Assumes nothing.
+-- RULES 9.10, 11.2: of tasks with a key each, the one that runs: the greatest key, ties to the earlier release; nobody where every key is 0.
+-- Assumes nothing.
 use Prim.Native.Nat.{ℕ, zero, suc}
 use lib.Dec.{eqb, ltb}
 use Rattle.rules.specs.Numbers.Capacity.{nobody}

@@ -1,5 +1,4 @@
--- "Order for an event: 10, 11, 20; release 13, 14; acquire 12, 13, 15, 16, 17, 18; unlock 12, 13, 19; work 12, 21; finish 12, 22."
--- The tests after 10, of an event in a state whose figures are f, with task r running. Both schedulers use them. Assumes nothing.
+-- RULES 9.2: the tests of an event after 10, in order, where the figures are f and task r runs. Both schedulers use them. Assumes nothing.
 use mathlib.Core.Bool.{Bool, not, _&&_, _||_}
 use mathlib.Core.List.{List, [], _∷_}
 use Prim.Native.Nat.{ℕ, _+_}
@@ -15,7 +14,8 @@ use Rattle.rules.specs.declared.answer.Tested.{Tested}
 use Rattle.rules.specs.declared.event.Event.{Event}
 use Rattle.rules.specs.declared.event.Event.the-variants.{Release, Acquire, Unlock, Work, Finish, Tick}
 use Rattle.rules.specs.declared.refusal.Refusal.{Refusal}
-use Rattle.rules.specs.declared.refusal.Refusal.the-variants.{Exhausted, NobodyRuns, Unknown, AlreadyReleased, NotDeclared, AlreadyOpen, OpenElsewhere, RowFull, NotNewest, NoWork, PastLimit, StillOpen}
+use Rattle.rules.specs.declared.refusal.Refusal.the-variants.{Exhausted, NobodyRuns, Unknown, AlreadyReleased, NotDeclared, AlreadyOpen}
+use Rattle.rules.specs.declared.refusal.Refusal.the-variants.{OpenElsewhere, RowFull, NotNewest, NoWork, PastLimit, StillOpen}
 
 -- lock l is open for one of the first n tasks other than r
 unfoldable pub elsewhere : Figures → ℕ → ℕ → ℕ → Bool

@@ -1,4 +1,4 @@
--- The figures that both schedulers keep, and a task's priority by them. Assumes nothing.
+-- RULES 7.1, 7.3: the figures that both schedulers keep, and a task's priority by them. Assumes nothing.
 use mathlib.Core.Path.{_≡_}
 use mathlib.Core.Bool.{Bool}
 use mathlib.Core.List.{List}
@@ -60,7 +60,7 @@ freshFigures =
 unfoldable pub holds : Figures → ℕ → ℕ → Bool
 holds f x l = has (at (f .takes) x) (at (f .depth) x) l
 
--- "the greatest of its base and the ceilings of its open locks"
+-- the priority of task x: that of its row, over its base
 unfoldable pub priorityOf : Plan → Figures → ℕ → ℕ
 priorityOf p f x = priority (at (p .ceiling)) (at (p .base) x) (at (f .takes) x) (at (f .depth) x)
 

@@ -1,4 +1,4 @@
--- What an accepted event makes of the figures, with task r running. Both schedulers use it. Assumes nothing.
+-- RULES 9.4 to 9.9: what an accepted event makes of the figures, with task r running. Both schedulers use it. Assumes nothing.
 use mathlib.Core.Bool.{_&&_}
 use Prim.Native.Nat.{ℕ, _+_, _-_, min}
 use lib.Dec.{ltb}
@@ -12,7 +12,7 @@ use Rattle.rules.specs.declared.plan.Plan.{Plan}
 use Rattle.rules.specs.declared.event.Event.{Event}
 use Rattle.rules.specs.declared.event.Event.the-variants.{Release, Acquire, Unlock, Work, Finish, Tick}
 
--- "Eager calls: one for each accepted acquire and one for each accepted unlock"
+-- RULES 10.2: the eager calls of an event
 unfoldable pub eagerCalls : Event → ℕ
 eagerCalls (Release t) = 0
 eagerCalls (Acquire l) = 1
@@ -21,7 +21,7 @@ eagerCalls (Work a) = 0
 eagerCalls Finish = 0
 eagerCalls Tick = 0
 
--- "Work adds its amount to every open section of the running task": the units of lock l after it
+-- RULES 9.7: the units of lock l after a units by task r, which count for each of its open sections
 unfoldable pub charged : Figures → ℕ → ℕ → ℕ → ℕ
 charged f r a l = if holds f r l then at (f .units) l + a else at (f .units) l
 
@@ -30,7 +30,7 @@ unfoldable pub delayed : Plan → Figures → ℕ → ℕ → ℕ → ℕ
 delayed p f r a t = if ltb 0 (at (f .released) t) && ltb (at (p .base) r) (at (p .base) t) then min maxDelay (at (f .delay) t + a) else at (f .delay) t
 
 unfoldable pub figuresAfter : Plan → Figures → ℕ → Event → Figures
--- the release number is the number of the event among accepted events, and the delay starts anew
+-- the newcomer's release number is the new count of accepted events, and its delay starts anew
 figuresAfter p f r (Release t) =
     record {
       accepted = f .accepted + 1;
@@ -51,7 +51,7 @@ figuresAfter p f r (Acquire l) =
       takes = set (f .takes) r (pushed (at (f .takes) r) l);
       units = f .units;
     }
--- a section's count goes back to 0 when it ends
+-- the section is over, so its lock has no units
 figuresAfter p f r (Unlock l) =
     record {
       accepted = f .accepted + 1;
@@ -83,7 +83,7 @@ figuresAfter p f r Finish =
       takes = f .takes;
       units = f .units;
     }
--- "Tick is a kernel entry that changes nothing but the event number"
+-- a tick is counted as an event, and that is all
 figuresAfter p f r Tick =
     record {
       accepted = f .accepted + 1;

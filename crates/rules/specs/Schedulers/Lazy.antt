@@ -1,4 +1,4 @@
--- The lazy scheduler (001, its second protocol): two words shared with the kernel, kept and saved priorities, switch and calls. Assumes nothing.
+-- RULES 9.4 to 9.10 and 10.1: the words of the lazy scheduler, its kept and saved priorities, its switch and its calls. Assumes nothing.
 use mathlib.Core.Path.{_≡_}
 use mathlib.Core.Bool.{Bool, false}
 use mathlib.Core.List.{List}
@@ -66,15 +66,15 @@ stateOf f w =
       owner = w .owner;
     }
 
--- the rule for a call: the word that an unlock puts back is strictly below the next word
+-- RULES 10.1: an unlock calls where the word that it puts back is strictly below the next word
 unfoldable pub callsFor : ℕ → ℕ → Bool
 callsFor back next = ltb back next
 
--- the second word: the greatest priority of the other released tasks, which the kernel keeps
+-- RULES 7.7: the second word is the greatest priority that the kernel keeps for any task
 abbrev pub secondWord : List ℕ → ℕ → ℕ
 secondWord kept n = greatest (at kept) n
 
--- task q runs, by the kept priorities; its own is 0 until it leaves
+-- task q runs, by its kept priority; while it runs nothing is kept for it
 unfoldable pub runsOn : ℕ → List ℕ → Words → ℕ → Words
 runsOn n kept w q =
     record {
@@ -87,7 +87,7 @@ runsOn n kept w q =
       owner = w .owner;
     }
 
--- a switch: of the kept priorities, the leaving task's among them, the greatest runs, ties to the earlier release
+-- RULES 9.10: a switch to the greatest of the kept priorities, the leaving task's among them; ties to the earlier release
 unfoldable pub switched : ℕ → List ℕ → List ℕ → Words → Words
 switched n released kept w = runsOn n kept w (elected (at released) (at kept) n)
 
@@ -104,11 +104,11 @@ waits n kept w =
       owner = w .owner;
     }
 
--- a newcomer of base b, already kept: "the kernel switches only where the newcomer's base is strictly above the user word"
+-- RULES 9.4: after the release of a task of base b, which is kept already; the kernel switches for a base strictly above the user word only
 unfoldable pub afterRelease : ℕ → List ℕ → List ℕ → ℕ → Words → Words
 afterRelease n released kept b w = if ltb (w .user) b then switched n released (set kept (w .running) (w .user)) w else waits n kept w
 
--- lock l of this ceiling is taken: the user word is saved, and raised to the ceiling
+-- RULES 9.5: lock l of this ceiling is taken; the user word is saved, and raised to the ceiling where it is below it
 unfoldable pub afterAcquire : ℕ → ℕ → Words → Words
 afterAcquire l ceiling w =
     record {
@@ -138,7 +138,7 @@ restored l calls w =
       owner = set (w .owner) l 0;
     }
 
--- "Unlock puts the saved one back; if it is then strictly below the next word, that is one lazy call, and the kernel switches"
+-- RULES 9.6: lock l is given back, with one lazy call and a switch where the call's rule says so, and with neither elsewhere
 unfoldable pub afterUnlock : ℕ → List ℕ → ℕ → Words → Words
 afterUnlock n released l w = if callsFor (backOf w) (w .next) then switched n released (set (w .kept) (w .running) (backOf w))
     (restored l 1 w) else restored l 0 w
@@ -149,7 +149,7 @@ wordsAfter p released w (Release t) = afterRelease (p .tasks) released (set (w .
 wordsAfter p released w (Acquire l) = afterAcquire l (at (p .ceiling) l) w
 wordsAfter p released w (Unlock l) = afterUnlock (p .tasks) released l w
 wordsAfter p released w (Work a) = w
--- "Finish always switches so, but keeps no priority for the finished task"
+-- RULES 9.8: a finish switches, and nothing is kept for the task that is done
 wordsAfter p released w Finish = switched (p .tasks) released (set (w .kept) (w .running) 0) w
 wordsAfter p released w Tick = w
 

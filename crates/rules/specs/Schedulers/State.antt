@@ -1,4 +1,4 @@
--- The state before the first event: nobody is released, nobody runs, and every figure is 0. Assumes nothing.
+-- RULES 7.8: the fresh state: nobody runs, and every other figure is 0. Assumes nothing.
 use lib.ListN.{replicate}
 use Rattle.rules.specs.Numbers.Capacity.{maxTasks, maxLocks, nobody}
 use Rattle.rules.specs.declared.state.Head.{Head}

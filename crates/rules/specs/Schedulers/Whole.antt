@@ -1,4 +1,4 @@
--- The plan and the state of their parts. Assumes nothing.
+-- RULES 3.5, 7.1: a plan and a state put together from their figures. Assumes nothing.
 use mathlib.Core.List.{List}
 use Prim.Native.Nat.{ℕ}
 use Rattle.rules.specs.declared.plan.Plan.{Plan}

@@ -1,4 +1,4 @@
--- "A state is sound when ..": each condition of that paragraph of document 01, by name. Assumes nothing.
+-- RULES 8: the conditions of soundness, each by name. Assumes nothing.
 use mathlib.Core.Path.{_≡_}
 use mathlib.Core.Logic.{_≢_}
 use mathlib.Core.Bool.{Bool, true, false, not, _&&_}
@@ -21,24 +21,24 @@ distinct row (suc k) = not (has (under row) k (newest row)) && distinct (under r
 
 -- what the figures obey
 pub record SoundFigures (p : Plan) (f : Figures) : Type 0 where
-  -- release numbers of released tasks differ and lie between 1 and the accepted events, at most 1,000,000
+  -- RULES 8.4, 8.5: no more events were accepted than may be; a release number is one of theirs, and no two released tasks have the same
   pub events : f .accepted ≤ maxAccepted
   pub numbers : (x : ℕ) → at (f .released) x ≤ f .accepted
   pub differ : (x y : ℕ) → 0 < at (f .released) x → at (f .released) x ≡ at (f .released) y → x ≡ y
-  -- the count of eager calls is at most the accepted events
+  -- RULES 8.4: no more eager calls than accepted events
   pub eager : f .eager ≤ f .accepted
-  -- each task has at most eight open locks, in range and declared, none for an unreleased task
+  -- RULES 8.6: a row is no longer than it may be; an open lock is one of the plan's that its task may take; who is not released has none
   pub depth : (x : ℕ) → at (f .depth) x ≤ maxOpen
   pub known : (x l : ℕ) → holds f x l ≡ true → l < p .locks
   pub declared : (x l : ℕ) → holds f x l ≡ true → declares p x l ≡ true
   pub resting : (x : ℕ) → at (f .released) x ≡ 0 → at (f .depth) x ≡ 0
-  -- no lock is open twice: not in one row, and not for two tasks
+  -- RULES 8.7: a lock stands once in a row, and in the row of one task only
   pub once : (x : ℕ) → distinct (at (f .takes) x) (at (f .depth) x) ≡ true
   pub alone : (x y l : ℕ) → holds f x l ≡ true → holds f y l ≡ true → x ≡ y
-  -- no section exceeds its limit; delays are at most 65,535
+  -- RULES 8.8, 8.9: units are within the limit, and delays within their own greatest value
   pub limits : (l : ℕ) → at (f .units) l ≤ at (p .limit) l
   pub delays : (x : ℕ) → at (f .delay) x ≤ maxDelay
-  -- all other figures of closed locks, and all unused places, are 0: those of a row, and those past the last task
+  -- RULES 8.8, 8.11: a closed lock has no units; unused places of a row are 0, and so are places past the last task
   pub closed : (l : ℕ) → ((x : ℕ) → holds f x l ≡ false) → at (f .units) l ≡ 0
   pub places : (x : ℕ) → at (f .takes) x < 256 ^ at (f .depth) x
   pub noTask : (x : ℕ) → p .tasks ≤ x → (at (f .released) x ≡ 0) × (at (f .delay) x ≡ 0)
@@ -58,17 +58,17 @@ ownerOf f (suc k) l = if holds f k l then suc k else ownerOf f k l
 
 -- what the words obey, given the figures
 pub record SoundWords (p : Plan) (f : Figures) (w : Words) : Type 0 where
-  -- nobody runs exactly when none is released, otherwise a released task runs
+  -- RULES 8.3: where nobody runs none is released, and a task that runs is released
   pub idle : w .running ≡ nobody → (x : ℕ) → at (f .released) x ≡ 0
   pub runs : w .running ≢ nobody → 0 < at (f .released) (w .running)
-  -- both words and the kept and saved priorities are what the rules give for that running task and the open locks
+  -- RULES 8.10: both words, and what is kept and saved for each task, follow from who runs and from the open locks
   pub user : w .user ≡ rankOf p f (w .running)
   pub next : w .next ≡ greatest (keptOf p f (w .running)) (p .tasks)
   pub kept : (x : ℕ) → at (w .kept) x ≡ keptOf p f (w .running) x
   pub saved : (x : ℕ) → at (w .saved) x ≡ savedOf p f x
   -- the owner of a lock is the task whose row it stands in
   pub owner : (l : ℕ) → at (w .owner) l ≡ ownerOf f (p .tasks) l
-  -- the count of lazy calls is at most the accepted events
+  -- RULES 8.4: no more lazy calls than accepted events
   pub lazy : w .lazy ≤ f .accepted
 
 pub record Sound (p : Plan) (s : State) : Type 0 where

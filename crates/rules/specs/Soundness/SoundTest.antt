@@ -1,4 +1,5 @@
--- The conditions of Sound.antt as one test. That it holds exactly where they all do is proved in proofs/SoundTest.antt. Assumes nothing.
+-- RULES 8: the conditions of Sound.antt as one test. That it holds exactly where they all do is proved in proofs/Soundness/SoundTest.antt.
+-- Assumes nothing.
 use mathlib.Core.Bool.{Bool, true, not}
 use mathlib.Core.List.{List, [], _∷_}
 use Prim.Native.Nat.{ℕ, zero, suc, _+_, _^_}

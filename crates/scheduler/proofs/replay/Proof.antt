@@ -1,5 +1,6 @@
 -- `scheduler::replay` meets its contract. A book that passes is run, and any other is left as it is. Assumes nothing.
-use Rattle.scheduler.proofs.ReplayLaws.{refused-ran, refused-plan, passed-ran, passed-plan, body-within, plan-sound, plan-limits, body-records, body-rows, body-readable}
+use Rattle.scheduler.proofs.ReplayLaws.{refused-ran, refused-plan, passed-ran, passed-plan, body-within}
+use Rattle.scheduler.proofs.ReplayLaws.{plan-sound, plan-limits, body-records, body-rows, body-readable}
 use borrow.Author.Needs.{needs}
 use Rattle.scheduler.proofs.replay.Statement.{statement}
 use Rattle.scheduler.proofs.replay.Tie as tie

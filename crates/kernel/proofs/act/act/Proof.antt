@@ -1,5 +1,6 @@
 -- `kernel::act::act` meets its contract. Each arm is its event's. Assumes nothing.
-use Rattle.kernel.proofs.ActLaws.{exhausted, release-ready, acquire-ready, unlock-ready, work-ready, finish-ready, release-acts, acquire-acts, unlock-acts, work-acts, finish-acts, tick-acts}
+use Rattle.kernel.proofs.ActLaws.{exhausted, release-ready, acquire-ready, unlock-ready, work-ready, finish-ready}
+use Rattle.kernel.proofs.ActLaws.{release-acts, acquire-acts, unlock-acts, work-acts, finish-acts, tick-acts}
 use borrow.Author.Needs.{needs}
 use Rattle.kernel.proofs.act.act.Statement.{statement}
 use Rattle.kernel.proofs.act.act.Tie as tie

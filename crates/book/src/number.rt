@@ -1,21 +1,16 @@
 // Little-endian numbers of two and of four bytes.
+use figures::number::wide_byte;
 ghost use mathlib.Core.Path.{_≡_};
 ghost use Prim.Native.Nat.{_+_, _<_};
 ghost use lib.ListN.{length};
 ghost use Rattle.rules.specs.Books.Book.{word, long};
 
-fn wide(x: u8) -> u16
-    ensures { λ r. ⌜ (r ≡ x) × (r < 256) ⌝ }
-{
-    x as u16
-}
-
 pub fn word_at(b: &[u8], i: usize) -> u16
     requires { ⌜ i + 1 < length (now b) ⌝ }
     ensures { λ r. ⌜ r ≡ word (now (b .entry)) i ⌝ }
 {
-    let low = wide(b[i]);
-    let high = wide(b[i + 1]);
+    let low = wide_byte(b[i]);
+    let high = wide_byte(b[i + 1]);
     low + high * 256
 }
 

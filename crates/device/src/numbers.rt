@@ -1,4 +1,5 @@
 // The numbers of a table's records, as far as a plan may have them and one more.
+use figures::number::wide_byte;
 use rules::answer::Loaded;
 use rules::capacity::MAX_TASKS;
 ghost use mathlib.Core.Path.{_≡_};
@@ -22,12 +23,6 @@ pub fn none() -> Numbers
     Numbers { words, count: 0 }
 }
 
-fn wide(x: u8) -> u16
-    ensures { λ r. ⌜ (r ≡ x) × (r < 256) ⌝ }
-{
-    x as u16
-}
-
 // The next record's two bytes, as one number; past the room nothing is kept.
 pub fn keep(n: Numbers, base: u8, second: u8) -> Numbers
     ensures { λ r. ⌜ r ≡ kept n base second ⌝ }
@@ -35,8 +30,8 @@ pub fn keep(n: Numbers, base: u8, second: u8) -> Numbers
     let mut m = n;
     let k = m.count;
     if k < ROOM {
-        let low = wide(base);
-        let high = wide(second);
+        let low = wide_byte(base);
+        let high = wide_byte(second);
         m.words[k] = low + high * 256;
         m.count = k + 1;
     }

@@ -1,13 +1,44 @@
-//! The proved library, as include/recorder.h declares it.
+//! The proved library, as include/recorder.h declares it; and a plan and a state
+//! of ordinary Rust as it wants them.
 
-use crate::ordinary::MOST_TASKS;
+use crate::ordinary::{self, Record, MOST_LOCKS, MOST_OPEN, MOST_TASKS};
+
+#[repr(C)]
+#[derive(Clone, Copy, PartialEq)]
+pub struct Plan {
+    pub tasks: usize,
+    pub locks: usize,
+    pub base: [u8; MOST_TASKS],
+    pub ceiling: [u8; MOST_LOCKS],
+    pub limit: [u16; MOST_LOCKS],
+    pub uses: [u32; MOST_TASKS],
+}
+
+#[repr(C)]
+#[derive(Clone, Copy)]
+pub struct State {
+    pub accepted: u32,
+    pub running: u8,
+    pub user: u8,
+    pub next: u8,
+    pub lazy: u32,
+    pub eager: u32,
+    pub released: [u32; MOST_TASKS],
+    pub kept: [u8; MOST_TASKS],
+    pub delay: [u16; MOST_TASKS],
+    pub depth: [u8; MOST_TASKS],
+    /// A row is a number in base 256, newest first.
+    pub takes: [u64; MOST_TASKS],
+    pub saved: [u64; MOST_TASKS],
+    pub units: [u16; MOST_LOCKS],
+    pub owner: [u8; MOST_LOCKS],
+}
 
 #[repr(C)]
 pub struct Check {
     pub number: u8,
     pub place: usize,
-    pub tasks: usize,
-    pub locks: usize,
+    pub plan: Plan,
     pub events: usize,
 }
 
@@ -15,18 +46,21 @@ pub struct Check {
 pub struct Replay {
     pub number: u8,
     pub place: usize,
-    pub accepted: u32,
-    pub lazy: u32,
-    pub eager: u32,
-    pub running: u8,
-    pub user: u8,
-    pub next: u8,
-    pub tasks: usize,
-    pub delay: [u16; MOST_TASKS],
+    pub plan: Plan,
+    pub state: State,
+}
+
+#[repr(C)]
+pub struct Step {
+    pub number: u8,
+    pub calls: u8,
+    pub state: State,
 }
 
 extern "C" {
     fn recorder_check(book: *const u8, length: usize, room: usize) -> Check;
+    fn recorder_fresh() -> State;
+    fn recorder_step(plan: Plan, state: State, kind: u8, id: u8, amount: u16) -> Step;
     fn recorder_replay(book: *const u8, length: usize, rows: *mut u8, room: usize) -> Replay;
 }
 
@@ -38,4 +72,78 @@ pub fn check(book: &[u8], room: usize) -> Check {
 pub fn replay(book: &[u8], rows: &mut [u8]) -> Replay {
     // It reads the book, and writes no byte outside of the rows.
     unsafe { recorder_replay(book.as_ptr(), book.len(), rows.as_mut_ptr(), rows.len()) }
+}
+
+pub fn fresh() -> State {
+    // It is handed nothing.
+    unsafe { recorder_fresh() }
+}
+
+/// Here the plan and the state are copied, since the library takes them by value.
+pub fn step(plan: &Plan, state: &State, record: Record) -> Step {
+    let [kind, id, low, high] = record;
+    // It is handed no address.
+    unsafe { recorder_step(*plan, *state, kind, id, u16::from_le_bytes([low, high])) }
+}
+
+impl Plan {
+    pub fn of(plan: &ordinary::Plan) -> Plan {
+        Plan {
+            tasks: plan.tasks,
+            locks: plan.locks,
+            base: plan.base,
+            ceiling: plan.ceiling,
+            limit: plan.limit,
+            uses: plan.uses,
+        }
+    }
+}
+
+impl State {
+    pub fn of(state: &ordinary::State) -> State {
+        let row = |bytes: &[u8; MOST_OPEN], held: u8| {
+            let mut row = *bytes;
+            row[..MOST_OPEN.min(held.into())].reverse();
+            u64::from_le_bytes(row)
+        };
+        State {
+            accepted: state.accepted,
+            running: state.running,
+            user: state.user,
+            next: state.next,
+            lazy: state.lazy,
+            eager: state.eager,
+            released: state.released,
+            kept: state.kept,
+            delay: state.delay,
+            depth: state.held,
+            takes: std::array::from_fn(|task| row(&state.open[task], state.held[task])),
+            saved: std::array::from_fn(|task| row(&state.saved[task], state.held[task])),
+            units: state.units,
+            owner: state.owner,
+        }
+    }
+
+    /// The first figure that differs from the ordinary state's.
+    pub fn differs(&self, state: &ordinary::State) -> Option<&'static str> {
+        let other = State::of(state);
+        let tests = [
+            ("accepted events", self.accepted == other.accepted),
+            (
+                "calls",
+                (self.lazy, self.eager) == (other.lazy, other.eager),
+            ),
+            ("running task", self.running == other.running),
+            ("words", (self.user, self.next) == (other.user, other.next)),
+            ("release numbers", self.released == other.released),
+            ("kept priorities", self.kept == other.kept),
+            ("delays", self.delay == other.delay),
+            ("numbers of open locks", self.depth == other.depth),
+            ("rows of open locks", self.takes == other.takes),
+            ("rows of saved words", self.saved == other.saved),
+            ("units", self.units == other.units),
+            ("owners", self.owner == other.owner),
+        ];
+        tests.iter().find(|(_, same)| !same).map(|(what, _)| *what)
+    }
 }

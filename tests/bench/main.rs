@@ -1,17 +1,22 @@
 //! The proved replay against the same one in ordinary Rust, over books of full
-//! length: both must give the same rows and figures; then each is timed.
+//! length: both must give the same rows and figures; then each is timed. Then
+//! the same of single steps, from states of these books and from full states.
 //!
 //!     bench [--rounds N] BOOK..
 //!
 //! Before the named books it takes one of its own, of the crane plan: there the
-//! scans over the tasks are short. It ends with 0 if both agree on every book,
-//! else with 1. Times only inform.
+//! scans over the tasks are short. It ends with 0 if both agree on every book
+//! and every step, else with 1. Times only inform.
 
 mod crane;
 mod device;
 mod ordinary;
+mod ordinary_step;
+mod scenes;
+mod steps;
 
-use ordinary::ROW_SPACE;
+use ordinary::{MOST_TASKS, ROW_SPACE};
+use scenes::Scene;
 use std::hint::black_box;
 use std::process::ExitCode;
 use std::time::Instant;
@@ -40,13 +45,24 @@ fn main() -> ExitCode {
             }
         }
     }
-    println!("ns an event: the median of {rounds} rounds (the least); the ratio of the medians");
+    let replays_agree = replays(&books, rounds);
+    let steps_agree = steps(&books, rounds);
+    ExitCode::from(u8::from(!replays_agree || !steps_agree))
+}
+
+fn head(what: &str, of: &str, rounds: usize) {
+    println!("{what}: the median of {rounds} rounds (the least); the ratio of the medians");
     println!(
-        "{:<12} {:<7} {:>16} {:>16} {:>6}",
-        "book", "", "proved", "ordinary", "ratio"
+        "{of:<12} {:<7} {:>16} {:>16} {:>6}",
+        "", "proved", "ordinary", "ratio"
     );
+}
+
+/// Whether both agree on the replay of every book.
+fn replays(books: &[(String, Vec<u8>)], rounds: usize) -> bool {
+    head("ns an event", "book", rounds);
     let mut agree = true;
-    for (name, book) in &books {
+    for (name, book) in books {
         match difference(book) {
             None => measure(name, book, rounds),
             Some(what) => {
@@ -55,7 +71,38 @@ fn main() -> ExitCode {
             }
         }
     }
-    ExitCode::from(u8::from(!agree))
+    agree
+}
+
+/// Whether both agree on every single step: from the states of the books, and
+/// from full states of a quarter, a half and all of the tasks that can be. These
+/// three have the same locks open, so they say how a step grows with the tasks.
+fn steps(books: &[(String, Vec<u8>)], rounds: usize) -> bool {
+    println!();
+    head("ns a step", "states", rounds);
+    let mut agree = true;
+    let mut tally = steps::Tally::default();
+    let mut try_scene = |scene: Scene| match steps::compare(&scene, &mut tally) {
+        Ok(()) => steps::measure(&scene, rounds),
+        Err(what) => {
+            println!("{}: the two differ in {what}", scene.name);
+            agree = false;
+        }
+    };
+    for (name, book) in books {
+        if let Ok(checked) = ordinary::check(book, ROW_SPACE) {
+            try_scene(scenes::of_book(name, &checked));
+        }
+    }
+    for tasks in [MOST_TASKS / 4, MOST_TASKS / 2, MOST_TASKS] {
+        try_scene(scenes::full(tasks));
+    }
+    println!("{} steps compared", tally.compared());
+    for what in tally.lacks() {
+        println!("never compared: {what}");
+        agree = false;
+    }
+    agree
 }
 
 /// A file's name without its folder and its ending.
@@ -73,7 +120,9 @@ fn difference(book: &[u8]) -> Option<&'static str> {
     let mut ordinary_rows = proved_rows.clone();
     let proved = device::replay(book, &mut proved_rows);
     let ordinary = ordinary::replay(book, &mut ordinary_rows);
-    let (refused, state) = (ordinary.refused, &ordinary.state);
+    let refused = ordinary.refused;
+    let plan = device::Plan::of(&ordinary.plan);
+    let check = device::check(book, ROW_SPACE);
     let tests = [
         (
             "verdict",
@@ -81,40 +130,39 @@ fn difference(book: &[u8]) -> Option<&'static str> {
         ),
         ("acceptance", proved.number == 0),
         ("rows", proved_rows == ordinary_rows),
-        ("accepted events", proved.accepted == state.accepted),
+        ("plan", proved.plan == plan),
         (
-            "calls",
-            (proved.lazy, proved.eager) == (state.lazy, state.eager),
+            "check",
+            (check.number, check.place) == (0, 0) && check.plan == plan,
         ),
-        ("running task", proved.running == state.running),
         (
-            "words",
-            (proved.user, proved.next) == (state.user, state.next),
+            "place of the events",
+            ordinary::check(book, ROW_SPACE)
+                .is_ok_and(|checked| checked.events == &book[check.events..]),
         ),
-        ("tasks", proved.tasks == ordinary.tasks),
-        ("delays", proved.delay == state.delay),
     ];
-    tests.iter().find(|(_, same)| !same).map(|(what, _)| *what)
+    let wrong = tests.iter().find(|(_, same)| !same).map(|(what, _)| *what);
+    wrong.or_else(|| proved.state.differs(&ordinary.state))
 }
 
 /// Times both, round by round in turn: the whole replay, the check of the book
 /// alone, and by their difference the run of the events.
 fn measure(name: &str, book: &[u8], rounds: usize) {
     let mut rows = vec![0; ROW_SPACE];
-    let events = device::replay(book, &mut rows).accepted;
+    let events = device::replay(book, &mut rows).state.accepted;
     let mut times = [const { Vec::new() }; 4];
     for _ in 0..rounds {
         let book = black_box(book);
-        times[0].push(time(events, || {
+        times[0].push(time(events, TURNS, || {
             done(device::replay(book, black_box(&mut rows)))
         }));
-        times[1].push(time(events, || {
+        times[1].push(time(events, TURNS, || {
             done(ordinary::replay(book, black_box(&mut rows)))
         }));
-        times[2].push(time(events, || {
+        times[2].push(time(events, TURNS, || {
             done(device::check(book, black_box(ROW_SPACE)))
         }));
-        times[3].push(time(events, || {
+        times[3].push(time(events, TURNS, || {
             done(ordinary::check(book, black_box(ROW_SPACE)))
         }));
     }
@@ -130,7 +178,8 @@ fn measure(name: &str, book: &[u8], rounds: usize) {
 }
 
 fn report(name: &str, part: &str, proved: Figure, ordinary: Figure) {
-    let show = |figure: Figure| format!("{:.2} ({:.2})", figure.median, figure.least);
+    let digits = if proved.median < 1000.0 { 2 } else { 0 };
+    let show = |f: Figure| format!("{:.digits$} ({:.digits$})", f.median, f.least);
     let ratio = proved.median / ordinary.median;
     println!(
         "{name:<12} {part:<7} {:>16} {:>16} {ratio:>6.2}",
@@ -144,13 +193,14 @@ fn done<T>(answer: T) {
     black_box(&answer);
 }
 
-/// Nanoseconds an event, over a round.
-fn time(events: u32, mut replay: impl FnMut()) -> f64 {
+/// Nanoseconds for each of so many parts of the work, which is done so many
+/// times in a round.
+fn time(parts: u32, turns: u32, mut work: impl FnMut()) -> f64 {
     let start = Instant::now();
-    for _ in 0..TURNS {
-        replay();
+    for _ in 0..turns {
+        work();
     }
-    start.elapsed().as_nanos() as f64 / f64::from(TURNS) / f64::from(events.max(1))
+    start.elapsed().as_nanos() as f64 / f64::from(turns) / f64::from(parts.max(1))
 }
 
 #[derive(Clone, Copy)]

@@ -1,13 +1,14 @@
 //! The same check and replay in ordinary Rust: a state behind `&mut`, arrays in
 //! structs, an owner for each lock, nothing allocated.
 
+// The sizes: no other file of the benchmark writes them.
 pub const MOST_TASKS: usize = 96;
-const MOST_LOCKS: usize = 32;
+pub const MOST_LOCKS: usize = 32;
 const MOST_USES: usize = 3072;
 pub const MOST_EVENTS: usize = 12_000;
-const MOST_OPEN: usize = 8;
-const MOST_ACCEPTED: u32 = 1_000_000;
-const NOBODY: u8 = 255;
+pub const MOST_OPEN: usize = 8;
+pub const MOST_ACCEPTED: u32 = 1_000_000;
+pub const NOBODY: u8 = 255;
 
 /// Row bytes for a book of full length.
 pub const ROW_SPACE: usize = 4 * MOST_EVENTS;
@@ -16,14 +17,32 @@ pub const ROW_SPACE: usize = 4 * MOST_EVENTS;
 #[derive(Clone, Copy)]
 pub struct Refused(pub u8, pub usize);
 
+/// An event as it stands in a book: kind, id, and two bytes of amount.
+pub type Record = [u8; 4];
+
+#[derive(Clone)]
 pub struct Plan {
-    tasks: usize,
-    locks: usize,
-    base: [u8; MOST_TASKS],
-    ceiling: [u8; MOST_LOCKS],
-    limit: [u16; MOST_LOCKS],
+    pub tasks: usize,
+    pub locks: usize,
+    pub base: [u8; MOST_TASKS],
+    pub ceiling: [u8; MOST_LOCKS],
+    pub limit: [u16; MOST_LOCKS],
     /// Bit l: the task may take lock l.
-    uses: [u32; MOST_TASKS],
+    pub uses: [u32; MOST_TASKS],
+}
+
+impl Plan {
+    /// Every figure 0.
+    pub fn blank() -> Plan {
+        Plan {
+            tasks: 0,
+            locks: 0,
+            base: [0; MOST_TASKS],
+            ceiling: [0; MOST_LOCKS],
+            limit: [0; MOST_LOCKS],
+            uses: [0; MOST_TASKS],
+        }
+    }
 }
 
 /// A book that passed 1 to 9.
@@ -76,7 +95,8 @@ pub fn check(book: &[u8], room: usize) -> Result<Checked<'_>, Refused> {
     Ok(Checked { plan, events })
 }
 
-fn is_wrong(record: &[u8]) -> bool {
+/// 8.
+pub fn is_wrong(record: &[u8]) -> bool {
     let amount = u16::from_le_bytes([record[2], record[3]]);
     match record[0] {
         1..=3 => amount != 0,
@@ -91,10 +111,7 @@ fn load(tasks: &[u8], locks: &[u8], uses: &[u8]) -> Result<Plan, Refused> {
     let mut plan = Plan {
         tasks: tasks.len() / 2,
         locks: locks.len() / 4,
-        base: [0; MOST_TASKS],
-        ceiling: [0; MOST_LOCKS],
-        limit: [0; MOST_LOCKS],
-        uses: [0; MOST_TASKS],
+        ..Plan::blank()
     };
     for (task, record) in tasks.chunks_exact(2).enumerate() {
         if record[0] == 0 || record[1] != 0 {
@@ -128,6 +145,7 @@ fn load(tasks: &[u8], locks: &[u8], uses: &[u8]) -> Result<Plan, Refused> {
     }
 }
 
+#[derive(Clone)]
 pub struct State {
     pub accepted: u32,
     pub running: u8,
@@ -135,15 +153,18 @@ pub struct State {
     pub next: u8,
     pub lazy: u32,
     pub eager: u32,
-    released: [u32; MOST_TASKS],
-    kept: [u8; MOST_TASKS],
+    pub released: [u32; MOST_TASKS],
+    pub kept: [u8; MOST_TASKS],
     pub delay: [u16; MOST_TASKS],
-    held: [u8; MOST_TASKS],
-    open: [[u8; MOST_OPEN]; MOST_TASKS],
-    saved: [[u8; MOST_OPEN]; MOST_TASKS],
-    units: [u16; MOST_LOCKS],
+    /// How many locks the task has open.
+    pub held: [u8; MOST_TASKS],
+    /// These locks, oldest first, and the word that each acquire saved; 0 after
+    /// the newest.
+    pub open: [[u8; MOST_OPEN]; MOST_TASKS],
+    pub saved: [[u8; MOST_OPEN]; MOST_TASKS],
+    pub units: [u16; MOST_LOCKS],
     /// The task that has the lock open, plus one; or 0.
-    owner: [u8; MOST_LOCKS],
+    pub owner: [u8; MOST_LOCKS],
 }
 
 impl State {
@@ -167,7 +188,8 @@ impl State {
     }
 
     /// One event: whether it made a lazy call, or the number that refuses it.
-    fn act(&mut self, plan: &Plan, record: &[u8]) -> Result<bool, u8> {
+    /// A refused event changes nothing.
+    pub fn act(&mut self, plan: &Plan, record: &[u8]) -> Result<bool, u8> {
         if self.accepted >= MOST_ACCEPTED {
             return Err(11);
         }
@@ -248,6 +270,8 @@ impl State {
         }
         self.held[task] -= 1;
         self.user = self.saved[task][depth - 1];
+        self.open[task][depth - 1] = 0;
+        self.saved[task][depth - 1] = 0;
         self.units[lock] = 0;
         self.owner[lock] = 0;
         self.eager += 1;
@@ -261,6 +285,9 @@ impl State {
     }
 
     fn work(&mut self, plan: &Plan, amount: u16) -> Result<bool, u8> {
+        if amount == 0 {
+            return Err(20);
+        }
         let task = self.runner()?;
         let open = &self.open[task][..usize::from(self.held[task])];
         let would_pass = |&lock: &u8| {
@@ -343,25 +370,25 @@ pub fn run(plan: &Plan, events: &[u8], state: &mut State, rows: &mut [u8]) -> Re
     Ok(())
 }
 
-/// What a replay answers: what was refused, the plan's tasks and the state.
+/// What a replay answers: what was refused, the plan and the state.
 pub struct Replayed {
     pub refused: Refused,
-    pub tasks: usize,
+    pub plan: Plan,
     pub state: State,
 }
 
 pub fn replay(book: &[u8], rows: &mut [u8]) -> Replayed {
     let mut state = State::fresh();
-    let (refused, tasks) = match check(book, rows.len()) {
-        Err(refused) => (refused, 0),
+    let (refused, plan) = match check(book, rows.len()) {
+        Err(refused) => (refused, Plan::blank()),
         Ok(checked) => {
             let ran = run(&checked.plan, checked.events, &mut state, rows);
-            (ran.err().unwrap_or(Refused(0, 0)), checked.plan.tasks)
+            (ran.err().unwrap_or(Refused(0, 0)), checked.plan)
         }
     };
     Replayed {
         refused,
-        tasks,
+        plan,
         state,
     }
 }

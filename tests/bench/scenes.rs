@@ -1,0 +1,211 @@
+//! What single steps are compared and timed on: plans, each with a list of
+//! events from a fresh start. A refused event stands in the list too: it leaves
+//! the state as it was.
+
+use crate::ordinary::{Checked, Plan, Record, State, MOST_LOCKS, MOST_OPEN, NOBODY};
+
+pub const RELEASE: u8 = 1;
+pub const ACQUIRE: u8 = 2;
+pub const UNLOCK: u8 = 3;
+pub const WORK: u8 = 4;
+pub const FINISH: u8 = 5;
+pub const TICK: u8 = 6;
+
+pub struct Scene {
+    pub name: String,
+    pub plan: Plan,
+    pub turns: Vec<Turn>,
+}
+
+#[derive(Clone, Copy)]
+pub struct Turn {
+    pub record: Record,
+    /// Whether the step is one of those that are timed.
+    pub timed: bool,
+}
+
+/// Timed steps of a scene.
+const TIMED: usize = 96;
+
+/// A book's events, which are all accepted. At places that lie evenly over the
+/// book two steps are timed: one that is refused, and the book's own.
+pub fn of_book(name: &str, checked: &Checked) -> Scene {
+    let mut walk = Walk::new(checked.plan.clone());
+    let records = checked.events.as_chunks::<4>().0;
+    let apart = (records.len() / (TIMED / 2)).max(1);
+    for (place, &record) in records.iter().enumerate() {
+        let timed = place % apart == apart / 2;
+        if timed {
+            let refused = walk.refused();
+            walk.step(refused, true);
+        }
+        walk.step(record, timed);
+    }
+    walk.scene(name)
+}
+
+/// How many locks each block of a full plan has, from the least urgent block.
+/// One task of it opens them, as many as it may.
+const BLOCKS: [usize; 8] = [MOST_OPEN + 1, MOST_OPEN, 4, 4, 3, 1, 1, 2];
+
+const _: () = assert!(MOST_OPEN == 8 && MOST_LOCKS == 32, "these are all locks");
+
+/// The bases of two blocks are at least so far apart.
+const APART: usize = 8;
+
+/// All tasks are released and all locks open, but for one or two. The tasks
+/// stand in blocks, each more urgent than the one before it and with locks of
+/// its own. So the first task of each block comes to run while those of the
+/// blocks before it have their locks open, and opens its own; then all other
+/// tasks are released, and wait.
+pub fn full(tasks: usize) -> Scene {
+    let size = tasks / BLOCKS.len();
+    let mut walk = Walk::new(full_plan(tasks));
+    let mut first = 0;
+    for (block, locks) in BLOCKS.into_iter().enumerate() {
+        walk.accepted([RELEASE, (block * size) as u8, 0, 0]);
+        for lock in (first..first + locks).take(MOST_OPEN) {
+            walk.accepted([ACQUIRE, lock as u8, 0, 0]);
+            walk.accepted([WORK, 0, 1 + lock as u8, 0]);
+        }
+        first += locks;
+    }
+    for task in (0..tasks).filter(|task| task % size != 0) {
+        walk.accepted([RELEASE, task as u8, 0, 0]);
+    }
+    for _ in 0..TIMED {
+        let record = walk.drawn();
+        walk.step(record, true);
+    }
+    walk.scene(&format!("full, {tasks}"))
+}
+
+/// Any task may take any lock of its block. Neighbours have equal bases.
+fn full_plan(tasks: usize) -> Plan {
+    let size = tasks / BLOCKS.len();
+    let mut plan = Plan {
+        tasks,
+        locks: MOST_LOCKS,
+        ..Plan::blank()
+    };
+    let mut first = 0;
+    for (block, locks) in BLOCKS.into_iter().enumerate() {
+        for place in 0..size {
+            let task = block * size + place;
+            plan.base[task] = (block * APART + place / 2 + 1) as u8;
+            for lock in first..first + locks {
+                plan.uses[task] |= 1 << lock;
+                plan.ceiling[lock] = plan.base[task];
+                plan.limit[lock] = 2000 + lock as u16;
+            }
+        }
+        first += locks;
+    }
+    plan
+}
+
+/// Makes the list of a scene, and keeps the state that it leads to. Where the
+/// library comes to another state, the comparison will say so.
+struct Walk {
+    plan: Plan,
+    state: State,
+    turns: Vec<Turn>,
+    random: Random,
+}
+
+impl Walk {
+    fn new(plan: Plan) -> Walk {
+        Walk {
+            plan,
+            state: State::fresh(),
+            turns: Vec::new(),
+            random: Random(2001),
+        }
+    }
+
+    fn scene(self, name: &str) -> Scene {
+        Scene {
+            name: name.to_string(),
+            plan: self.plan,
+            turns: self.turns,
+        }
+    }
+
+    /// Whether the event is accepted.
+    fn step(&mut self, record: Record, timed: bool) -> bool {
+        self.turns.push(Turn { record, timed });
+        self.state.act(&self.plan, &record).is_ok()
+    }
+
+    fn accepted(&mut self, record: Record) {
+        assert!(self.step(record, false), "{record:?} is accepted");
+    }
+
+    /// An event that the state refuses.
+    fn refused(&mut self) -> Record {
+        loop {
+            let record = self.any();
+            if self.state.clone().act(&self.plan, &record).is_err() {
+                return record;
+            }
+        }
+    }
+
+    /// An event that keeps the state full: a task that has finished is released
+    /// again soon.
+    fn drawn(&mut self) -> Record {
+        let resting = (0..self.plan.tasks).find(|&task| self.state.released[task] == 0);
+        match resting {
+            Some(task) if self.random.below(2) == 0 => [RELEASE, task as u8, 0, 0],
+            Some(_) => loop {
+                let record = self.any();
+                if record[0] != FINISH {
+                    return record;
+                }
+            },
+            None => self.any(),
+        }
+    }
+
+    /// An event of any kind; what it is about is chosen so that some are accepted.
+    fn any(&mut self) -> Record {
+        let random = &mut self.random;
+        let runner = Some(usize::from(self.state.running)).filter(|&x| x != usize::from(NOBODY));
+        let any_lock = random.below(self.plan.locks + 1) as u8;
+        let is_sensible = random.below(4) != 0;
+        match random.below(6) as u8 + 1 {
+            RELEASE => [RELEASE, random.below(self.plan.tasks + 1) as u8, 0, 0],
+            ACQUIRE => {
+                let uses = runner.map_or(0, |task| self.plan.uses[task]);
+                let mut declared = (0..MOST_LOCKS as u8).filter(|lock| uses >> lock & 1 != 0);
+                let place = random.below(uses.count_ones().max(1) as usize);
+                let lock = declared.nth(place).filter(|_| is_sensible);
+                [ACQUIRE, lock.unwrap_or(any_lock), 0, 0]
+            }
+            UNLOCK => {
+                let row = runner.map_or(&[][..], |task| {
+                    &self.state.open[task][..usize::from(self.state.held[task])]
+                });
+                let lock = row.last().copied().filter(|_| is_sensible);
+                [UNLOCK, lock.unwrap_or(any_lock), 0, 0]
+            }
+            WORK if is_sensible => [WORK, 0, random.below(5) as u8, 0],
+            WORK => [WORK, 0, 0, 200],
+            FINISH => [FINISH, 0, 0, 0],
+            _ => [TICK, 0, 0, 0],
+        }
+    }
+}
+
+/// Numbers that look random and are always the same: splitmix64.
+struct Random(u64);
+
+impl Random {
+    fn below(&mut self, end: usize) -> usize {
+        self.0 = self.0.wrapping_add(0x9E37_79B9_7F4A_7C15);
+        let mut z = self.0;
+        z = (z ^ (z >> 30)).wrapping_mul(0xBF58_476D_1CE4_E5B9);
+        z = (z ^ (z >> 27)).wrapping_mul(0x94D0_49BB_1331_11EB);
+        ((z ^ (z >> 31)) % end as u64) as usize
+    }
+}

@@ -15,15 +15,17 @@ use Rattle.rules.specs.Replays.Run.{runFrom}
 use Rattle.rules.specs.Replays.Replay.{replayAs, replayOf, ranAs}
 use Rattle.rules.specs.declared.plan.Plan.{Plan}
 use Rattle.rules.specs.declared.state.State.{State}
+use Rattle.rules.specs.declared.event.Event.the-variants.{Tick}
 use Rattle.rules.specs.declared.refusal.Refusal.{Refusal}
 use Rattle.rules.specs.declared.answer.Checked.{Checked}
 use Rattle.rules.specs.declared.answer.Replayed.{Replayed}
 use Rattle.rules.specs.declared.answer.Verdict.{Verdict}
-use Rattle.rules.proofs.Numbers.Place.{length-from}
+use Rattle.rules.proofs.Numbers.Place.{length-from, getD-tabulate, from-same}
 use Rattle.rules.proofs.Books.Passes.{passed-obeys}
 use Rattle.rules.proofs.Soundness.SoundKept.{fresh-sound}
-use Rattle.book.proofs.Accepted.{ends, records, no-fault, rows-fit}
-use Rattle.scheduler.specs.Going.{untouchedAs, Readable}
+use Rattle.book.proofs.Accepted.{ends, records, rows-fit}
+use Rattle.book.proofs.EventWalk.{walks}
+use Rattle.scheduler.specs.Going.{untouchedAs, eventIn}
 
 module _ (b : List ℕ) (room : ℕ) where
   -- the verdict of the check is the definition's
@@ -75,22 +77,21 @@ module _ (b : List ℕ) (room : ℕ) where
         counted : length body / 4 ≡ countAt b 3
         counted = ap (λ (xs : List ℕ). length xs / 4) whole-part ∙ records b room said
 
-        pub body-readable : Readable body (length body / 4)
-        unfolding Readable
-        body-readable = rw (counted, whole-part) (no-fault b room said)
-
-        pub body-records : length body / 4 * 4 ≤ length body
-        body-records = omega arith
-
         pub body-rows : length body / 4 * 4 ≤ room
         body-rows = rw counted (rows-fit b room said)
 
+        -- its events are the book's
+        body-events : from (eventIn body) 0 (length body / 4) ≡ eventsOf b
+        body-events = rw (counted, whole-part) (from-same (eventIn (eventBody b)) (recordEvent (eventBody b)) 0 (countAt b 3) (λ k _ h.
+            walks b room said k .event (omega (arith, length-from (recordEvent (eventBody b)) 0 (countAt b 3)))
+            ∙ getD-tabulate (recordEvent (eventBody b)) (countAt b 3) k Tick (omega arith)))
+
         book-runs : (rows out : List ℕ) (r : Replayed) → length rows ≡ room
-            → ranAs r out ≡ runFrom (c .plan) (from (recordEvent body) 0 (length body / 4)) 0 freshOf rows → r .plan ≡ c .plan
+            → ranAs r out ≡ runFrom (c .plan) (from (eventIn body) 0 (length body / 4)) 0 freshOf rows → r .plan ≡ c .plan
             → (ranAs r out ≡ replayOf b rows) × (r .plan ≡ checkedOf b (length rows) .plan)
         unfolding replayOf replayAs
         book-runs rows out r z e h = (
-          e ∙ rw (counted, whole-part, plan-is, z) (ap (λ v. replayAs v (planIn b) (eventsOf b) rows) (sym said)),
+          e ∙ rw (body-events, plan-is, z) (ap (λ v. replayAs v (planIn b) (eventsOf b) rows) (sym said)),
           h
               ∙ rw z (ap (λ (k : Checked). k .plan) reads),
         )
@@ -105,7 +106,7 @@ module _ (b rows : List ℕ) (c : Checked) (r : Replayed) (reads : c ≡ checked
     refused-plan = book-refused b (length rows) c reads why place rows r refl e h .1
 
   module _ (e : c .verdict ≡ Verdict.Passed) (body out : List ℕ) (part : body ≡ take (length b - c .events) (drop (c .events) b)) where
-    pub passed-ran : ranAs r out ≡ runFrom (c .plan) (from (recordEvent body) 0 (length body / 4)) 0 freshOf rows → r .plan ≡ c .plan
+    pub passed-ran : ranAs r out ≡ runFrom (c .plan) (from (eventIn body) 0 (length body / 4)) 0 freshOf rows → r .plan ≡ c .plan
         → ranAs r out ≡ replayOf b rows
     passed-ran h q = book-runs b (length rows) c reads e body part rows out r refl h q .0
 

@@ -5,11 +5,10 @@ use mathlib.Core.List.{List}
 use Prim.Native.Nat.{ℕ, suc, _+_, _-_, _^_, _<_}
 use native.Mathlib.Numerals.{add-one}
 use native.Mathlib.Omega.{arith}
-use lib.Dec.{ltb}
+use lib.Dec.{eqb, ltb}
 use lib.ListN.{length}
-use borrow.Author.Tests.{ltb-true, ltb-false}
+use borrow.Author.Tests.{ltb-true, ltb-false, eqb-true}
 use Rattle.rules.specs.Numbers.Place.{from}
-use Rattle.rules.specs.Books.Book.{recordEvent}
 use Rattle.rules.specs.Soundness.Sound.{SoundAndSized}
 use Rattle.rules.specs.Schedulers.State.{freshOf}
 use Rattle.rules.specs.Replays.Step.{actOf}
@@ -21,10 +20,11 @@ use Rattle.rules.specs.declared.refusal.Refusal.{Refusal}
 use Rattle.rules.specs.declared.answer.Answer.{Answer}
 use Rattle.rules.specs.declared.answer.Stepped.{Stepped}
 use Rattle.rules.specs.declared.answer.Verdict.{Verdict}
-use Rattle.rules.proofs.Numbers.Choice.{untrue}
+use Rattle.rules.proofs.Numbers.Choice.{if-true, if-false, by-test, untrue}
+use Rattle.rules.proofs.Numbers.Place.{from-same}
 use Rattle.rules.proofs.Replays.RowBytes.{row-length}
 use Rattle.rules.proofs.Soundness.SoundKept.{act-sound, step-act}
-use Rattle.scheduler.specs.Going.{rowsAfter, stoppedAt, turnedAs, turnOf, goesOn, leftFrom, Readable, TurnReady, RunReady, Going}
+use Rattle.scheduler.specs.Going.{rowsAfter, stoppedAt, turnedAs, eventIn, eventOn, goesOn, leftFrom, TurnReady, RunReady, Going}
 
 -- whether it goes on, by the verdict
 pub on-passed : (v : Verdict) (k n : ℕ) → v ≡ Verdict.Passed → ltb k n ≡ goesOn v k n
@@ -35,37 +35,37 @@ pub on-refused : (v : Verdict) (why : Refusal) (place k n : ℕ) → v ≡ Verdi
 unfolding goesOn
 on-refused v why place k n e = rw e
 
-module _ (p : Plan) (body : List ℕ) (n : ℕ) (first : State) (start : List ℕ) where
-  pub going-start : RunReady p first body n start → n < 2 ^ 64 → Going p body n first start 0 (record { verdict = Verdict.Passed; state = first; rows = start })
+module _ (p : Plan) (events : ℕ → Event) (n : ℕ) (first : State) (start : List ℕ) where
+  pub going-start : RunReady p first n start → n < 2 ^ 64 → Going p events n first start 0 (record { verdict = Verdict.Passed; state = first; rows = start })
   unfolding Going leftFrom
   going-start R few = record {
     asked = R;
     few = few;
     within = omega arith;
-    rest = let q : n - 0 ≡ n = omega arith in ap (λ c. runFrom p (from (recordEvent body) 0 c) 0 first start) q;
+    rest = let q : n - 0 ≡ n = omega arith in ap (λ c. runFrom p (from events 0 c) 0 first start) q;
     sound = R .sound;
     same = refl;
   }
 
   -- one turn of what is left, where nothing was refused and an event is left
-  left-turn : (k : ℕ) (s : State) (rows : List ℕ) → SoundAndSized p s → k < n → (r : Stepped) → r ≡ actOf p s (recordEvent body k)
-      → leftFrom p body n (suc k) (stoppedAt (r .answer) k) (r .state) (rowsAfter (r .answer) (r .state .head) k rows)
-      ≡ runFrom p (from (recordEvent body) k (n - k)) k s rows
+  left-turn : (k : ℕ) (s : State) (rows : List ℕ) → SoundAndSized p s → k < n → (r : Stepped) → r ≡ actOf p s (events k)
+      → leftFrom p events n (suc k) (stoppedAt (r .answer) k) (r .state) (rowsAfter (r .answer) (r .state .head) k rows)
+      ≡ runFrom p (from events k (n - k)) k s rows
   unfolding runFrom from leftFrom stoppedAt rowsAfter onward
   left-turn k s rows S l r h =
       let q : n - k ≡ suc (n - suc k) = omega arith in
-      by (r .answer) ∙ ap (λ (x : Stepped). onward (x .answer) (x .state) k rows rest) (h ∙ sym (step-act S (recordEvent body k)))
-      ∙ ap (λ c. runFrom p (from (recordEvent body) k c) k s rows) (sym q)
+      by (r .answer) ∙ ap (λ (x : Stepped). onward (x .answer) (x .state) k rows rest) (h ∙ sym (step-act S (events k)))
+      ∙ ap (λ c. runFrom p (from events k c) k s rows) (sym q)
     where
       rest : State → List ℕ → Ran
-      rest = runFrom p (from (recordEvent body) (suc k) (n - suc k)) (suc k)
+      rest = runFrom p (from events (suc k) (n - suc k)) (suc k)
 
-      by : (answer : Answer) → leftFrom p body n (suc k) (stoppedAt answer k) (r .state) (rowsAfter answer (r .state .head) k rows)
+      by : (answer : Answer) → leftFrom p events n (suc k) (stoppedAt answer k) (r .state) (rowsAfter answer (r .state .head) k rows)
           ≡ onward answer (r .state) k rows rest
       by (Answer.Accepted call) = refl
       by (Answer.Refused why) = refl
 
-  module _ (k : ℕ) (v : Verdict) (s : State) (rows : List ℕ) (G : Going p body n first start k (record { verdict = v; state = s; rows = rows })) where
+  module _ (k : ℕ) (v : Verdict) (s : State) (rows : List ℕ) (G : Going p events n first start k (record { verdict = v; state = s; rows = rows })) where
     pub going-same : length rows ≡ length start
     unfolding Going
     going-same = G .same
@@ -80,15 +80,13 @@ module _ (p : Plan) (body : List ℕ) (n : ℕ) (first : State) (start : List �
       more Verdict.Passed e = (refl, ltb-true k n e)
       more (Verdict.Refused why place) e = untrue (sym e)
 
-      pub going-ready : TurnReady p s body rows k
-      unfolding Readable Going
+      pub going-ready : TurnReady p s rows k
+      unfolding Going
       going-ready =
           let (e, l) = more v on in
           record {
             sound = G .sound;
             limits = G .asked .limits;
-            within = omega (arith, G .asked .records);
-            clean = G .asked .readable k l;
             room = omega (arith, G .same, G .asked .room);
           }
 
@@ -99,17 +97,17 @@ module _ (p : Plan) (body : List ℕ) (n : ℕ) (first : State) (start : List �
       pub going-falls : n - (k + 1) < n - k
       going-falls = let (e, l) = more v on in omega arith
 
-      pub going-next : (ran₂ : Ran) → ran₂ ≡ turnOf p s body k rows → Going p body n first start (k + 1) ran₂
+      pub going-next : (ran₂ : Ran) → ran₂ ≡ turnedAs (actOf p s (events k)) k rows → Going p events n first start (k + 1) ran₂
       unfolding Going leftFrom turnedAs rowsAfter
       going-next ran₂ d =
           let (e, l) = more v on in
-          let r : Stepped = actOf p s (recordEvent body k) in
+          let r : Stepped = actOf p s (events k) in
           rw (d, add-one k) (record {
             asked = G .asked;
             few = G .few;
             within = l;
-            rest = left-turn k s rows (G .sound) l r refl ∙ ap (λ w. leftFrom p body n k w s rows) (sym e) ∙ G .rest;
-            sound = act-sound (G .sound) (recordEvent body k);
+            rest = left-turn k s rows (G .sound) l r refl ∙ ap (λ w. leftFrom p events n k w s rows) (sym e) ∙ G .rest;
+            sound = act-sound (G .sound) (events k);
             same = rows-same (r .answer) (r .state) ∙ G .same;
           })
         where
@@ -119,20 +117,26 @@ module _ (p : Plan) (body : List ℕ) (n : ℕ) (first : State) (start : List �
 
     -- it has ended
     pub going-end : (g : Bool) → g ≡ goesOn v k n → g ≡ false → (out : Ran) → out ≡ record { verdict = v; state = s; rows = rows }
-        → out ≡ runFrom p (from (recordEvent body) 0 n) 0 first start
+        → out ≡ runFrom p (from events 0 n) 0 first start
     unfolding Going goesOn leftFrom runFrom from
     going-end g says off out o = o ∙ by v refl (sym says ∙ off) ∙ G .rest
       where
-        by : (u : Verdict) → v ≡ u → goesOn u k n ≡ false → record { verdict = v; state = s; rows = rows } ≡ leftFrom p body n k v s rows
+        by : (u : Verdict) → v ≡ u → goesOn u k n ≡ false → record { verdict = v; state = s; rows = rows } ≡ leftFrom p events n k v s rows
         by Verdict.Passed e f =
             let q : n - k ≡ 0 = omega (arith, ltb-false k n f) in
             ap (λ (w : Verdict). record { verdict = w; state = s; rows = rows }) e ∙ sym (rw (e, q) refl)
         by (Verdict.Refused why place) e f = ap (λ (w : Verdict). record { verdict = w; state = s; rows = rows }) e ∙ sym (rw e refl)
 
 -- what is run from a fresh start
-pub run-ready : (p : Plan) (s : State) (body : List ℕ) (n : ℕ) (rows : List ℕ) → s ≡ freshOf → RunReady p freshOf body n rows → RunReady p s body n rows
-run-ready p s body n rows e R = subst (λ (z : State). RunReady p z body n rows) (sym e) R
+pub run-ready : (p : Plan) (s : State) (n : ℕ) (rows : List ℕ) → s ≡ freshOf → RunReady p freshOf n rows → RunReady p s n rows
+run-ready p s n rows e R = subst (λ (z : State). RunReady p z n rows) (sym e) R
 
-pub run-fresh : (p : Plan) (es : List Event) (s : State) (rows : List ℕ) (out : Ran) → s ≡ freshOf → out ≡ runFrom p es 0 s rows
-    → out ≡ runFrom p es 0 freshOf rows
-run-fresh p es s rows out e h = h ∙ ap (λ (z : State). runFrom p es 0 z rows) e
+-- the event that is handed in is the body's first
+pub run-fresh : (p : Plan) (body : List ℕ) (n : ℕ) (s : State) (first : Event) (rows : List ℕ) (out : Ran) → s ≡ freshOf → first ≡ eventIn body 0
+    → out ≡ runFrom p (from (eventOn first body) 0 n) 0 s rows → out ≡ runFrom p (from (eventIn body) 0 n) 0 freshOf rows
+unfolding eventOn
+run-fresh p body n s first rows out e f h =
+    h ∙ ap (λ (z : State). runFrom p (from (eventOn first body) 0 n) 0 z rows) e
+    ∙ ap (λ es. runFrom p es 0 freshOf rows) (from-same (eventOn first body) (eventIn body) 0 n (λ k _ _. by-test (eqb k 0)
+    (λ q. if-true (eqb k 0) first (eventIn body k) q ∙ f ∙ ap (eventIn body) (sym (eqb-true k 0 q)))
+    (λ q. if-false (eqb k 0) first (eventIn body k) q)))

@@ -1,14 +1,14 @@
 -- The ways through one turn: the event at its place, its answer and its row. Assumes nothing.
-use mathlib.Core.Path.{_≡_, sym, _∙_, ap}
-use mathlib.Core.Bool.{Bool, false}
+use mathlib.Core.Path.{_≡_, refl, sym, _∙_, ap}
+use mathlib.Core.Bool.{Bool}
 use mathlib.Core.List.{List}
-use Prim.Native.Nat.{ℕ, _+_, _*_, _/_, _<_}
-use native.Mathlib.Omega.{arith}
-use lib.ListN.{length, set}
-use lib.Dec.{ltb}
-use borrow.Author.Tests.{lt-ltb}
+use Prim.Native.Nat.{ℕ, _+_, _*_}
+use lib.ListN.{set}
+use lib.Dec.{eqb}
+use borrow.Author.Tests.{eq-eqb, ne-eqb}
 use Rattle.rules.specs.Numbers.Choice.{if_then_else_}
-use Rattle.rules.specs.Books.Book.{recordFault, recordEvent, foundAt}
+use Rattle.rules.specs.Numbers.Answer.{foundEvent}
+use Rattle.rules.specs.Books.Book.{foundAt}
 use Rattle.rules.specs.Replays.Run.{Ran, withRow}
 use Rattle.rules.specs.Replays.Step.{actOf}
 use Rattle.rules.specs.declared.plan.Plan.{Plan}
@@ -17,31 +17,36 @@ use Rattle.rules.specs.declared.state.State.{State}
 use Rattle.rules.specs.declared.event.Event.{Event}
 use Rattle.rules.specs.declared.event.Event.the-variants.{Tick}
 use Rattle.rules.specs.declared.refusal.Refusal.{Refusal}
-use Rattle.rules.specs.declared.refusal.Refusal.the-variants.{WrongEvent}
 use Rattle.rules.specs.declared.answer.Answer.{Answer}
 use Rattle.rules.specs.declared.answer.Found.{Found}
 use Rattle.rules.specs.declared.answer.Stepped.{Stepped}
 use Rattle.rules.specs.declared.answer.Verdict.{Verdict}
-use Rattle.rules.proofs.Numbers.Choice.{if-true, if-false}
-use Rattle.scheduler.specs.Going.{rowsAfter, stoppedAt, turnedAs, turnOf}
+use Rattle.rules.proofs.Numbers.Choice.{if-yes, if-no}
+use Rattle.scheduler.specs.Going.{rowsAfter, stoppedAt, turnedAs, eventIn, eventOn}
 
 -- ---- the event at a place
 
-module _ (body : List ℕ) (k : ℕ) (found : Found) (within : k < length body / 4) (clean : recordFault body k ≡ false) (reads : found ≡ foundAt body k) where
-  got : found ≡ Found.Got (recordEvent body k) (k + 1)
-  unfolding foundAt
-  got = reads ∙ if-true (ltb k (length body / 4)) _ Found.End (lt-ltb k (length body / 4) within)
-      ∙ if-false (recordFault body k) (Found.Refused WrongEvent k) _ clean
+module _ (body : List ℕ) (k : ℕ) (found : Found) (reads : found ≡ foundAt body k) where
+  pub event-got : (e : Event) (next : ℕ) → found ≡ Found.Got e next → e ≡ eventIn body k
+  unfolding foundEvent
+  event-got e next h = ap foundEvent (sym h ∙ reads)
 
-  pub event-got : (e : Event) (next : ℕ) → found ≡ Found.Got e next → e ≡ recordEvent body k
-  event-got e next h = let q : Found.Got e next ≡ Found.Got (recordEvent body k) (k + 1) = sym h ∙ got in cc
+  pub event-refused : (why : Refusal) (place : ℕ) → found ≡ Found.Refused why place → Tick ≡ eventIn body k
+  unfolding foundEvent
+  event-refused why place h = ap foundEvent (sym h ∙ reads)
 
-  pub event-refused : (why : Refusal) (place : ℕ) → found ≡ Found.Refused why place → Tick ≡ recordEvent body k
-  event-refused why place h = let q : Found.Refused why place ≡ Found.Got (recordEvent body k) (k + 1) = sym h
-      ∙ got in let z : _≡_ {A = ℕ} 0 1 = cc in absurd (omega arith)
+  pub event-end : found ≡ Found.End → Tick ≡ eventIn body k
+  unfolding foundEvent
+  event-end h = ap foundEvent (sym h ∙ reads)
 
-  pub event-end : found ≡ Found.End → Tick ≡ recordEvent body k
-  event-end h = let q : Found.End ≡ Found.Got (recordEvent body k) (k + 1) = sym h ∙ got in let z : _≡_ {A = ℕ} 0 1 = cc in absurd (omega arith)
+module _ (first : Event) (body : List ℕ) (k : ℕ) where
+  pub on-first : k ≡ 0 → first ≡ eventOn first body k
+  unfolding eventOn
+  on-first h = if-yes (eqb k 0) first (eventIn body k) first (eq-eqb k 0 h) refl
+
+  pub on-later : ¬ (k ≡ 0) → (e : Event) → e ≡ eventIn body k → e ≡ eventOn first body k
+  unfolding eventOn
+  on-later h e q = if-no (eqb k 0) first (eventIn body k) e (ne-eqb k 0 h) q
 
 -- ---- its row
 
@@ -67,9 +72,9 @@ pub stops-refused : (a : Answer) (why : Refusal) (k : ℕ) → a ≡ Answer.Refu
 unfolding stoppedAt
 stops-refused a why k e = rw e
 
--- the event of the act is the one at its place
-pub turn-acts : (p : Plan) (s : State) (body : List ℕ) (k : ℕ) (rows : List ℕ) (e : Event) (r : Stepped) (v : Verdict) (rows₂ : List ℕ) (ran : Ran)
-    → e ≡ recordEvent body k → r ≡ actOf p s e → rows₂ ≡ rowsAfter (r .answer) (r .state .head) k rows → v ≡ stoppedAt (r .answer) k
-    → ran ≡ record { verdict = v; state = r .state; rows = rows₂ } → ran ≡ turnOf p s body k rows
+-- the act, its row and what the run then comes to
+pub turn-acts : (p : Plan) (s : State) (k : ℕ) (rows : List ℕ) (e : Event) (r : Stepped) (v : Verdict) (rows₂ : List ℕ) (event : Event) (ran : Ran)
+    → e ≡ event → r ≡ actOf p s e → rows₂ ≡ rowsAfter (r .answer) (r .state .head) k rows → v ≡ stoppedAt (r .answer) k
+    → ran ≡ record { verdict = v; state = r .state; rows = rows₂ } → ran ≡ turnedAs (actOf p s event) k rows
 unfolding turnedAs
-turn-acts p s body k rows e r v rows₂ ran h d q z o = o ∙ rw (q, z) (ap (λ (x : Stepped). turnedAs x k rows) (d ∙ ap (actOf p s) h))
+turn-acts p s k rows e r v rows₂ event ran h d q z o = o ∙ rw (q, z) (ap (λ (x : Stepped). turnedAs x k rows) (d ∙ ap (actOf p s) h))

@@ -2,20 +2,22 @@
 use mathlib.Core.Path.{_≡_}
 use mathlib.Core.Bool.{Bool, false}
 use mathlib.Core.List.{List}
-use Prim.Native.Nat.{ℕ, _+_, _-_, _*_, _/_, _^_, _≤_, _<_}
-use lib.Dec.{ltb}
+use Prim.Native.Nat.{ℕ, _+_, _-_, _*_, _^_, _≤_, _<_}
+use lib.Dec.{eqb, ltb}
 use lib.ListN.{length}
+use Rattle.rules.specs.Numbers.Answer.{foundEvent}
 use Rattle.rules.specs.Numbers.Capacity.{maxLocks}
-use Rattle.rules.specs.Books.Book.{recordFault, recordEvent}
+use Rattle.rules.specs.Numbers.Choice.{if_then_else_}
+use Rattle.rules.specs.Books.Book.{foundAt}
 use Rattle.rules.specs.Numbers.Place.{from}
 use Rattle.rules.specs.Replays.Run.{Ran, withRow, runFrom}
 use Rattle.rules.specs.Soundness.Sound.{SoundAndSized}
 use Rattle.rules.specs.Schedulers.State.{freshOf}
-use Rattle.rules.specs.Replays.Step.{actOf}
 use Rattle.rules.specs.Schedulers.Whole.{stateWith}
 use Rattle.rules.specs.declared.plan.Plan.{Plan}
 use Rattle.rules.specs.declared.state.Head.{Head}
 use Rattle.rules.specs.declared.state.State.{State}
+use Rattle.rules.specs.declared.event.Event.{Event}
 use Rattle.rules.specs.declared.refusal.Refusal.{Refusal}
 use Rattle.rules.specs.declared.answer.Answer.{Answer}
 use Rattle.rules.specs.declared.answer.Replayed.{Replayed}
@@ -47,30 +49,27 @@ stoppedAt (Answer.Refused why) k = Verdict.Refused why k
 unfoldable pub turnedAs : Stepped → ℕ → List ℕ → Ran
 turnedAs r k rows = record { verdict = stoppedAt (r .answer) k; state = r .state; rows = rowsAfter (r .answer) (r .state .head) k rows }
 
-abbrev pub turnOf : Plan → State → List ℕ → ℕ → List ℕ → Ran
-turnOf p s body k rows = turnedAs (actOf p s (recordEvent body k)) k rows
-
--- what a turn asks for: a sound state, an event at place k, and room for its row
-pub record TurnReady (p : Plan) (s : State) (body rows : List ℕ) (k : ℕ) : Type 0 where
+-- what a turn asks for: a sound state, and room for its row
+pub record TurnReady (p : Plan) (s : State) (rows : List ℕ) (k : ℕ) : Type 0 where
   pub sound : SoundAndSized p s
   pub limits : length (p .limit) ≡ maxLocks
-  pub within : k < length body / 4
-  pub clean : recordFault body k ≡ false
   pub room : k * 4 + 4 ≤ length rows
 
 -- ---- all turns
 
--- 8 lets all of the first n records of a body pass
-unfoldable pub Readable : List ℕ → ℕ → Type 0
-Readable body n = (k : ℕ) → k < n → recordFault body k ≡ false
+-- the event at place k of a body, and a tick where there is none
+abbrev pub eventIn : List ℕ → ℕ → Event
+eventIn body k = foundEvent (foundAt body k)
+
+-- the event at place k of a run: the one that is handed in, and after it those of a body
+unfoldable pub eventOn : Event → List ℕ → ℕ → Event
+eventOn first body k = if eqb k 0 then first else eventIn body k
 
 -- what a run of n events asks for
-pub record RunReady (p : Plan) (s : State) (body : List ℕ) (n : ℕ) (rows : List ℕ) : Type 0 where
+pub record RunReady (p : Plan) (s : State) (n : ℕ) (rows : List ℕ) : Type 0 where
   pub sound : SoundAndSized p s
   pub limits : length (p .limit) ≡ maxLocks
-  pub records : n * 4 ≤ length body
   pub room : n * 4 ≤ length rows
-  pub readable : Readable body n
 
 -- it goes on where nothing was refused and an event is left
 unfoldable pub goesOn : Verdict → ℕ → ℕ → Bool
@@ -78,19 +77,26 @@ goesOn Verdict.Passed k n = ltb k n
 goesOn (Verdict.Refused why place) k n = false
 
 -- what is left at place k of n events
-unfoldable pub leftFrom : Plan → List ℕ → ℕ → ℕ → Verdict → State → List ℕ → Ran
-leftFrom p body n k Verdict.Passed s rows = runFrom p (from (recordEvent body) k (n - k)) k s rows
-leftFrom p body n k (Verdict.Refused why place) s rows = record { verdict = Verdict.Refused why place; state = s; rows = rows }
+unfoldable pub leftFrom : Plan → (ℕ → Event) → ℕ → ℕ → Verdict → State → List ℕ → Ran
+leftFrom p events n k Verdict.Passed s rows = runFrom p (from events k (n - k)) k s rows
+leftFrom p events n k (Verdict.Refused why place) s rows = record { verdict = Verdict.Refused why place; state = s; rows = rows }
 
 -- at place k, what is left comes to what all n events come to from the first state
-pub record Underway (p : Plan) (body : List ℕ) (n : ℕ) (first : State) (start : List ℕ) (k : ℕ) (ran : Ran) : Type 0 where
-  pub asked : RunReady p first body n start
+pub record Underway (p : Plan) (events : ℕ → Event) (n : ℕ) (first : State) (start : List ℕ) (k : ℕ) (ran : Ran) : Type 0 where
+  pub asked : RunReady p first n start
   pub few : n < 2 ^ 64
   pub within : k ≤ n
-  pub rest : leftFrom p body n k (ran .verdict) (ran .state) (ran .rows) ≡ runFrom p (from (recordEvent body) 0 n) 0 first start
+  pub rest : leftFrom p events n k (ran .verdict) (ran .state) (ran .rows) ≡ runFrom p (from events 0 n) 0 first start
   pub sound : SoundAndSized p (ran .state)
   pub same : length (ran .rows) ≡ length start
 
 -- the same, shut: a search takes it whole
-unfoldable pub Going : Plan → List ℕ → ℕ → State → List ℕ → ℕ → Ran → Type 0
-Going p body n first start k ran = Underway p body n first start k ran
+unfoldable pub Going : Plan → (ℕ → Event) → ℕ → State → List ℕ → ℕ → Ran → Type 0
+Going p events n first start k ran = Underway p events n first start k ran
+
+-- ---- a run of one event
+
+-- its answer: what was refused, or whether its row has a call
+unfoldable pub answerFrom : Verdict → ℕ → Answer
+answerFrom Verdict.Passed call = Answer.Accepted (eqb call 1)
+answerFrom (Verdict.Refused why place) call = Answer.Refused why

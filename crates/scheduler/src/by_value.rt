@@ -1,8 +1,8 @@
-// The step of a sound state by value: the state is taken apart, its arrays are lent to the act, and
-// it is put together again.
-use kernel::act::act;
+// The step of a sound state by value: a run of one event.
+use crate::run::run_from;
 use rules::answer::Answer;
 use rules::answer::Stepped;
+use rules::answer::Verdict;
 use rules::event::Event;
 use rules::plan::Plan;
 use rules::refusal::Refusal;
@@ -14,61 +14,7 @@ ghost use Rattle.rules.specs.Numbers.Capacity.{maxLocks};
 ghost use Rattle.rules.specs.Soundness.Sound.{SoundAndSized};
 ghost use Rattle.rules.specs.Soundness.SoundTest.{soundTest};
 ghost use Rattle.rules.specs.Replays.Step.{actOf, refusedWith};
-
-// The arrays that the act changes are copies of the given ones.
-fn acted_on(p: Plan, s: State, e: Event) -> Stepped
-    requires { ⌜ SoundAndSized p s × (length (p .limit) ≡ maxLocks) ⌝ }
-    ensures { λ r. ⌜ r ≡ actOf p s e ⌝ }
-{
-    let base = p.base;
-    let ceiling = p.ceiling;
-    let limit = p.limit;
-    let uses = p.uses;
-    let given = s.head;
-    let mut released = s.released;
-    let mut kept = s.kept;
-    let mut delay = s.delay;
-    let mut depth = s.depth;
-    let mut takes = s.takes;
-    let mut saved = s.saved;
-    let mut units = s.units;
-    let mut owner = s.owner;
-    let acted = act(
-        given,
-        p.tasks,
-        p.locks,
-        &base,
-        &ceiling,
-        &limit,
-        &uses,
-        &mut released,
-        &mut kept,
-        &mut delay,
-        &mut depth,
-        &mut takes,
-        &mut saved,
-        &mut units,
-        &mut owner,
-        e,
-    );
-    let answer = acted.answer;
-    let head = acted.head;
-    let state = State {
-        head: head,
-        released: released,
-        kept: kept,
-        delay: delay,
-        depth: depth,
-        takes: takes,
-        saved: saved,
-        units: units,
-        owner: owner,
-    };
-    Stepped {
-        answer: answer,
-        state: state,
-    }
-}
+ghost use Rattle.scheduler.specs.Going.{answerFrom};
 
 // The given state beside a refusal.
 pub fn refused_with(s: State, why: Refusal) -> Stepped
@@ -80,10 +26,36 @@ pub fn refused_with(s: State, why: Refusal) -> Stepped
     }
 }
 
+// The answer to the one event of a run: what was refused, or whether its row has a call.
+fn answer_from(verdict: Verdict, call: u8) -> Answer
+    ensures { λ r. ⌜ r ≡ answerFrom verdict call ⌝ }
+{
+    match verdict {
+        Verdict::Passed => Answer::Accepted(call == 1),
+        Verdict::Refused(why, _) => Answer::Refused(why),
+    }
+}
+
+// One event is run; of its row only the call is asked.
+fn run_one(p: Plan, s: State, e: Event) -> Stepped
+    requires { ⌜ SoundAndSized p s × (length (p .limit) ≡ maxLocks) ⌝ }
+    ensures { λ r. ⌜ r ≡ actOf p s e ⌝ }
+{
+    let no_more = [0u8; 4];
+    let mut row = [0u8; 4];
+    let ran = run_from(p, s, e, &no_more, 1, &mut row);
+    let verdict = ran.verdict;
+    let state = ran.state;
+    Stepped {
+        answer: answer_from(verdict, row[3]),
+        state: state,
+    }
+}
+
 // The step without the test of soundness.
 pub fn step_sound(p: Plan, s: State, e: Event) -> Stepped
     requires { ⌜ soundTest p s ≡ true ⌝ }
     ensures { λ r. ⌜ r ≡ actOf p s e ⌝ }
 {
-    acted_on(p, s, e)
+    run_one(p, s, e)
 }

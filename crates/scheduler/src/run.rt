@@ -1,22 +1,23 @@
-// The events of a book that was accepted, from a fresh start until the first refusal.
+// Events from a given state until the first refusal: those of a book that was accepted, or a single one.
 use crate::turn::Ended;
+use crate::turn::first_of;
 use crate::turn::turn;
 use rules::answer::Replayed;
 use rules::answer::Verdict;
 use rules::capacity::MAX_LOCKS;
 use rules::capacity::MAX_TASKS;
+use rules::event::Event;
 use rules::plan::Plan;
 use rules::state::Head;
 use rules::state::State;
 use rules::state::fresh;
 ghost use mathlib.Core.Path.{_≡_};
-ghost use Rattle.rules.specs.Books.Book.{recordEvent};
 ghost use Rattle.rules.specs.Numbers.Place.{from};
 ghost use Rattle.rules.specs.Replays.Replay.{ranAs};
 ghost use Rattle.rules.specs.Replays.Run.{runFrom};
 ghost use Rattle.rules.specs.Schedulers.State.{freshOf};
 ghost use Rattle.rules.specs.Schedulers.Whole.{planWith, stateWith};
-ghost use Rattle.scheduler.specs.Going.{RunReady, endedAs, goesOn};
+ghost use Rattle.scheduler.specs.Going.{RunReady, endedAs, eventIn, eventOn, goesOn};
 
 // Whether the run goes on at place k of c events.
 fn goes_on(ended: Ended, k: usize, c: usize) -> bool
@@ -29,7 +30,7 @@ fn goes_on(ended: Ended, k: usize, c: usize) -> bool
     }
 }
 
-// The turns of the first c records, from any sound state.
+// The turns of c events, from any sound state.
 fn turns(
     h: Head,
     n: usize,
@@ -46,16 +47,17 @@ fn turns(
     saved: &mut [u64; MAX_TASKS],
     units: &mut [u16; MAX_LOCKS],
     owner: &mut [u8; MAX_LOCKS],
+    first: Event,
     body: &[u8],
     rows: &mut [u8],
     c: usize,
 ) -> Ended
     requires { ⌜ RunReady (planWith n m (now base) (now ceiling) (now limit) (now uses))
-        (stateWith h (now released) (now kept) (now delay) (now depth) (now takes) (now saved) (now units) (now owner)) (now body) c (now rows) ⌝ }
+        (stateWith h (now released) (now kept) (now delay) (now depth) (now takes) (now saved) (now units) (now owner)) c (now rows) ⌝ }
     ensures { λ r. ⌜ endedAs r (now (released .exit)) (now (kept .exit)) (now (delay .exit)) (now (depth .exit)) (now (takes .exit)) (now (saved .exit))
         (now (units .exit)) (now (owner .exit)) (now (rows .exit))
         ≡ runFrom (planWith n m (now (base .entry)) (now (ceiling .entry)) (now (limit .entry)) (now (uses .entry)))
-        (from (recordEvent (now (body .entry))) 0 c) 0
+        (from (eventOn first (now (body .entry))) 0 c) 0
         (stateWith h (now (released .entry)) (now (kept .entry)) (now (delay .entry)) (now (depth .entry)) (now (takes .entry)) (now (saved .entry))
         (now (units .entry)) (now (owner .entry))) (now (rows .entry)) ⌝ }
 {
@@ -82,6 +84,7 @@ fn turns(
             saved,
             units,
             owner,
+            first,
             body,
             rows,
             k,
@@ -92,9 +95,16 @@ fn turns(
 }
 
 // The arrays are unpacked once and lent to the turns; the state is put together where the run ends.
-fn run_from(p: Plan, start: State, body: &[u8], n: usize, rows: &mut [u8]) -> Replayed
-    requires { ⌜ RunReady p start (now body) n (now rows) ⌝ }
-    ensures { λ r. ⌜ (ranAs r (now (rows .exit)) ≡ runFrom p (from (recordEvent (now (body .entry))) 0 n) 0 start (now (rows .entry))) × (r .plan ≡ p) ⌝ }
+pub fn run_from(
+    p: Plan,
+    start: State,
+    first: Event,
+    body: &[u8],
+    n: usize,
+    rows: &mut [u8],
+) -> Replayed
+    requires { ⌜ RunReady p start n (now rows) ⌝ }
+    ensures { λ r. ⌜ (ranAs r (now (rows .exit)) ≡ runFrom p (from (eventOn first (now (body .entry))) 0 n) 0 start (now (rows .entry))) × (r .plan ≡ p) ⌝ }
 {
     let base = p.base;
     let ceiling = p.ceiling;
@@ -125,6 +135,7 @@ fn run_from(p: Plan, start: State, body: &[u8], n: usize, rows: &mut [u8]) -> Re
         &mut saved,
         &mut units,
         &mut owner,
+        first,
         body,
         rows,
         n,
@@ -149,11 +160,12 @@ fn run_from(p: Plan, start: State, body: &[u8], n: usize, rows: &mut [u8]) -> Re
     }
 }
 
-// From a fresh start.
+// The first n events of a body, from a fresh start.
 pub fn run(p: Plan, body: &[u8], n: usize, rows: &mut [u8]) -> Replayed
-    requires { ⌜ RunReady p freshOf (now body) n (now rows) ⌝ }
-    ensures { λ r. ⌜ (ranAs r (now (rows .exit)) ≡ runFrom p (from (recordEvent (now (body .entry))) 0 n) 0 freshOf (now (rows .entry))) × (r .plan ≡ p) ⌝ }
+    requires { ⌜ RunReady p freshOf n (now rows) ⌝ }
+    ensures { λ r. ⌜ (ranAs r (now (rows .exit)) ≡ runFrom p (from (eventIn (now (body .entry))) 0 n) 0 freshOf (now (rows .entry))) × (r .plan ≡ p) ⌝ }
 {
     let start = fresh();
-    run_from(p, start, body, n, rows)
+    let first = first_of(body);
+    run_from(p, start, first, body, n, rows)
 }

@@ -11,14 +11,13 @@ use rules::capacity::MAX_TASKS;
 use rules::event::Event;
 use rules::state::Head;
 ghost use mathlib.Core.Path.{_≡_};
-ghost use mathlib.Core.Bool.{false};
-ghost use Prim.Native.Nat.{_+_, _*_, _/_, _<_, _≤_};
+ghost use Prim.Native.Nat.{_+_, _*_, _≤_};
 ghost use lib.ListN.{length};
-ghost use Rattle.rules.specs.Books.Book.{recordEvent, recordFault};
 ghost use Rattle.rules.specs.Numbers.Choice.{if_then_else_};
 ghost use Rattle.rules.specs.Replays.Run.{withRow};
+ghost use Rattle.rules.specs.Replays.Step.{actOf};
 ghost use Rattle.rules.specs.Schedulers.Whole.{planWith, stateWith};
-ghost use Rattle.scheduler.specs.Going.{TurnReady, endedAs, rowsAfter, stoppedAt, turnOf};
+ghost use Rattle.scheduler.specs.Going.{TurnReady, endedAs, eventIn, eventOn, rowsAfter, stoppedAt, turnedAs};
 
 // What the run has come to, beside the arrays that it is lent.
 pub struct Ended {
@@ -26,16 +25,33 @@ pub struct Ended {
     pub head: Head,
 }
 
-// The event of record k, which 8 has let pass.
+// The event of record k of a body, and a tick where there is none.
 fn event_at(body: &[u8], k: usize) -> Event
-    requires { ⌜ (k < length (now body) / 4) × (recordFault (now body) k ≡ false) ⌝ }
-    ensures { λ r. ⌜ r ≡ recordEvent (now (body .entry)) k ⌝ }
+    ensures { λ r. ⌜ r ≡ eventIn (now (body .entry)) k ⌝ }
 {
     match read(body, k) {
         Found::Got(e, _) => e,
         Found::Refused(_, _) => Event::Tick,
         Found::End => Event::Tick,
     }
+}
+
+// The event at place k of a run: the one that is handed in, and after it those of the body, each where
+// it lies.
+fn event_on(first: Event, body: &[u8], k: usize) -> Event
+    ensures { λ r. ⌜ r ≡ eventOn first (now (body .entry)) k ⌝ }
+{
+    if k == 0 {
+        return first;
+    }
+    event_at(body, k)
+}
+
+// The first event of a body.
+pub fn first_of(body: &[u8]) -> Event
+    ensures { λ r. ⌜ r ≡ eventIn (now (body .entry)) 0 ⌝ }
+{
+    event_at(body, 0)
 }
 
 // Whether there was a call, as a byte.
@@ -101,20 +117,21 @@ pub fn turn(
     saved: &mut [u64; MAX_TASKS],
     units: &mut [u16; MAX_LOCKS],
     owner: &mut [u8; MAX_LOCKS],
+    first: Event,
     body: &[u8],
     rows: &mut [u8],
     k: usize,
 ) -> Ended
     requires { ⌜ TurnReady (planWith n m (now base) (now ceiling) (now limit) (now uses))
-        (stateWith h (now released) (now kept) (now delay) (now depth) (now takes) (now saved) (now units) (now owner)) (now body) (now rows) k ⌝ }
+        (stateWith h (now released) (now kept) (now delay) (now depth) (now takes) (now saved) (now units) (now owner)) (now rows) k ⌝ }
     ensures { λ r. ⌜ endedAs r (now (released .exit)) (now (kept .exit)) (now (delay .exit)) (now (depth .exit)) (now (takes .exit)) (now (saved .exit))
         (now (units .exit)) (now (owner .exit)) (now (rows .exit))
-        ≡ turnOf (planWith n m (now (base .entry)) (now (ceiling .entry)) (now (limit .entry)) (now (uses .entry)))
+        ≡ turnedAs (actOf (planWith n m (now (base .entry)) (now (ceiling .entry)) (now (limit .entry)) (now (uses .entry)))
         (stateWith h (now (released .entry)) (now (kept .entry)) (now (delay .entry)) (now (depth .entry)) (now (takes .entry)) (now (saved .entry))
         (now (units .entry)) (now (owner .entry)))
-        (now (body .entry)) k (now (rows .entry)) ⌝ }
+        (eventOn first (now (body .entry)) k)) k (now (rows .entry)) ⌝ }
 {
-    let e = event_at(body, k);
+    let e = event_on(first, body, k);
     let acted = act(
         h,
         n,

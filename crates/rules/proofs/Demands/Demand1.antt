@@ -100,7 +100,7 @@ module _ (p : Plan) (s : State) where
     answer-numbered why q = ⊎-elim (λ h. h) (λ h.
         let t : tested ≡ Tested.Passed = step-refuses .accepts .0 (ap answerNumber q ∙ nothing (numberOf why) h) in
         let a : stepOf p s e .answer ≡ Answer.Accepted (lazyCall (wordsOf s) e) =
-            ap (λ (r : Stepped). r .answer) step-is ∙ answered-passed tested s (afterOf p s e) (lazyCall (wordsOf s) e) t in
+        ap (λ (r : Stepped). r .answer) step-is ∙ answered-passed tested s (afterOf p s e) (lazyCall (wordsOf s) e) t in
         let z : _≡_ {A = ℕ} 0 1 = cc in
         absurd (omega arith)) (lt-or-le 0 (numberOf why))
 
@@ -143,8 +143,12 @@ module _ (tasks locks uses : List ℕ) where
       go : (v : Verdict) → firstFault (loadChecks tasks locks uses) ≡ v → Judged (loadChecks tasks locks uses) v
           → LoadRefuses tasks locks uses (loadedAs v (planOf tasks locks uses))
       go Verdict.Passed e J = record { judged = J; obeys = λ _. loaded-obeys tasks locks uses e; blank = λ h. absurd (omega arith) }
-      go (Verdict.Refused why place) e J = record { judged = J; obeys = λ q. refused-not why place (sym e ∙ none-refused-at (loadChecks tasks locks uses)
-          load-numbered (ap verdictNumber e ∙ q)); blank = λ _. refl }
+      go (Verdict.Refused why place) e J = record {
+        judged = J;
+        obeys = λ q. refused-not why place (sym e ∙ none-refused-at (loadChecks tasks locks uses)
+            load-numbered (ap verdictNumber e ∙ q));
+        blank = λ _. refl;
+      }
 
 module _ (b : List ℕ) (room : ℕ) where
   book-refuses : BookRefuses b room (checkedOf b room)
@@ -153,8 +157,11 @@ module _ (b : List ℕ) (room : ℕ) where
     where
       go : (v : Verdict) → checkOf b room ≡ v → Judged (bookChecks b room) v → BookRefuses b room (checkedAs v b)
       go Verdict.Passed e J = record { judged = J; obeys = λ _. passed-obeys b room e; blank = λ h. absurd (omega arith) }
-      go (Verdict.Refused why place) e J = record { judged = J; obeys = λ q. refused-not why place (sym e ∙ check-passes b room (ap verdictNumber e ∙ q));
-          blank = λ _. refl }
+      go (Verdict.Refused why place) e J = record {
+        judged = J;
+        obeys = λ q. refused-not why place (sym e ∙ check-passes b room (ap verdictNumber e ∙ q));
+        blank = λ _. refl;
+      }
 
 replay-refuses : (b rows : List ℕ) → ReplayRefuses b rows (replayOf b rows)
 unfolding replayOf replayAs verdictNumber

@@ -290,6 +290,12 @@ module _ {X : Type 0} (f : ℕ → X) where
   pub getD-tabulate : (n k : ℕ) (d : X) → k < n → getD (tabulate n f) k d ≡ f k
   getD-tabulate n k d h = getD-from 0 n k d h ∙ ap f (omega arith)
 
+-- the same at each place is the same table
+pub from-same : {X : Type 0} (f g : ℕ → X) (i n : ℕ) → ((k : ℕ) → i ≤ k → k < i + n → f k ≡ g k) → from f i n ≡ from g i n
+unfolding from
+from-same f g i zero e = refl
+from-same f g i (suc n) e = λ j. e i (omega arith) (omega arith) j ∷ from-same f g (suc i) n (λ k a b. e k (omega arith) (omega arith)) j
+
 -- ---- a loop that writes f k at each place k in turn
 
 module _ (xs : List ℕ) (f : ℕ → ℕ) where

@@ -1,6 +1,6 @@
 -- `scheduler::replay` meets its contract. A book that passes is run, and any other is left as it is. Assumes nothing.
 use Rattle.scheduler.proofs.ReplayLaws.{refused-ran, refused-plan, passed-ran, passed-plan, body-within}
-use Rattle.scheduler.proofs.ReplayLaws.{plan-sound, plan-limits, body-records, body-rows, body-readable}
+use Rattle.scheduler.proofs.ReplayLaws.{plan-sound, plan-limits, body-rows}
 use borrow.Author.Needs.{needs}
 use Rattle.scheduler.proofs.replay.Statement.{statement}
 use Rattle.scheduler.proofs.replay.Tie as tie
@@ -14,9 +14,7 @@ replay-spec =
     (λ c κs. record {
       sound = search plan-sound;
       limits = search plan-limits;
-      records = search body-records;
       room = search body-rows;
-      readable = search body-readable;
     })
     (λ c. (search refused-ran, search refused-plan)) (λ c. search needs)
     (λ c. (search passed-ran, search passed-plan)))

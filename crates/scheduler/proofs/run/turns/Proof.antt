@@ -1,20 +1,20 @@
 -- `scheduler::run::turns` meets its contract. What is left from here comes to what all of it comes to. Assumes nothing.
 use Prim.Native.Nat.{_-_}
 use Rattle.rules.specs.Schedulers.Whole.{planWith, stateWith}
-use Rattle.scheduler.specs.Going.{Going, endedAs}
+use Rattle.scheduler.specs.Going.{Going, endedAs, eventOn}
 use Rattle.scheduler.proofs.RunLaws.{going-start, going-same, going-ready, going-place, going-falls, going-next, going-end}
 use borrow.Author.Needs.{needs}
 use Rattle.scheduler.proofs.run.turns.Statement.{statement}
 use Rattle.scheduler.proofs.run.turns.Tie as tie
 
 abbrev Inv-loop : tie.InvT-loop
-Inv-loop n m base ceiling limit uses released₀ kept₀ delay₀ depth₀ takes₀ saved₀ units₀ owner₀ body rows₀ c ended₀ k₀ released kept delay depth takes saved
+Inv-loop n m base ceiling limit uses released₀ kept₀ delay₀ depth₀ takes₀ saved₀ units₀ owner₀ first body rows₀ c ended₀ k₀ released kept delay depth takes saved
     units owner rows ended k =
-    Going (planWith n m base ceiling limit uses) body c (stateWith (ended₀ .head) released₀ kept₀ delay₀ depth₀ takes₀ saved₀ units₀ owner₀) rows₀ k
+    Going (planWith n m base ceiling limit uses) (eventOn first body) c (stateWith (ended₀ .head) released₀ kept₀ delay₀ depth₀ takes₀ saved₀ units₀ owner₀) rows₀ k
     (endedAs ended released kept delay depth takes saved units owner rows)
 
 abbrev μ-loop : tie.MeasureT-loop
-μ-loop n m base ceiling limit uses released₀ kept₀ delay₀ depth₀ takes₀ saved₀ units₀ owner₀ body rows₀ c ended₀ k₀ released kept delay depth takes saved units
+μ-loop n m base ceiling limit uses released₀ kept₀ delay₀ depth₀ takes₀ saved₀ units₀ owner₀ first body rows₀ c ended₀ k₀ released kept delay depth takes saved units
     owner rows ended k = c - k
 
 -- the place where the turn begins, before its arguments are lent: an array more is one step more

@@ -58,7 +58,7 @@ module _ (b rows : List ℕ) (r : Replayed) (ran : ranAs r rows ≡ ranOf b) (pl
 -- ---- an input that is longer than the buffer
 
 -- the text of a refused book
-refused-text : (b : List ℕ) (why : Refusal) (place : ℕ) → checkOf b rowSpace ≡ Verdict.Refused why place
+pub refused-text : (b : List ℕ) (why : Refusal) (place : ℕ) → checkOf b rowSpace ≡ Verdict.Refused why place
     → textOf b ≡ reportOf (Verdict.Refused why place) 0 (replicate rowSpace 0) 0 0 (take 0 (freshOf .delay))
 unfolding replayOf replayAs checkedAs
 refused-text b why place e = rw (rows-room, e)

@@ -2,27 +2,31 @@
 use mathlib.Core.Path.{_≡_, refl, sym, _∙_, ap}
 use mathlib.Core.Logic.{⊎-elim}
 use mathlib.Core.List.{List, [], _∷_}
-use Prim.Native.Nat.{ℕ, zero, suc, _+_, _*_, _^_, _≤_, _<_, min}
+use Prim.Native.Nat.{ℕ, zero, suc, _^_, _≤_, _<_, min}
 use native.Mathlib.Omega.{arith}
-use lib.ListN.{length, take, replicate, length-take}
-use Rattle.rules.specs.Numbers.Capacity.{maxTasks, maxEvents, maxDelay}
+use lib.ListN.{length, take, set, replicate, length-take}
+use lib.Seq.{sets, sets-eq, take-append-seam}
+use Rattle.io.specs.Counts.{Counts}
+use Rattle.rules.specs.Numbers.Capacity.{maxEvents}
 use Rattle.rules.specs.Numbers.Place.{at}
 use Rattle.rules.specs.Books.Plan.{Obeys}
-use Rattle.rules.specs.Books.Book.{planIn, eventsOf, checkOf, checkedAs, checkedOf}
+use Rattle.rules.specs.Books.Book.{eventsOf, checkOf, checkedAs, checkedOf}
 use Rattle.rules.specs.Schedulers.State.{freshOf}
+use Rattle.rules.specs.Replays.Replay.{ranAs}
 use Rattle.rules.specs.Replays.Run.{Ran}
 use Rattle.rules.specs.Demands.Replayed.{RanUpTo}
 use Rattle.rules.specs.declared.plan.Plan.{Plan}
 use Rattle.rules.specs.declared.event.Event.{Event}
-use Rattle.rules.specs.declared.refusal.Refusal.{Refusal}
 use Rattle.rules.specs.declared.answer.Verdict.{Verdict}
+use Rattle.rules.specs.declared.answer.Replayed.{Replayed}
 use Rattle.rules.proofs.Numbers.Choice.{lt-or-le}
 use Rattle.rules.proofs.Books.Obeyed.{few-tasks}
 use Rattle.rules.proofs.Demands.Replayed.{passed-contents, passed-obeys, replayed}
 use Rattle.rules.proofs.Demands.Sizes.{place-few, few-events, row-small, lazy-few, eager-few, bound-word}
+use Rattle.report.specs.Page.{wrote}
 use Rattle.report.specs.Report.{reportOf}
 use Rattle.orbeshuri.specs.Text.{rowSpace, reportSpace, ranOf, textOf}
-use Rattle.orbeshuri.proofs.Written.{rows-room, refused-text}
+use Rattle.orbeshuri.proofs.Written.{rows-room, text-is, refused-text}
 use Rattle.orbeshuri.proofs.Length.{SmallAt, passed-long, stopped-long}
 
 -- the first n of a list whose figures are below v
@@ -79,3 +83,34 @@ text-fits b = go (checkOf b rowSpace) refl
           stopped-long (replicate rowSpace 0) 0 (omega arith) (λ k l. absurd (omega arith)) 0 0 (take 0 (freshOf .delay)) why place
               (omega (arith, place-few b rowSpace why place e)),
         ))
+
+-- ---- so the whole of it stands at the front of the buffer
+
+wrote-sets : (out : List ℕ) (i : ℕ) (t : List ℕ) → wrote out i t ≡ sets out i t
+unfolding wrote
+wrote-sets out i [] = refl
+wrote-sets out i (x ∷ t) = wrote-sets (set out i x) (suc i) t
+
+front-whole : (out t : List ℕ) → length t ≤ length out → take (length t) (wrote out 0 t) ≡ t
+front-whole out t h = ap (take (length t)) (wrote-sets out 0 t ∙ sets-eq t out 0 (omega arith)) ∙ take-append-seam t _
+
+-- what the replay left, reported into a buffer with room for every text
+module _ (b rows : List ℕ) (r : Replayed) (ran : ranAs r rows ≡ ranOf b) (planned : r .plan ≡ checkedOf b (length (replicate {A = ℕ} rowSpace 0)) .plan)
+    (out : List ℕ) (room : reportSpace ≤ length out) (n : ℕ)
+    (counted : n ≡ min (length (reportOf (r .verdict) (r .state .head .accepted) rows (r .state .head .lazy) (r .state .head .eager)
+    (take (r .plan .tasks) (r .state .delay)))) (length out)) where
+  pub whole-length : n ≡ length (textOf b)
+  whole-length = omega (arith, text-fits b, counted ∙ ap (λ (t : List ℕ). min (length t) (length out)) (text-is b rows r ran planned))
+
+  pub whole-front : (after : List ℕ) → after ≡ wrote out 0 (reportOf (r .verdict) (r .state .head .accepted) rows (r .state .head .lazy)
+      (r .state .head .eager) (take (r .plan .tasks) (r .state .delay)))
+      → take n after ≡ textOf b
+  whole-front after e = rw (e ∙ ap (wrote out 0) (text-is b rows r ran planned), whole-length)
+      (front-whole out (textOf b) (omega (arith, text-fits b)))
+
+  -- as a part of the buffer that is lent
+  pub whole-counts : (after : List ℕ) → after ≡ wrote out 0 (reportOf (r .verdict) (r .state .head .accepted) rows (r .state .head .lazy)
+      (r .state .head .eager) (take (r .plan .tasks) (r .state .delay)))
+      → Counts n after
+  whole-counts after e =
+      let fill : n ≡ length (take n after) = whole-length ∙ ap length (sym (whole-front after e)) in (omega (arith, length-take n after), fill)

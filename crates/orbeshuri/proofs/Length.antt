@@ -1,20 +1,19 @@
 -- How long the report of a replay can be. Assumes nothing.
-use mathlib.Core.Path.{_≡_, refl, sym, _∙_, ap}
-use mathlib.Core.Logic.{⊎-elim}
+use mathlib.Core.Path.{_≡_, refl, _∙_}
+use mathlib.Core.Logic.{_≢_, ⊎-elim}
 use mathlib.Core.List.{List, [], _∷_, _++_, map}
-use Prim.Native.Nat.{ℕ, zero, suc, _+_, _*_, _/_, _%_, _^_, _≤_, _<_}
+use Prim.Native.Nat.{ℕ, zero, suc, _+_, _*_, _/_, _^_, _≤_, _<_}
 use native.Mathlib.Omega.{arith}
 use lib.Dec.{eqb, ltb}
-use lib.ListN.{length, take, length-append}
-use borrow.Author.Tests.{lt-ltb, le-ltb}
-use Rattle.rules.specs.Numbers.Capacity.{nobody}
-use Rattle.rules.specs.Numbers.Choice.{if_then_else_}
+use lib.ListN.{length, length-append}
+use borrow.Author.Tests.{lt-ltb, le-ltb, eqb-false}
+use Rattle.rules.specs.Numbers.Capacity.{maxTasks, nobody}
 use Rattle.rules.specs.Numbers.Place.{at}
 use Rattle.rules.specs.Numbers.Refusal.{numberOf}
 use Rattle.rules.specs.declared.refusal.Refusal.{Refusal}
 use Rattle.rules.specs.declared.answer.Verdict.{Verdict}
-use Rattle.rules.proofs.Numbers.Choice.{if-true, if-false, either, lt-or-le}
-use Rattle.rules.proofs.Demands.Sizes.{SmallRow}
+use Rattle.rules.proofs.Numbers.Choice.{if-true, if-false, by-test, lt-or-le}
+use Rattle.rules.proofs.Demands.Sizes.{number-few, SmallRow}
 use Rattle.report.specs.Report.{newline, dash, delayed, digitsIn, digits, spaced, line, header, runner}
 use Rattle.report.specs.Report.{rowWords, rowLine, rowLines, callsLine, delayedLine, refusedLine, reportOf}
 
@@ -38,34 +37,12 @@ digits-few : (d n : ℕ) → n < 10 ^ suc d → length (digits n) ≤ suc d
 unfolding digits
 digits-few d n h = in-few (suc n) d n h
 
-runner-few : (t : ℕ) → t < 256 → length (runner t) ≤ 3
+-- a task, or `-`
+runner-few : (t : ℕ) → (t ≢ nobody → t < maxTasks) → length (runner t) ≤ 2
 unfolding runner
-runner-few t h = either (λ w. length w ≤ 3) (eqb t nobody) dash (digits t) (omega arith) (digits-few 2 t (omega arith))
-
-number-few : (why : Refusal) → numberOf why < 100
-unfolding numberOf
-number-few Refusal.ShortBook = omega arith
-number-few Refusal.WrongCount = omega arith
-number-few Refusal.WrongLayout = omega arith
-number-few Refusal.WrongTask = omega arith
-number-few Refusal.WrongLock = omega arith
-number-few Refusal.WrongUse = omega arith
-number-few Refusal.WrongCeiling = omega arith
-number-few Refusal.WrongEvent = omega arith
-number-few Refusal.ShortRows = omega arith
-number-few Refusal.Unsound = omega arith
-number-few Refusal.Exhausted = omega arith
-number-few Refusal.NobodyRuns = omega arith
-number-few Refusal.Unknown = omega arith
-number-few Refusal.AlreadyReleased = omega arith
-number-few Refusal.NotDeclared = omega arith
-number-few Refusal.AlreadyOpen = omega arith
-number-few Refusal.OpenElsewhere = omega arith
-number-few Refusal.RowFull = omega arith
-number-few Refusal.NotNewest = omega arith
-number-few Refusal.NoWork = omega arith
-number-few Refusal.PastLimit = omega arith
-number-few Refusal.StillOpen = omega arith
+runner-few t h = by-test (eqb t nobody)
+    (λ e. rw (if-true (eqb t nobody) dash (digits t) e) (omega arith))
+    (λ e. rw (if-false (eqb t nobody) dash (digits t) e) (digits-few 1 t (omega (arith, h (eqb-false t nobody e)))))
 
 -- ---- a line
 
@@ -90,7 +67,7 @@ abbrev pub SmallAt : List ℕ → ℕ → Type 0
 SmallAt rows k = SmallRow (at rows (k * 4)) (at rows (k * 4 + 1)) (at rows (k * 4 + 2)) (at rows (k * 4 + 3))
 
 -- its line, where its number has five digits or fewer
-row-long : (rows : List ℕ) (k : ℕ) → k + 1 < 10 ^ 5 → SmallAt rows k → length (rowLine rows k) ≤ 20
+row-long : (rows : List ℕ) (k : ℕ) → k + 1 < 10 ^ 5 → SmallAt rows k → length (rowLine rows k) ≤ 19
 unfolding rowLine rowWords
 row-long rows k h R = simp (line-long, one-long, none-long) (omega (
   arith,
@@ -101,7 +78,7 @@ row-long rows k h R = simp (line-long, one-long, none-long) (omega (
   digits-few 0 (at rows (k * 4 + 3)) (omega (arith, R .once)),
 ))
 
-rows-long : (rows : List ℕ) (n : ℕ) → n < 10 ^ 5 → ((k : ℕ) → k < n → SmallAt rows k) → length (rowLines rows n) ≤ n * 20
+rows-long : (rows : List ℕ) (n : ℕ) → n < 10 ^ 5 → ((k : ℕ) → k < n → SmallAt rows k) → length (rowLines rows n) ≤ n * 19
 unfolding rowLines
 rows-long rows zero h R = omega arith
 rows-long rows (suc k) h R = omega (
@@ -117,7 +94,11 @@ calls-long lazy eager h g = simp (line-long, one-long, none-long) (omega (arith,
 
 refused-long : (why : Refusal) (place : ℕ) → place < 10 ^ 5 → length (refusedLine why place) ≤ 17
 unfolding refusedLine
-refused-long why place h = simp (line-long, one-long, none-long) (omega (arith, digits-few 1 (numberOf why) (number-few why), digits-few 4 place h))
+refused-long why place h = simp (line-long, one-long, none-long) (omega (
+  arith,
+  digits-few 1 (numberOf why) (omega (arith, number-few why)),
+  digits-few 4 place h,
+))
 
 -- numbers of five digits or fewer, each with its space
 list-long : (xs : List ℕ) → ((i : ℕ) → at xs i < 10 ^ 5) → length (spaced (map digits xs)) ≤ length xs * 6
@@ -133,10 +114,10 @@ delayed-long xs h = omega (arith, line-long delayed (map digits xs), list-long x
 
 module _ (rows : List ℕ) (n : ℕ) (few : n < 10 ^ 5) (small : (k : ℕ) → k < n → SmallAt rows k) (lazy eager : ℕ) (delays : List ℕ) where
   pub passed-long : lazy < 10 ^ 5 → eager < 10 ^ 5 → ((i : ℕ) → at delays i < 10 ^ 5)
-      → length (reportOf Verdict.Passed n rows lazy eager delays) ≤ 55 + n * 20 + length delays * 6
+      → length (reportOf Verdict.Passed n rows lazy eager delays) ≤ 55 + n * 19 + length delays * 6
   unfolding reportOf
   passed-long l e d = simp length-append (omega (arith, header-long, rows-long rows n few small, calls-long lazy eager l e, delayed-long delays d))
 
-  pub stopped-long : (why : Refusal) (place : ℕ) → place < 10 ^ 5 → length (reportOf (Verdict.Refused why place) n rows lazy eager delays) ≤ 46 + n * 20
+  pub stopped-long : (why : Refusal) (place : ℕ) → place < 10 ^ 5 → length (reportOf (Verdict.Refused why place) n rows lazy eager delays) ≤ 46 + n * 19
   unfolding reportOf
   stopped-long why place h = simp length-append (omega (arith, header-long, rows-long rows n few small, refused-long why place h))

@@ -13,11 +13,13 @@ use Rattle.rules.specs.Books.Load.{taskFaultAt, lockFaultAt, countFaultOf, useF
 use Rattle.rules.specs.Books.Book.{sizeOf, bodyAt, layoutFault, contentsChecks, eventChecks, checkOf, checkedAs}
 use Rattle.rules.specs.Schedulers.Figures.{holds, priorityOf, rankOf}
 use Rattle.rules.specs.Schedulers.Elect.{earlier, earliest, elected}
-use Rattle.rules.specs.Schedulers.EventRefusals.{elsewhere, notNewest, pastLimit, testsOf, releaseOrder, acquireOrder, unlockOrder, workOrder, finishOrder, refusalOf}
+use Rattle.rules.specs.Schedulers.EventRefusals.{elsewhere, notNewest, pastLimit, testsOf}
+use Rattle.rules.specs.Schedulers.EventRefusals.{releaseOrder, acquireOrder, unlockOrder, workOrder, finishOrder, refusalOf}
 use Rattle.rules.specs.Schedulers.FiguresAfter.{eagerCalls, charged, delayed, figuresAfter}
 use Rattle.rules.specs.Schedulers.Lazy.{callsFor, runsOn, switched, waits, afterRelease, afterAcquire, restored, afterUnlock, wordsAfter, lazyCall}
 use Rattle.rules.specs.Soundness.Sound.{keptOf, savedOf, ownerOf}
-use Rattle.rules.specs.Soundness.SoundTest.{taskObeys, lockObeys, spareObeys, obeys, rowTest, ownTest, numberNew, numberTest, taskTest, lockTest, runsTest, headTest, spareTest, soundTest}
+use Rattle.rules.specs.Soundness.SoundTest.{taskObeys, lockObeys, spareObeys, obeys, rowTest, ownTest, numberNew, numberTest}
+use Rattle.rules.specs.Soundness.SoundTest.{taskTest, lockTest, runsTest, headTest, spareTest, soundTest}
 use Rattle.rules.specs.Replays.Step.{afterOf, answered, actOf, stepOf}
 use Rattle.rules.specs.Replays.Run.{withRow, onward, runFrom}
 use Rattle.rules.specs.Replays.Replay.{replayAs, replayOf}
@@ -43,7 +45,8 @@ bookOfRefused =
     ∷ []
 
 printed : (textOf book ≡ block) × (textOf bookOfRefused ≡ blockOfRefused)
-unfolding book block bookOfRefused blockOfRefused if_then_else_ allTrue every any count greatest firstFrom from renewed zeros numberOf firstTrue found firstFault eventFault eventOf hasBit
+unfolding book block bookOfRefused blockOfRefused
+    if_then_else_ allTrue every any count greatest firstFrom from renewed zeros numberOf firstTrue found firstFault eventFault eventOf hasBit
     withBit most countFault taskFault lockFault declares users usersBase ceilingFault taskFaultAt lockFaultAt countFaultOf useFault masksOf planOf recordChecks
     loadChecks sizeOf bodyAt layoutFault contentsChecks eventChecks checkOf checkedAs
     has priority saves holds priorityOf rankOf earlier earliest elected elsewhere notNewest pastLimit testsOf releaseOrder acquireOrder unlockOrder workOrder

@@ -1,10 +1,9 @@
--- How large a figure of a replay can be: the place of a refusal, a row, a count of calls and a delay. Assumes nothing.
-use mathlib.Core.Path.{_≡_, refl, sym, _∙_, ap}
-use mathlib.Core.Logic.{⊎-elim}
+-- How large a figure of a replay can be: a refusal's number and place, a row, a count of calls and a delay. Assumes nothing.
+use mathlib.Core.Path.{_≡_, refl, sym, _∙_}
+use mathlib.Core.Logic.{_≢_}
 use mathlib.Core.Bool.{false}
 use mathlib.Core.List.{List, [], _∷_, _++_}
-use Prim.Native.Nat.{ℕ, zero, suc, _+_, _*_, _≤_, _<_}
-use native.Mathlib.Nat.{eq-zero-or-pos}
+use Prim.Native.Nat.{ℕ, zero, suc, _+_, _≤_, _<_}
 use native.Mathlib.Omega.{arith}
 use lib.Dec.{eqb, ltb}
 use lib.ListN.{length}
@@ -15,15 +14,13 @@ use Rattle.rules.specs.Numbers.Place.{at, sum, greatest, firstFrom}
 use Rattle.rules.specs.Numbers.Refusal.{numberOf, Check, firstFault, checkFor}
 use Rattle.rules.specs.Books.Plan.{most, countFault, Obeys}
 use Rattle.rules.specs.Books.Load.{recordChecks, loadChecks}
-use Rattle.rules.specs.Books.Book.{word, countAt, bodyAt, tasksOf, locksOf, usesOf, eventsOf, recordEvent, eventBody, contentsChecks, eventChecks, checkOf, planIn}
+use Rattle.rules.specs.Books.Book.{countAt, tasksOf, locksOf, usesOf, eventsOf, recordEvent, eventBody, contentsChecks, eventChecks, checkOf}
 use Rattle.rules.specs.Schedulers.Figures.{Figures, priorityOf, rankOf}
 use Rattle.rules.specs.Schedulers.FiguresAfter.{eagerCalls}
-use Rattle.rules.specs.Schedulers.Elect.{elected}
 use Rattle.rules.specs.Schedulers.Eager.{runningOf}
-use Rattle.rules.specs.Replays.Run.{Ran}
 use Rattle.rules.specs.Demands.Bound.{mayBlock, limitIf, longestLimit, boundOf}
 use Rattle.rules.specs.Demands.History.{eventAt, eagerAt, runnerAt, acceptedAt, outranked, callsDue, lazyCount, eagerCount}
-use Rattle.rules.specs.Demands.Replayed.{RowAt, RanUpTo}
+use Rattle.rules.specs.Demands.Replayed.{RowAt}
 use Rattle.rules.specs.declared.plan.Plan.{Plan}
 use Rattle.rules.specs.declared.refusal.Refusal.{Refusal}
 use Rattle.rules.specs.declared.refusal.Refusal.the-variants.{WrongCount}
@@ -35,13 +32,39 @@ use Rattle.rules.proofs.Numbers.Place.{length-from, greatest-least}
 use Rattle.rules.proofs.Numbers.Row.{priority-below}
 use Rattle.rules.proofs.Numbers.Checks.{refused-not, check-none, check-finds, check-passes, check-left, check-right, clean-for}
 use Rattle.rules.proofs.Books.Obeyed.{few-tasks, base-byte, ceiling-byte}
-use Rattle.rules.proofs.Schedulers.Elect.{elected-none, elected-lead}
-use Rattle.rules.proofs.Demands.Replayed.{passed-contents}
+use Rattle.rules.proofs.Schedulers.Elect.{elected-lead, elected-some}
+
+-- ---- a refusal's number
+
+pub number-few : (why : Refusal) → numberOf why ≤ 22
+unfolding numberOf
+number-few Refusal.ShortBook = omega arith
+number-few Refusal.WrongCount = omega arith
+number-few Refusal.WrongLayout = omega arith
+number-few Refusal.WrongTask = omega arith
+number-few Refusal.WrongLock = omega arith
+number-few Refusal.WrongUse = omega arith
+number-few Refusal.WrongCeiling = omega arith
+number-few Refusal.WrongEvent = omega arith
+number-few Refusal.ShortRows = omega arith
+number-few Refusal.Unsound = omega arith
+number-few Refusal.Exhausted = omega arith
+number-few Refusal.NobodyRuns = omega arith
+number-few Refusal.Unknown = omega arith
+number-few Refusal.AlreadyReleased = omega arith
+number-few Refusal.NotDeclared = omega arith
+number-few Refusal.AlreadyOpen = omega arith
+number-few Refusal.OpenElsewhere = omega arith
+number-few Refusal.RowFull = omega arith
+number-few Refusal.NotNewest = omega arith
+number-few Refusal.NoWork = omega arith
+number-few Refusal.PastLimit = omega arith
+number-few Refusal.StillOpen = omega arith
 
 -- ---- the place of a refusal of 1 to 9
 
 -- no record of these checks has a place of n or more
-unfoldable pub Within : ℕ → List Check → Type 0
+Within : ℕ → List Check → Type 0
 Within n [] = Unit {0}
 Within n (c ∷ cs) = (c .first + c .count ≤ n) × Within n cs
 
@@ -106,25 +129,24 @@ place-few b room why place e = go (firstFault (contentsChecks b)) refl
 -- ---- the numbers of a row
 
 module _ {p : Plan} (O : Obeys p) (f : Figures) where
-  pub priority-byte : (x : ℕ) → priorityOf p f x < 256
+  priority-byte : (x : ℕ) → priorityOf p f x < 256
   unfolding priorityOf
   priority-byte x = priority-below (at (p .ceiling)) (at (p .base) x) 256 (at (f .takes) x) (at (f .depth) x) (base-byte O x) (ceiling-byte O)
 
-  pub rank-byte : (x : ℕ) → rankOf p f x < 256
+  rank-byte : (x : ℕ) → rankOf p f x < 256
   unfolding rankOf
   rank-byte x = either (λ v. v < 256) (ltb 0 (at (f .released) x)) (priorityOf p f x) 0 (priority-byte x) (omega arith)
 
-  pub runner-byte : runningOf p f < 256
+  runner-task : runningOf p f ≢ nobody → runningOf p f < maxTasks
   unfolding runningOf
-  runner-byte =
-      let n : p .tasks ≤ nobody = omega (arith, few-tasks O) in ⊎-elim
-      (λ z. omega (arith, elected-none (at (f .released)) (rankOf p f) (p .tasks) n z))
-      (λ h. omega (arith, elected-lead (at (f .released)) (rankOf p f) (p .tasks) n h .within))
-      (eq-zero-or-pos (greatest (rankOf p f) (p .tasks)))
+  runner-task h =
+      let n : p .tasks ≤ nobody = omega (arith, few-tasks O) in
+      let some : 0 < greatest (rankOf p f) (p .tasks) = elected-some (at (f .released)) (rankOf p f) (p .tasks) n h in
+      omega (arith, few-tasks O, elected-lead (at (f .released)) (rankOf p f) (p .tasks) n some .within)
 
--- three bytes, and a call or none
+-- a task or nobody, two bytes, and a call or none
 pub record SmallRow (task user next call : ℕ) : Type 0 where
-  pub runs : task < 256
+  pub runs : task ≢ nobody → task < maxTasks
   pub own : user < 256
   pub others : next < 256
   pub once : call ≤ 1
@@ -133,7 +155,7 @@ pub row-small : {p : Plan} → Obeys p → (es : List Event) (k task user next c
 row-small {p} O es k task user next call R =
     let f : Figures = eagerAt p es (suc k) in
     record {
-      runs = omega (arith, R .runs, runner-byte O f);
+      runs = rw (R .runs) (runner-task O f);
       own = omega (arith, R .own, rank-byte O f (runnerAt p es (suc k)));
       others = omega (arith, R .others .least 255 (λ y _ _. omega (arith, priority-byte O f y)));
       once = R .once;

@@ -26,7 +26,7 @@ use Rattle.rules.proofs.Demands.Sizes.{place-few, few-events, row-small, lazy-f
 use Rattle.report.specs.Page.{wrote}
 use Rattle.report.specs.Report.{reportOf}
 use Rattle.orbeshuri.specs.Text.{rowSpace, reportSpace, ranOf, textOf}
-use Rattle.orbeshuri.proofs.Written.{rows-room, text-is, refused-text}
+use Rattle.orbeshuri.proofs.Written.{rows-room, reported, text-is, refused-text}
 use Rattle.orbeshuri.proofs.Length.{SmallAt, passed-long, stopped-long}
 
 -- the first n of a list whose figures are below v
@@ -94,23 +94,17 @@ wrote-sets out i (x ∷ t) = wrote-sets (set out i x) (suc i) t
 front-whole : (out t : List ℕ) → length t ≤ length out → take (length t) (wrote out 0 t) ≡ t
 front-whole out t h = ap (take (length t)) (wrote-sets out 0 t ∙ sets-eq t out 0 (omega arith)) ∙ take-append-seam t _
 
--- what the replay left, reported into a buffer with room for every text
+-- the report of a replay, in a buffer with room for every text
 module _ (b rows : List ℕ) (r : Replayed) (ran : ranAs r rows ≡ ranOf b) (planned : r .plan ≡ checkedOf b (length (replicate {A = ℕ} rowSpace 0)) .plan)
-    (out : List ℕ) (room : reportSpace ≤ length out) (n : ℕ)
-    (counted : n ≡ min (length (reportOf (r .verdict) (r .state .head .accepted) rows (r .state .head .lazy) (r .state .head .eager)
-    (take (r .plan .tasks) (r .state .delay)))) (length out)) where
+    (out : List ℕ) (room : reportSpace ≤ length out) (n : ℕ) (counted : n ≡ min (length (reported r rows)) (length out)) where
   pub whole-length : n ≡ length (textOf b)
   whole-length = omega (arith, text-fits b, counted ∙ ap (λ (t : List ℕ). min (length t) (length out)) (text-is b rows r ran planned))
 
-  pub whole-front : (after : List ℕ) → after ≡ wrote out 0 (reportOf (r .verdict) (r .state .head .accepted) rows (r .state .head .lazy)
-      (r .state .head .eager) (take (r .plan .tasks) (r .state .delay)))
-      → take n after ≡ textOf b
-  whole-front after e = rw (e ∙ ap (wrote out 0) (text-is b rows r ran planned), whole-length)
-      (front-whole out (textOf b) (omega (arith, text-fits b)))
+  pub whole-front : (after : List ℕ) → after ≡ wrote out 0 (reported r rows) → take n after ≡ textOf b
+  whole-front after e =
+      rw (e ∙ ap (wrote out 0) (text-is b rows r ran planned), whole-length) (front-whole out (textOf b) (omega (arith, text-fits b)))
 
   -- as a part of the buffer that is lent
-  pub whole-counts : (after : List ℕ) → after ≡ wrote out 0 (reportOf (r .verdict) (r .state .head .accepted) rows (r .state .head .lazy)
-      (r .state .head .eager) (take (r .plan .tasks) (r .state .delay)))
-      → Counts n after
+  pub whole-counts : (after : List ℕ) → after ≡ wrote out 0 (reported r rows) → Counts n after
   whole-counts after e =
       let fill : n ≡ length (take n after) = whole-length ∙ ap length (sym (whole-front after e)) in (omega (arith, length-take n after), fill)

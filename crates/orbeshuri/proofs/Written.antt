@@ -36,13 +36,16 @@ front-length xs n e h = length-take-le n xs (omega arith)
 pub rows-room : length (replicate {A = ℕ} rowSpace 0) ≡ rowSpace
 rows-room = length-replicate {A = ℕ} rowSpace 0
 
--- what the replay left, reported
-module _ (b rows : List ℕ) (r : Replayed) (ran : ranAs r rows ≡ ranOf b) (planned : r .plan ≡ checkedOf b (length (replicate {A = ℕ} rowSpace 0)) .plan) where
-  pub text-is : reportOf (r .verdict) (r .state .head .accepted) rows (r .state .head .lazy) (r .state .head .eager) (take (r .plan .tasks) (r .state .delay))
-      ≡ textOf b
-  text-is =
-      rw (planned, rows-room) (ap (λ (x : Ran). reportOf (x .verdict) (x .state .head .accepted) (x .rows) (x .state .head .lazy) (x .state .head .eager)
-      (take (checkedOf b rowSpace .plan .tasks) (x .state .delay))) ran)
+-- what a replay answered and left in the rows, reported
+abbrev pub reported : Replayed → List ℕ → List ℕ
+reported r rows =
+    reportOf (r .verdict) (r .state .head .accepted) rows (r .state .head .lazy) (r .state .head .eager) (take (r .plan .tasks) (r .state .delay))
+
+pub text-is : (b rows : List ℕ) (r : Replayed) → ranAs r rows ≡ ranOf b → r .plan ≡ checkedOf b (length (replicate {A = ℕ} rowSpace 0)) .plan
+    → reported r rows ≡ textOf b
+text-is b rows r ran planned =
+    rw (planned, rows-room) (ap (λ (x : Ran). reportOf (x .verdict) (x .state .head .accepted) (x .rows) (x .state .head .lazy) (x .state .head .eager)
+    (take (checkedOf b rowSpace .plan .tasks) (x .state .delay))) ran)
 
 -- ---- an input that is longer than the buffer
 

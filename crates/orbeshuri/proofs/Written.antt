@@ -19,6 +19,8 @@ use Rattle.rules.proofs.Books.Obeyed.{few-tasks}
 use Rattle.rules.proofs.Demands.Replayed.{passed-obeys}
 use Rattle.report.specs.Report.{reportOf}
 use Rattle.orbeshuri.specs.Text.{rowSpace, ranOf, textOf}
+-- the laws rest on this file, so the texts of P1 and P5 are computed before them all: a wrong text that they show is refused there first
+use Rattle.orbeshuri.specs.Printed
 
 -- the plan of a book, or the blank one, has no more tasks than there are places
 tasks-by : (b : List ℕ) (room : ℕ) (v : Verdict) → checkOf b room ≡ v → checkedAs v b .plan .tasks ≤ maxTasks

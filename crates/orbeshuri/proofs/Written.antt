@@ -1,7 +1,7 @@
 -- The text that the program writes. Assumes nothing.
 use mathlib.Core.Path.{_≡_, refl, sym, _∙_, ap}
 use mathlib.Core.List.{List}
-use Prim.Native.Nat.{ℕ, _≤_, _<_, min}
+use Prim.Native.Nat.{ℕ, _≤_, _<_}
 use native.Mathlib.Omega.{arith}
 use lib.ListN.{length, take, replicate, length-replicate}
 use lib.Seq.{length-take-le}
@@ -18,8 +18,9 @@ use Rattle.rules.proofs.Books.Cut.{cut-same, long-refused}
 use Rattle.rules.proofs.Books.Obeyed.{few-tasks}
 use Rattle.rules.proofs.Books.Passes.{passed-obeys}
 use Rattle.report.specs.Report.{reportOf}
-use Rattle.report.specs.Page.{wrote}
 use Rattle.orbeshuri.specs.Text.{rowSpace, ranOf, textOf}
+-- the laws rest on this file, so the texts of P1 and P5 are computed before them all: a wrong text that they show is refused there first
+use Rattle.orbeshuri.specs.Printed
 
 -- the plan of a book, or the blank one, has no more tasks than there are places
 tasks-by : (b : List ℕ) (room : ℕ) (v : Verdict) → checkOf b room ≡ v → checkedAs v b .plan .tasks ≤ maxTasks
@@ -37,28 +38,21 @@ front-length xs n e h = length-take-le n xs (omega arith)
 pub rows-room : length (replicate {A = ℕ} rowSpace 0) ≡ rowSpace
 rows-room = length-replicate {A = ℕ} rowSpace 0
 
--- what the replay left, reported
-module _ (b rows : List ℕ) (r : Replayed) (ran : ranAs r rows ≡ ranOf b) (planned : r .plan ≡ checkedOf b (length (replicate {A = ℕ} rowSpace 0)) .plan) where
-  text-is : reportOf (r .verdict) (r .state .head .accepted) rows (r .state .head .lazy) (r .state .head .eager) (take (r .plan .tasks) (r .state .delay))
-      ≡ textOf b
-  text-is =
-      rw (planned, rows-room) (ap (λ (x : Ran). reportOf (x .verdict) (x .state .head .accepted) (x .rows) (x .state .head .lazy) (x .state .head .eager)
-      (take (checkedOf b rowSpace .plan .tasks) (x .state .delay))) ran)
+-- what a replay answered and left in the rows, reported
+abbrev pub reported : Replayed → List ℕ → List ℕ
+reported r rows =
+    reportOf (r .verdict) (r .state .head .accepted) rows (r .state .head .lazy) (r .state .head .eager) (take (r .plan .tasks) (r .state .delay))
 
-  pub text-written : (out after : List ℕ) → after ≡ wrote out 0 (reportOf (r .verdict) (r .state .head .accepted) rows (r .state .head .lazy)
-      (r .state .head .eager) (take (r .plan .tasks) (r .state .delay)))
-      → after ≡ wrote out 0 (textOf b)
-  text-written out after e = e ∙ ap (wrote out 0) text-is
-
-  pub text-length : (n l : ℕ) → n ≡ min (length (reportOf (r .verdict) (r .state .head .accepted) rows (r .state .head .lazy) (r .state .head .eager)
-      (take (r .plan .tasks) (r .state .delay)))) l
-      → n ≡ min (length (textOf b)) l
-  text-length n l e = e ∙ ap (λ (t : List ℕ). min (length t) l) text-is
+pub text-is : (b rows : List ℕ) (r : Replayed) → ranAs r rows ≡ ranOf b → r .plan ≡ checkedOf b (length (replicate {A = ℕ} rowSpace 0)) .plan
+    → reported r rows ≡ textOf b
+text-is b rows r ran planned =
+    rw (planned, rows-room) (ap (λ (x : Ran). reportOf (x .verdict) (x .state .head .accepted) (x .rows) (x .state .head .lazy) (x .state .head .eager)
+    (take (checkedOf b rowSpace .plan .tasks) (x .state .delay))) ran)
 
 -- ---- an input that is longer than the buffer
 
 -- the text of a refused book
-refused-text : (b : List ℕ) (why : Refusal) (place : ℕ) → checkOf b rowSpace ≡ Verdict.Refused why place
+pub refused-text : (b : List ℕ) (why : Refusal) (place : ℕ) → checkOf b rowSpace ≡ Verdict.Refused why place
     → textOf b ≡ reportOf (Verdict.Refused why place) 0 (replicate rowSpace 0) 0 0 (take 0 (freshOf .delay))
 unfolding replayOf replayAs checkedAs
 refused-text b why place e = rw (rows-room, e)

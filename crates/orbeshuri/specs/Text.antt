@@ -12,6 +12,10 @@ use Rattle.report.specs.Report.{reportOf}
 abbrev pub rowSpace : ℕ
 rowSpace = maxEvents * 4
 
+-- room for every text
+abbrev pub reportSpace : ℕ
+reportSpace = 262_144
+
 abbrev pub ranOf : List ℕ → Ran
 ranOf b = replayOf b (replicate rowSpace 0)
 

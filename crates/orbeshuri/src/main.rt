@@ -11,12 +11,13 @@ ghost use lib.ListN.{length, take};
 ghost use Rattle.rules.specs.Numbers.Capacity.{maxTasks};
 ghost use Rattle.report.specs.Page.{wrote};
 ghost use Rattle.report.specs.Report.{reportOf};
-ghost use Rattle.orbeshuri.specs.Text.{textOf};
+ghost use Rattle.io.specs.Counts.{Counts};
+ghost use Rattle.orbeshuri.specs.Text.{reportSpace, textOf};
 
 // Four row bytes for each event that a book may have, so 9 is never given.
 const ROW_SPACE: usize = MAX_EVENTS * 4;
 
-// Room for the longest report: the header, 12,000 rows of 19 bytes or fewer, the calls and 96 delays.
+// Room for every report, as proved: the header, 12,000 rows of 19 bytes or fewer, the calls and 96 delays.
 const REPORT_SPACE: usize = 262144;
 
 // The delays of the first n tasks are reported.
@@ -46,10 +47,12 @@ fn report_state(
     )
 }
 
-// The text for a book, cut where `out` ends, and how many bytes of it stand there.
+// The whole text for a book at the front of `out`, and how many bytes it has.
 fn text(book: &[u8], out: &mut [u8]) -> usize
-    ensures { λ _. ⌜ now (out .exit) ≡ wrote (now (out .entry)) 0 (textOf (now (book .entry))) ⌝ }
-    ensures { λ r. ⌜ r ≡ min (length (textOf (now (book .entry)))) (length (now (out .entry))) ⌝ }
+    requires { ⌜ reportSpace ≤ length (now out) ⌝ }
+    ensures { λ r. ⌜ r ≡ length (textOf (now (book .entry))) ⌝ }
+    ensures { λ r. ⌜ take r (now (out .exit)) ≡ textOf (now (book .entry)) ⌝ }
+    ensures { λ r. ⌜ Counts r (now (out .exit)) ⌝ }
 {
     let mut rows = [0u8; ROW_SPACE];
     let replayed = replay(book, &mut rows);
@@ -60,20 +63,12 @@ fn text(book: &[u8], out: &mut [u8]) -> usize
     report_state(out, verdict, &rows, head, delay, tasks)
 }
 
-fn write_front(out: &[u8], n: usize) {
-    if n <= out.len() {
-        io::write_all(1, &out[..n]);
-    }
-}
-
 // RULES 15.7: the buffer is larger than the largest book. What is read of a longer input has the
 // report of all of it.
 fn main() {
     let mut book = io::large_buffer();
     let n = io::read_full(0, &mut book);
-    if n <= book.len() {
-        let mut out = [0u8; REPORT_SPACE];
-        let size = text(&book[..n], &mut out);
-        write_front(&out, size);
-    }
+    let mut out = [0u8; REPORT_SPACE];
+    let size = text(&book[..n], &mut out);
+    io::write_all(1, &out[..size]);
 }

@@ -20,7 +20,7 @@ same (x ∷ xs) (y ∷ ys) = eqb x y && same xs ys
 rows : List ℕ
 rows = 0 ∷ 1 ∷ 0 ∷ 0 ∷ 0 ∷ 5 ∷ 0 ∷ 0 ∷ 0 ∷ 5 ∷ 3 ∷ 0 ∷ 0 ∷ 5 ∷ 3 ∷ 0 ∷ 1 ∷ 3 ∷ 1 ∷ 1 ∷ 0 ∷ 1 ∷ 0 ∷ 0 ∷ 255 ∷ 0 ∷ 0 ∷ 0 ∷ []
 
-block : List ℕ
+unfoldable pub block : List ℕ
 block =
     -- event running user next call
     101 ∷ 118 ∷ 101 ∷ 110 ∷ 116 ∷ 32 ∷ 114 ∷ 117 ∷ 110 ∷ 110 ∷ 105 ∷ 110 ∷ 103 ∷ 32 ∷ 117 ∷ 115 ∷ 101 ∷ 114 ∷ 32 ∷ 110 ∷ 101 ∷ 120 ∷ 116 ∷ 32 ∷ 99 ∷ 97 ∷ 108
@@ -49,7 +49,7 @@ block =
 rowsOfRefused : List ℕ
 rowsOfRefused = 0 ∷ 1 ∷ 0 ∷ 0 ∷ 0 ∷ 5 ∷ 0 ∷ 0 ∷ 0 ∷ 5 ∷ 0 ∷ 0 ∷ []
 
-blockOfRefused : List ℕ
+unfoldable pub blockOfRefused : List ℕ
 blockOfRefused =
     -- event running user next call
     101 ∷ 118 ∷ 101 ∷ 110 ∷ 116 ∷ 32 ∷ 114 ∷ 117 ∷ 110 ∷ 110 ∷ 105 ∷ 110 ∷ 103 ∷ 32 ∷ 117 ∷ 115 ∷ 101 ∷ 114 ∷ 32 ∷ 110 ∷ 101 ∷ 120 ∷ 116 ∷ 32 ∷ 99 ∷ 97 ∷ 108

@@ -14,3 +14,4 @@ pub mod WorstCase
 pub mod WorstRun
 pub mod Running
 pub mod Replayed
+pub mod Sizes

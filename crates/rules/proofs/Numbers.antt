@@ -3,6 +3,7 @@ pub mod Choice
 pub mod Place
 pub mod Mask
 pub mod Row
+pub mod Refusals
 pub mod Order
 pub mod Checks
 pub mod Answers

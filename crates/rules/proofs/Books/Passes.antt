@@ -16,7 +16,7 @@ use Rattle.rules.specs.Demands.Demand1.{bookChecks}
 use Rattle.rules.specs.declared.refusal.Refusal.the-variants.{WrongCount}
 use Rattle.rules.specs.declared.answer.Verdict.{Verdict}
 use Rattle.rules.proofs.Numbers.Place.{length-from}
-use Rattle.rules.proofs.Numbers.Order.{among, once, numbered}
+use Rattle.rules.proofs.Numbers.Order.{among, once}
 use Rattle.rules.proofs.Numbers.Checks.{ofCheck, clean-for, passed-both, spare-check, none-refused-at}
 use Rattle.rules.proofs.Books.Loaded.{loaded-obeys}
 
@@ -39,12 +39,8 @@ module _ (b : List ℕ) where
     unfolding contentsChecks loadChecks recordChecks eventChecks among once numberOf
     checks-once = refl
 
-    pub checks-numbered : numbered ofCheck (bookChecks b room) ≡ true
-    unfolding contentsChecks loadChecks recordChecks eventChecks numbered numberOf
-    checks-numbered = refl
-
     pub check-passes : verdictNumber (checkOf b room) ≡ 0 → checkOf b room ≡ Verdict.Passed
-    check-passes e = check-is ∙ none-refused-at (bookChecks b room) checks-numbered (rw (← check-is) e)
+    check-passes = none-refused-at (checkOf b room)
 
     module _ (passed : checkOf b room ≡ Verdict.Passed) where
       pub passed-contents : firstFault (contentsChecks b) ≡ Verdict.Passed

@@ -1,9 +1,8 @@
 -- Demand 1 holds. Assumes nothing.
 use mathlib.Core.Path.{_≡_, refl, sym, _∙_, ap}
-use mathlib.Core.Logic.{⊎-elim}
 use mathlib.Core.Bool.{Bool, true}
 use mathlib.Core.List.{List}
-use Prim.Native.Nat.{ℕ, _≤_, _<_}
+use Prim.Native.Nat.{ℕ, _<_}
 use native.Mathlib.Omega.{arith}
 use lib.ListN.{length}
 use Rattle.rules.specs.Numbers.Choice.{if_then_else_}
@@ -22,22 +21,18 @@ use Rattle.rules.specs.declared.plan.Plan.{Plan}
 use Rattle.rules.specs.declared.state.State.{State}
 use Rattle.rules.specs.declared.refusal.Refusal.{Refusal}
 use Rattle.rules.specs.declared.answer.Tested.{Tested}
-use Rattle.rules.specs.declared.answer.Answer.{Answer}
-use Rattle.rules.specs.declared.answer.Stepped.{Stepped}
 use Rattle.rules.specs.declared.answer.Verdict.{Verdict}
 use Rattle.rules.specs.declared.event.Event.{Event}
 use Rattle.rules.specs.declared.event.Event.the-variants.{Release, Acquire, Unlock, Work, Finish, Tick}
-use Rattle.rules.proofs.Numbers.Choice.{by-test, lt-or-le}
-use Rattle.rules.proofs.Numbers.Order.{among, once, numbered, ofTest, given-exactly, number-given, none-refused}
+use Rattle.rules.proofs.Numbers.Choice.{by-test}
+use Rattle.rules.proofs.Numbers.Order.{among, once, ofTest, given-exactly, number-given, none-refused}
+use Rattle.rules.proofs.Numbers.Refusals.{numbered}
 use Rattle.rules.proofs.Numbers.Checks.{ofCheck, refused-not, given-at-exactly, number-given-at, none-refused-at}
 use Rattle.rules.proofs.Books.Loaded.{loaded-obeys}
-use Rattle.rules.proofs.Books.Passes.{check-is, checks-once, checks-numbered, check-passes, passed-obeys}
-use Rattle.rules.proofs.Replays.OneStep.{answered-number, answered-passed}
+use Rattle.rules.proofs.Books.Passes.{check-is, checks-once, passed-obeys}
+use Rattle.rules.proofs.Replays.OneStep.{answered-number}
 
 -- ---- 10 to 22, of an event
-
-nothing : (n : ℕ) → n ≤ 0 → n ≡ 0
-nothing n h = omega arith
 
 -- what the tests come to, where they refuse
 module _ (s after : State) (call : Bool) where
@@ -61,15 +56,6 @@ module _ (p : Plan) (s : State) where
   tests-once Finish = refl
   tests-once Tick = refl
 
-  tests-numbered : (e : Event) → numbered ofTest (stepTests p s e) ≡ true
-  unfolding testsOf releaseOrder acquireOrder unlockOrder workOrder finishOrder numbered numberOf
-  tests-numbered (Release t) = refl
-  tests-numbered (Acquire l) = refl
-  tests-numbered (Unlock l) = refl
-  tests-numbered (Work a) = refl
-  tests-numbered Finish = refl
-  tests-numbered Tick = refl
-
   module _ (e : Event) where
     -- the step is answered by all tests in their order, 10 among them
     abbrev tested : Tested
@@ -85,28 +71,18 @@ module _ (p : Plan) (s : State) where
     step-refuses : StepRefuses p s e (stepOf p s e)
     unfolding testedNumber
     step-refuses = record {
-      exactly = λ why h.
-          let given = number-given tested why h in
+      exactly = λ why.
+          let given = number-given tested why in
           let exact = given-exactly (stepTests p s e) (tests-once e) why in
           (λ q. exact .0 (given .0 (sym step-number ∙ q)), λ q. step-number ∙ given .1 (exact .1 q));
-      accepts = (λ q. none-refused (stepTests p s e) (tests-numbered e) (sym step-number ∙ q), λ q. step-number ∙ ap testedNumber q);
+      accepts = (λ q. none-refused tested (sym step-number ∙ q), λ q. step-number ∙ ap testedNumber q);
       same = λ h. rw step-is (same-state s (afterOf p s e) (lazyCall (wordsOf s) e) tested (rw step-number at h));
       quiet = λ h. rw step-is (no-call s (afterOf p s e) (lazyCall (wordsOf s) e) tested (rw step-number at h));
     }
 
-    -- a refusal that is answered has a number
-    pub answer-numbered : (why : Refusal) → stepOf p s e .answer ≡ Answer.Refused why → 0 < numberOf why
-    unfolding answerNumber
-    answer-numbered why q = ⊎-elim (λ h. h) (λ h.
-        let t : tested ≡ Tested.Passed = step-refuses .accepts .0 (ap answerNumber q ∙ nothing (numberOf why) h) in
-        let a : stepOf p s e .answer ≡ Answer.Accepted (lazyCall (wordsOf s) e) =
-        ap (λ (r : Stepped). r .answer) step-is ∙ answered-passed tested s (afterOf p s e) (lazyCall (wordsOf s) e) t in
-        let z : _≡_ {A = ℕ} 0 1 = cc in
-        absurd (omega arith)) (lt-or-le 0 (numberOf why))
-
 -- ---- 1 to 9, of records and of books
 
-module _ (cs : List Check) (o : once ofCheck cs ≡ true) (n : numbered ofCheck cs ≡ true) where
+module _ (cs : List Check) (o : once ofCheck cs ≡ true) where
   -- a verdict that refuses has an offender
   offended : (v : Verdict) → firstFault cs ≡ v → ((why : Refusal) (place : ℕ) → firstFault cs ≡ Verdict.Refused why place → ⊥) → verdictNumber v ≡ 0
   unfolding verdictNumber
@@ -115,14 +91,14 @@ module _ (cs : List Check) (o : once ofCheck cs ≡ true) (n : numbered ofCheck 
 
   judged : Judged cs (firstFault cs)
   judged = record {
-    exactly = λ why place h.
-        let given = number-given-at (firstFault cs) why place h in
+    exactly = λ why place.
+        let given = number-given-at (firstFault cs) why place in
         let exact = given-at-exactly cs o why place in
         (λ q. exact .0 (given .0 q), λ q. given .1 (exact .1 q));
     passes = (
       λ q why place F.
           let G = given-at-exactly cs o why place .1 F in
-          refused-not (G .refusal) place (sym (G .given) ∙ none-refused-at cs n q),
+          refused-not (G .refusal) place (sym (G .given) ∙ none-refused-at (firstFault cs) q),
       λ f. offended (firstFault cs) refl (λ why place e. f why place (given-at-exactly cs o why place .0 (record { refusal = why; given = e; number = refl }))),
     );
   }
@@ -132,34 +108,29 @@ module _ (tasks locks uses : List ℕ) where
   unfolding loadChecks recordChecks among once numberOf
   load-once = refl
 
-  load-numbered : numbered ofCheck (loadChecks tasks locks uses) ≡ true
-  unfolding loadChecks recordChecks numbered numberOf
-  load-numbered = refl
-
   load-refuses : LoadRefuses tasks locks uses (loadOf tasks locks uses)
   unfolding loadOf loadedAs verdictNumber
-  load-refuses = go (firstFault (loadChecks tasks locks uses)) refl (judged (loadChecks tasks locks uses) load-once load-numbered)
+  load-refuses = go (firstFault (loadChecks tasks locks uses)) refl (judged (loadChecks tasks locks uses) load-once)
     where
       go : (v : Verdict) → firstFault (loadChecks tasks locks uses) ≡ v → Judged (loadChecks tasks locks uses) v
           → LoadRefuses tasks locks uses (loadedAs v (planOf tasks locks uses))
       go Verdict.Passed e J = record { judged = J; obeys = λ _. loaded-obeys tasks locks uses e; blank = λ h. absurd (omega arith) }
       go (Verdict.Refused why place) e J = record {
         judged = J;
-        obeys = λ q. refused-not why place (sym e ∙ none-refused-at (loadChecks tasks locks uses)
-            load-numbered (ap verdictNumber e ∙ q));
+        obeys = λ q. absurd (omega (arith, numbered why .0, q));
         blank = λ _. refl;
       }
 
 module _ (b : List ℕ) (room : ℕ) where
   book-refuses : BookRefuses b room (checkedOf b room)
   unfolding checkedAs verdictNumber
-  book-refuses = go (checkOf b room) refl (rw (check-is b room) (judged (bookChecks b room) (checks-once b room) (checks-numbered b room)))
+  book-refuses = go (checkOf b room) refl (rw (check-is b room) (judged (bookChecks b room) (checks-once b room)))
     where
       go : (v : Verdict) → checkOf b room ≡ v → Judged (bookChecks b room) v → BookRefuses b room (checkedAs v b)
       go Verdict.Passed e J = record { judged = J; obeys = λ _. passed-obeys b room e; blank = λ h. absurd (omega arith) }
       go (Verdict.Refused why place) e J = record {
         judged = J;
-        obeys = λ q. refused-not why place (sym e ∙ check-passes b room (ap verdictNumber e ∙ q));
+        obeys = λ q. absurd (omega (arith, numbered why .0, q));
         blank = λ _. refl;
       }
 

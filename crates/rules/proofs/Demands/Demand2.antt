@@ -51,7 +51,7 @@ never-unsound p f Tick G = never-given _ Unsound refl G
 
 never10 : (p : Plan) (f : Figures) (e : Event) → testedNumber (eagerTest p f e) ≢ 10
 unfolding numberOf
-never10 p f e q = never-unsound p f e (number-given (eagerTest p f e) Unsound (omega arith) .0 q)
+never10 p f e q = never-unsound p f e (number-given (eagerTest p f e) Unsound .0 q)
 
 module _ {p : Plan} (O : Obeys p) {f : Figures} (R : Ruled p f) where
   abbrev r : ℕ
@@ -77,7 +77,7 @@ module _ {p : Plan} (O : Obeys p) {f : Figures} (R : Ruled p f) where
 
   never17 : (e : Event) → testedNumber (eagerTest p f e) ≢ 17
   unfolding numberOf
-  never17 e q = never-elsewhere e (number-given (eagerTest p f e) OpenElsewhere (omega arith) .0 q)
+  never17 e q = never-elsewhere e (number-given (eagerTest p f e) OpenElsewhere .0 q)
 
 -- ---- one place
 

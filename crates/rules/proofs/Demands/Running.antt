@@ -30,10 +30,10 @@ use Rattle.rules.specs.declared.refusal.Refusal.{Refusal}
 use Rattle.rules.specs.declared.event.Event.{Event}
 use Rattle.rules.specs.declared.event.Event.the-variants.{Tick}
 use Rattle.rules.proofs.Numbers.Choice.{lt-or-le}
+use Rattle.rules.proofs.Numbers.Refusals.{numbered}
 use Rattle.rules.proofs.Numbers.Place.{below}
 use Rattle.rules.proofs.Demands.Follow.{same-test, follows, same-figures}
 use Rattle.rules.proofs.Demands.Calls.{due}
-use Rattle.rules.proofs.Demands.Demand1.{answer-numbered}
 use Rattle.rules.proofs.Demands.Demand2.{demand2}
 use Rattle.rules.proofs.Demands.History.{passedAt, all-counted}
 use Rattle.rules.proofs.Demands.Jobs.{lateAt, delays-same, delay-counted, demand3}
@@ -190,7 +190,7 @@ module _ {p : Plan} (O : Obeys p) (es : List Event) (rows : List ℕ) (room : le
 
       not-passed : verdictNumber (ran .verdict) ≢ 0
       unfolding verdictNumber
-      not-passed e = let (why, v, said) = E .refused h in omega (arith, answer-numbered p (lazyAt p es a) (eventAt es a) why said, ap verdictNumber v, e)
+      not-passed e = let (why, v, said) = E .refused h in omega (arith, numbered why .0, ap verdictNumber v, e)
 
     -- the number of a run is that of an event's answer, or 0
     never : (n : ℕ) → 0 < n → answerNumber (stepOf p (lazyAt p es a) (eventAt es a) .answer) ≢ n → verdictNumber (ran .verdict) ≢ n

@@ -6,7 +6,7 @@ use mathlib.Core.List.{List, [], _∷_, _++_}
 use Prim.Native.Nat.{ℕ, _+_, _≤_, _<_}
 use native.Mathlib.Omega.{arith}
 use lib.Dec.{ltb}
-use borrow.Author.Tests.{ltb-true, lt-ltb, le-ltb, eqb-true, eq-eqb, not-true}
+use borrow.Author.Tests.{lt-ltb, le-ltb, eqb-true, eq-eqb, not-true}
 use Rattle.rules.specs.Numbers.Place.{firstFrom}
 use Rattle.rules.specs.Numbers.Refusal.{numberOf, sameNumber, Check, found, firstFault, checkFor, checksBefore, GivenAt, FirstOffender, Offended}
 use Rattle.rules.specs.Numbers.Answer.{verdictNumber, verdictPlace}
@@ -14,7 +14,8 @@ use Rattle.rules.specs.declared.refusal.Refusal.{Refusal}
 use Rattle.rules.specs.declared.answer.Verdict.{Verdict}
 use Rattle.rules.proofs.Numbers.Choice.{if-true, if-false, by-test, either, untrue, and-true, or-false, lt-or-le}
 use Rattle.rules.proofs.Numbers.Place.{first-stop, first-on, first-none, first-hit, first-before, first-is}
-use Rattle.rules.proofs.Numbers.Order.{among, once, numbered}
+use Rattle.rules.proofs.Numbers.Order.{among, once}
+use Rattle.rules.proofs.Numbers.Refusals.{numbered}
 
 -- no record offends
 abbrev pub Clean : Check → Type 0
@@ -165,24 +166,22 @@ pub given-at-exactly : (cs : List Check) → once ofCheck cs ≡ true → (why :
 given-at-exactly cs o why place = (given-offended cs o why place, offended-given cs why place)
 
 -- that it is given, by its number and place
-pub number-given-at : (verdict : Verdict) (why : Refusal) (place : ℕ) → 0 < numberOf why
+pub number-given-at : (verdict : Verdict) (why : Refusal) (place : ℕ)
     → ((verdictNumber verdict ≡ numberOf why) × (verdictPlace verdict ≡ place)) ↔ GivenAt why place verdict
 unfolding verdictNumber verdictPlace
-number-given-at verdict why place h = (λ (e, q). go verdict e q, λ G. (ap verdictNumber (G .given) ∙ G .number, ap verdictPlace (G .given)))
+number-given-at verdict why place = (λ (e, q). go verdict e q, λ G. (ap verdictNumber (G .given) ∙ G .number, ap verdictPlace (G .given)))
   where
     go : (v : Verdict) → verdictNumber v ≡ numberOf why → verdictPlace v ≡ place → GivenAt why place v
-    go Verdict.Passed e q = absurd (omega arith)
+    go Verdict.Passed e q = absurd (omega (arith, numbered why .0))
     go (Verdict.Refused w i) e q = record { refusal = w; given = ap (Verdict.Refused w) q; number = e }
 
--- ---- checks in two parts
-
 -- the number 0 is said only where nothing is refused
-pub none-refused-at : (cs : List Check) → numbered ofCheck cs ≡ true → verdictNumber (firstFault cs) ≡ 0 → firstFault cs ≡ Verdict.Passed
-unfolding numbered verdictNumber
-none-refused-at [] n e = check-none
-none-refused-at (c ∷ cs) n e = let (a, b) = and-true (ltb 0 (numberOf (c .refusal))) (numbered ofCheck cs) n in clean-or c
-    (λ i F. absurd (omega (arith, ltb-true 0 (numberOf (c .refusal)) a, ap verdictNumber (offender-refuses c cs F), e)))
-    (λ C. clean-passes c cs C ∙ none-refused-at cs b (ap verdictNumber (sym (clean-passes c cs C)) ∙ e))
+pub none-refused-at : (verdict : Verdict) → verdictNumber verdict ≡ 0 → verdict ≡ Verdict.Passed
+unfolding verdictNumber
+none-refused-at Verdict.Passed e = refl
+none-refused-at (Verdict.Refused why place) e = absurd (omega (arith, numbered why .0))
+
+-- ---- checks in two parts
 
 -- a refusal of the first checks stands, and where they find no offender those after them are asked
 pub check-left : (cs ds : List Check) (why : Refusal) (place : ℕ) → firstFault cs ≡ Verdict.Refused why place

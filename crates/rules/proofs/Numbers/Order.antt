@@ -3,14 +3,14 @@ use mathlib.Core.Path.{_≡_, refl, sym, _∙_, ap}
 use mathlib.Core.Logic.{_↔_}
 use mathlib.Core.Bool.{Bool, true, false, not, _&&_, _||_}
 use mathlib.Core.List.{List, [], _∷_}
-use Prim.Native.Nat.{ℕ, _<_}
+use Prim.Native.Nat.{ℕ}
 use native.Mathlib.Omega.{arith}
-use lib.Dec.{ltb}
-use borrow.Author.Tests.{ltb-true, eqb-true, eq-eqb, not-true}
+use borrow.Author.Tests.{eqb-true, eq-eqb, not-true}
 use Rattle.rules.specs.Numbers.Refusal.{numberOf, firstTrue, sameNumber, testFor, testsBefore, Given}
 use Rattle.rules.specs.Numbers.Answer.{passes, testedNumber}
 use Rattle.rules.specs.declared.refusal.Refusal.{Refusal}
 use Rattle.rules.specs.declared.answer.Tested.{Tested}
+use Rattle.rules.proofs.Numbers.Refusals.{numbered}
 use Rattle.rules.proofs.Numbers.Choice.{if-true, if-false, by-test, either, untrue, and-true, or-false}
 
 pub refused-not : {P : Type 0} (why : Refusal) → Tested.Refused why ≡ Tested.Passed → P
@@ -33,11 +33,6 @@ among name why (x ∷ xs) = sameNumber (name x) why || among name why xs
 unfoldable pub once : {X : Type 0} → (X → Refusal) → List X → Bool
 once name [] = true
 once name (x ∷ xs) = not (among name (name x) xs) && once name xs
-
--- and none has the number 0, which says that nothing is refused
-unfoldable pub numbered : {X : Type 0} → (X → Refusal) → List X → Bool
-numbered name [] = true
-numbered name (x ∷ xs) = ltb 0 (numberOf (name x)) && numbered name xs
 
 -- ---- tests
 
@@ -121,18 +116,16 @@ all-pass ts o h = go (firstTrue ts) refl
     go (Tested.Refused why) e = untrue (sym (given-holds ts o why (record { refusal = why; given = e; number = refl }) .0) ∙ h why)
 
 -- that it is given, by its number
-pub number-given : (tested : Tested) (why : Refusal) → 0 < numberOf why → (testedNumber tested ≡ numberOf why) ↔ Given why tested
+pub number-given : (tested : Tested) (why : Refusal) → (testedNumber tested ≡ numberOf why) ↔ Given why tested
 unfolding testedNumber
-number-given tested why h = (go tested, λ G. ap testedNumber (G .given) ∙ G .number)
+number-given tested why = (go tested, λ G. ap testedNumber (G .given) ∙ G .number)
   where
     go : (t : Tested) → testedNumber t ≡ numberOf why → Given why t
-    go Tested.Passed e = absurd (omega arith)
+    go Tested.Passed e = absurd (omega (arith, numbered why .0))
     go (Tested.Refused w) e = record { refusal = w; given = refl; number = e }
 
 -- the number 0 is said only where nothing is refused
-pub none-refused : (ts : List (Bool × Refusal)) → numbered ofTest ts ≡ true → testedNumber (firstTrue ts) ≡ 0 → firstTrue ts ≡ Tested.Passed
-unfolding numbered firstTrue testedNumber
-none-refused [] n e = refl
-none-refused (t ∷ ts) n e = let (a, b) = and-true (ltb 0 (numberOf (t .1))) (numbered ofTest ts) n in by-test (t .0)
-    (λ q. absurd (omega (arith, ltb-true 0 (numberOf (t .1)) a, ap testedNumber (stops t ts q), e)))
-    (λ q. goes-on t ts q ∙ none-refused ts b (ap testedNumber (sym (goes-on t ts q)) ∙ e))
+pub none-refused : (tested : Tested) → testedNumber tested ≡ 0 → tested ≡ Tested.Passed
+unfolding testedNumber
+none-refused Tested.Passed e = refl
+none-refused (Tested.Refused why) e = absurd (omega (arith, numbered why .0))

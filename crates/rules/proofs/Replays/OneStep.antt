@@ -37,7 +37,7 @@ unfolding answered
 answered-call Tested.Passed s after call said e = (refl, cc)
 answered-call (Tested.Refused why) s after call said e = let z : _≡_ {A = ℕ} 0 1 = cc in absurd (omega arith)
 
-pub answered-passed : (t : Tested) (s after : State) (call : Bool) → t ≡ Tested.Passed → answered t s after call .answer ≡ Answer.Accepted call
+answered-passed : (t : Tested) (s after : State) (call : Bool) → t ≡ Tested.Passed → answered t s after call .answer ≡ Answer.Accepted call
 unfolding answered
 answered-passed t s after call e = ap (λ t. answered t s after call .answer) e
 

@@ -41,7 +41,7 @@ crane : Plan
 crane = planOf (1 ∷ 3 ∷ 5 ∷ 7 ∷ []) (0x4_0005 ∷ 0xa_0003 ∷ []) (0x0000 ∷ 0x0100 ∷ 0x0101 ∷ 0x0002 ∷ [])
 
 -- the book of P1: contents, tasks, locks, uses, events
-book : List ℕ
+unfoldable pub book : List ℕ
 book =
     1 ∷ 0 ∷ 4 ∷ 0 ∷ 32 ∷ 0 ∷ 0 ∷ 0
     ∷ 2 ∷ 0 ∷ 2 ∷ 0 ∷ 40 ∷ 0 ∷ 0 ∷ 0

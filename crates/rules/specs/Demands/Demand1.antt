@@ -38,7 +38,7 @@ stepTests p s e = (not (soundTest p s), Unsound) ∷ allTests p (figuresOf s) (s
 -- what is asked of the answer r to event e in state s of plan p, all three of any kind. Refusals are numbered from 1; 0 says that nothing is refused
 pub record StepRefuses (p : Plan) (s : State) (e : Event) (r : Stepped) : Type 0 where
   -- a number is given exactly where its test holds and none before it does, and 0 exactly where no test holds
-  pub exactly : (why : Refusal) → 0 < numberOf why
+  pub exactly : (why : Refusal)
       → (answerNumber (r .answer) ≡ numberOf why)
       ↔ ((testFor why (stepTests p s e) ≡ true) × (firstTrue (testsBefore why (stepTests p s e)) ≡ Tested.Passed))
   pub accepts : (answerNumber (r .answer) ≡ 0) ↔ (firstTrue (stepTests p s e) ≡ Tested.Passed)
@@ -51,7 +51,7 @@ pub record StepRefuses (p : Plan) (s : State) (e : Event) (r : Stepped) : Type 0
 -- a number and a place are given exactly where the check of that number finds its first offender there and those before it find none; and 0 exactly where
 -- no check finds one
 pub record Judged (checks : List Check) (verdict : Verdict) : Type 0 where
-  pub exactly : (why : Refusal) (place : ℕ) → 0 < numberOf why
+  pub exactly : (why : Refusal) (place : ℕ)
       → ((verdictNumber verdict ≡ numberOf why) × (verdictPlace verdict ≡ place)) ↔ Offended why place checks
   pub passes : (verdictNumber verdict ≡ 0) ↔ ((why : Refusal) (place : ℕ) → Offended why place checks → ⊥)
 

@@ -81,7 +81,7 @@ module _ {p : Plan} (O : Obeys p) (es : List Event) (few : length es ≤ maxEven
 ran-text : (b : List ℕ) → checkOf b rowSpace ≡ Verdict.Passed → length (textOf b) ≤ reportSpace
 unfolding checkedAs verdictNumber
 ran-text b e = rw e (ran-fits (passed-obeys b rowSpace e) (eventsOf b) (few-events b (passed-contents b rowSpace e)) (replicate rowSpace 0) (ranOf b)
-    (ranOf b .state .head .accepted) (replayed b (replicate rowSpace 0) .ran (ap verdictNumber (rw rows-room e))))
+    (ranOf b .state .head .accepted) (replayed b (replicate rowSpace 0) .ran (rw rows-room (ap verdictNumber e))))
 
 -- no text is longer than the buffer, whatever the book
 pub text-fits : (b : List ℕ) → length (textOf b) ≤ reportSpace

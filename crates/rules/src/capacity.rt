@@ -1,5 +1,6 @@
-// RULES 2: how much the recorder holds. specs/Numbers/Capacity.antt names the same numbers; no other
-// file writes them.
+// RULES 2: how much the recorder holds. specs/Numbers/Capacity.antt names the same numbers for the
+// definitions, and include/recorder.h for C. That a set of locks has 32 bits and a row eight bytes is
+// the width of their numbers, in crates/figures.
 
 pub const MAX_TASKS: usize = 96;
 

@@ -1,4 +1,4 @@
-//! A book of full length over document 01's crane plan: its run P1 again and
+//! A book of full length over the crane plan (RULES 18): its run P1 again and
 //! again, with ticks at the end.
 
 use crate::ordinary::MOST_EVENTS;

@@ -1,4 +1,4 @@
--- RULES 2: how much the recorder holds. src/capacity.rt names the same numbers; no other file writes them. Assumes nothing.
+-- RULES 2: how much the recorder holds. src/capacity.rt names the same numbers for the code. Assumes nothing.
 use Prim.Native.Nat.{ℕ}
 
 -- the most tasks, locks and uses of a plan, and the most events of a book

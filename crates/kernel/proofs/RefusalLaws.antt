@@ -7,7 +7,6 @@ use native.Mathlib.Nat.{not-suc-le-zero}
 use native.Mathlib.Omega.{arith}
 use lib.Dec.{eqb, ltb}
 use borrow.Author.Tests.{eq-eqb, ne-eqb, lt-ltb, le-ltb}
-use Rattle.rules.specs.Numbers.Choice.{if_then_else_}
 use Rattle.rules.specs.Numbers.Place.{at}
 use Rattle.rules.specs.Numbers.Row.{newest, under}
 use Rattle.rules.specs.Numbers.Refusal.{firstTrue}

@@ -9,7 +9,6 @@ use Rattle.rules.specs.Numbers.Place.{at}
 use Rattle.rules.specs.Numbers.Answer.{verdictNumber}
 use Rattle.rules.specs.Books.Book.{planIn, eventsOf}
 use Rattle.rules.specs.Demands.Job.{Job}
-use Rattle.rules.specs.declared.plan.Plan.{Plan}
 use Rattle.rules.specs.declared.answer.Replayed.{Replayed}
 use Rattle.scheduler.proofs.replay.Reads as replay
 

@@ -8,7 +8,7 @@ use Rattle.rules.specs.Numbers.Place.{at}
 use Rattle.rules.specs.Numbers.Answer.{answerNumber, answerCalls, testedNumber}
 use Rattle.rules.specs.Schedulers.Eager.{eagerTest}
 use Rattle.rules.specs.Schedulers.Figures.{figuresOf, holds, rankOf}
-use Rattle.rules.specs.Demands.History.{eventAt, eagerAt, runnerAt, acceptedAt, callsDue, lazyCount, eagerCount, delayCount}
+use Rattle.rules.specs.Demands.History.{eventAt, eagerAt, runnerAt, acceptedAt, lazyCount, eagerCount, delayCount}
 use Rattle.rules.specs.Demands.Demand2.{NextWord, Outranked}
 use Rattle.rules.specs.declared.plan.Plan.{Plan}
 use Rattle.rules.specs.declared.state.State.{State}

@@ -21,22 +21,17 @@ use Rattle.rules.specs.declared.answer.Checked.{Checked}
 use Rattle.rules.specs.declared.answer.Replayed.{Replayed}
 use Rattle.rules.specs.declared.answer.Verdict.{Verdict}
 use Rattle.rules.proofs.Numbers.Place.{length-from, getD-tabulate, from-same}
-use Rattle.rules.proofs.Books.Passes.{passed-obeys}
+use Rattle.rules.proofs.Books.Passes.{verdict-held, passed-obeys}
 use Rattle.rules.proofs.Soundness.SoundKept.{fresh-sound}
 use Rattle.book.proofs.Accepted.{ends, records, rows-fit}
 use Rattle.book.proofs.EventWalk.{walks}
 use Rattle.scheduler.specs.Going.{untouchedAs, eventIn}
 
 module _ (b : List ℕ) (room : ℕ) where
-  -- the verdict of the check is the definition's
-  verdict-is : (v : Verdict) → checkedAs v b .verdict ≡ v
-  unfolding checkedAs
-  verdict-is Verdict.Passed = refl
-  verdict-is (Verdict.Refused why place) = refl
-
   module _ (c : Checked) (reads : c ≡ checkedOf b room) where
+    -- the verdict of the check is the definition's
     check-said : (v : Verdict) → c .verdict ≡ v → checkOf b room ≡ v
-    check-said v e = sym (verdict-is (checkOf b room)) ∙ ap (λ (k : Checked). k .verdict) (sym reads) ∙ e
+    check-said v e = sym (verdict-held (checkOf b room) b) ∙ ap (λ (k : Checked). k .verdict) (sym reads) ∙ e
 
     -- a refused book is left as it is
     book-refused : (why : Refusal) (place : ℕ) (rows : List ℕ) (r : Replayed) → length rows ≡ room → c .verdict ≡ Verdict.Refused why place

@@ -11,7 +11,7 @@ use Rattle.rules.specs.Numbers.Refusal.{numberOf, firstFault, checkFor}
 use Rattle.rules.specs.Numbers.Answer.{verdictNumber}
 use Rattle.rules.specs.Books.Plan.{Obeys, countFault}
 use Rattle.rules.specs.Books.Load.{countFaultOf, recordChecks, loadChecks}
-use Rattle.rules.specs.Books.Book.{countAt, tasksOf, locksOf, usesOf, planIn, contentsChecks, eventChecks, checkOf}
+use Rattle.rules.specs.Books.Book.{countAt, tasksOf, locksOf, usesOf, planIn, contentsChecks, eventChecks, checkOf, checkedAs}
 use Rattle.rules.specs.Demands.Demand1.{bookChecks}
 use Rattle.rules.specs.declared.refusal.Refusal.the-variants.{WrongCount}
 use Rattle.rules.specs.declared.answer.Verdict.{Verdict}
@@ -19,6 +19,12 @@ use Rattle.rules.proofs.Numbers.Place.{length-from}
 use Rattle.rules.proofs.Numbers.Order.{among, once}
 use Rattle.rules.proofs.Numbers.Checks.{ofCheck, clean-for, passed-both, spare-check, none-refused-at}
 use Rattle.rules.proofs.Books.Loaded.{loaded-obeys}
+
+-- the verdict that a check of a book holds
+pub verdict-held : (v : Verdict) (b : List ℕ) → checkedAs v b .verdict ≡ v
+unfolding checkedAs
+verdict-held Verdict.Passed b = refl
+verdict-held (Verdict.Refused why place) b = refl
 
 module _ (b : List ℕ) where
   counts-clean : firstFault (contentsChecks b) ≡ Verdict.Passed → (e : ℕ) → e < 3

@@ -10,7 +10,6 @@ use Rattle.rules.specs.Numbers.Refusal.{numberOf, firstTrue, Check, firs
 use Rattle.rules.specs.Numbers.Answer.{testedNumber, answerNumber, answerCalls, verdictNumber}
 use Rattle.rules.specs.Books.Load.{recordChecks, loadChecks, planOf, loadedAs, loadOf}
 use Rattle.rules.specs.Books.Book.{planIn, eventsOf, checkOf, checkedAs, checkedOf}
-use Rattle.rules.specs.Schedulers.Figures.{figuresOf}
 use Rattle.rules.specs.Schedulers.EventRefusals.{testsOf, releaseOrder, acquireOrder, unlockOrder, workOrder, finishOrder, refusalOf}
 use Rattle.rules.specs.Schedulers.Lazy.{wordsOf, lazyCall}
 use Rattle.rules.specs.Soundness.SoundTest.{soundTest}

@@ -1,7 +1,7 @@
 -- The tests of a task, of a lock and of the head are their parts' tests. Assumes nothing.
 use mathlib.Core.Path.{_≡_, sym, _∙_, ap, ap₂}
 use mathlib.Core.Bool.{Bool, true, false, not}
-use mathlib.Core.List.{[], _∷_}
+use mathlib.Core.List.{List, [], _∷_}
 use Prim.Native.Nat.{ℕ, _≤_, _<_}
 use lib.Dec.{eqb, leb}
 use borrow.Author.Tests.{eq-eqb, ne-eqb, lt-leb, le-leb, not-true, not-false}
@@ -12,13 +12,15 @@ use Rattle.rules.specs.Numbers.Place.{at, every, greatest, zeros}
 use Rattle.rules.specs.Numbers.Row.{priority, saves}
 use Rattle.rules.specs.Schedulers.Figures.{figuresOf, priorityOf, rankOf}
 use Rattle.rules.specs.Schedulers.Lazy.{wordsOf}
-use Rattle.rules.specs.Soundness.Sound.{keptOf, savedOf, ownerOf}
+use Rattle.rules.specs.Soundness.Sound.{keptOf, savedOf}
 use Rattle.rules.specs.Soundness.SoundTest.{obeys, rowTest, ownTest, numberTest, taskTest, lockTest, runsTest, headTest, spareTest, soundTest}
 use Rattle.rules.specs.declared.plan.Plan.{Plan}
 use Rattle.rules.specs.declared.state.State.{State}
 use Rattle.rules.proofs.Books.Obeyed.{few-tasks, few-locks}
 use Rattle.rules.proofs.Soundness.SoundTest.{obeys-so}
-use Rattle.rules.proofs.Numbers.Choice.{if-true, if-false, all-fails, all-next}
+use Rattle.rules.proofs.Numbers.Choice.{if-true, if-false, all-fails, all-next, untrue, not-so, Each, all-so, so-all}
+use Rattle.sound.specs.Lent.{ownerNamed, lockNamed}
+use Rattle.sound.proofs.Owners.{same-test, locks-named}
 
 -- a task's priority and its saved words, from its base as a word
 module _ (p : Plan) (s : State) (x base r : ℕ) (read : base ≡ at (p .base) x) where
@@ -62,11 +64,11 @@ module _ (p : Plan) (s : State) (x h : ℕ) (opened : h ≡ at (s .depth) x) whe
   task-parts r a b c d e f row l q t A B C D E F =
       rw (← opened, ← t, ← A, ← B, ← C, ← D, ← E, ← F) (all-next (leb h maxOpen) r _ (le-leb h maxOpen l) q)
 
-pub lock-parts : (p : Plan) (s : State) (l o : ℕ) (r : Bool) → o ≡ ownerOf (figuresOf s) (p .tasks) l
-    → r ≡ allTrue (eqb (at (s .owner) l) o ∷ leb (at (s .units) l) (at (p .limit) l) ∷ (if eqb (at (s .owner) l) 0 then eqb (at (s .units) l) 0 else true) ∷ [])
-    → r ≡ lockTest p (figuresOf s) (wordsOf s) l
-unfolding lockTest
-lock-parts p s l o r e h = rw (← e) h
+pub lock-parts : (n : ℕ) (limit depth takes units owner : List ℕ) (l o : ℕ) (r named : Bool) → o ≡ at owner l → named ≡ ownerNamed n depth takes o l
+    → r ≡ allTrue (named ∷ leb (at units l) (at limit l) ∷ (if eqb o 0 then eqb (at units l) 0 else true) ∷ [])
+    → r ≡ lockNamed n limit depth takes units owner l
+unfolding lockNamed
+lock-parts n limit depth takes units owner l o r named q e h = rw (← q, ← e) h
 
 pub head-parts : (p : Plan) (s : State) (r runs : Bool) (user next : ℕ)
     → r ≡ allTrue (leb (s .head .accepted) maxAccepted ∷ leb (s .head .eager) (s .head .accepted) ∷ leb (s .head .lazy) (s .head .accepted) ∷ runs ∷ eqb
@@ -92,13 +94,42 @@ obeyed-tasks p r e h = few-tasks (obeys-so p (sym e ∙ not-false r h))
 pub obeyed-locks : (p : Plan) (r : Bool) → r ≡ obeys p → not r ≡ false → p .locks ≤ maxLocks
 obeyed-locks p r e h = few-locks (obeys-so p (sym e ∙ not-false r h))
 
+-- what a sound state's tests say
+sound-so : (p : Plan) (s : State) → soundTest p s ≡ true → (obeys p ≡ true) × (headTest p (figuresOf s) (wordsOf s) ≡ true)
+    × (every (taskTest p (figuresOf s) (wordsOf s)) (p .tasks) ≡ true) × (every (lockTest p (figuresOf s) (wordsOf s)) (p .locks) ≡ true)
+    × (spareTest p s ≡ true)
+unfolding soundTest Each
+sound-so p s e = let (a, (b, (c, (d, (g, _))))) = all-so _ e in (a, b, c, d, g)
+
+unsound : (p : Plan) (s : State) → (soundTest p s ≡ true → ⊥) → false ≡ soundTest p s
+unsound p s h = sym (not-so (soundTest p s) h)
+
+-- the tests one after the other, each with what those before it said
 module _ (p : Plan) (s : State) (o : Bool) (obeyed : o ≡ obeys p) where
   pub sound-lawless : not o ≡ true → false ≡ soundTest p s
-  unfolding soundTest
-  sound-lawless h = all-fails (obeys p) _ (sym obeyed ∙ not-true o h)
+  sound-lawless h = unsound p s (λ e. untrue (sym (sound-so p s e .0) ∙ sym obeyed ∙ not-true o h))
 
-  pub sound-parts : (r a b c d : Bool) → not o ≡ false → r ≡ allTrue (a ∷ b ∷ c ∷ d ∷ []) → a ≡ headTest p (figuresOf s) (wordsOf s)
-      → b ≡ every (taskTest p (figuresOf s) (wordsOf s)) (p .tasks) → c ≡ every (lockTest p (figuresOf s) (wordsOf s)) (p .locks) → d ≡ spareTest p s
-      → r ≡ soundTest p s
-  unfolding soundTest
-  sound-parts r a b c d h q A B C D = rw (← A, ← B, ← C, ← D) (all-next (obeys p) r _ (sym obeyed ∙ not-false o h) q)
+  module _ (u : Bool) (spare : u ≡ spareTest p s) where
+    pub sound-used : not u ≡ true → false ≡ soundTest p s
+    sound-used h = unsound p s (λ e. untrue (sym (sound-so p s e .4) ∙ sym spare ∙ not-true u h))
+
+    module _ (t : Bool) (tasks : t ≡ every (taskTest p (figuresOf s) (wordsOf s)) (p .tasks)) where
+      pub sound-tasks : not t ≡ true → false ≡ soundTest p s
+      sound-tasks h = unsound p s (λ e. untrue (sym (sound-so p s e .2) ∙ sym tasks ∙ not-true t h))
+
+      module _ (pass : not t ≡ false) (k : Bool)
+          (locks : k ≡ every (lockNamed (p .tasks) (p .limit) (s .depth) (s .takes) (s .units) (s .owner)) (p .locks)) where
+        locked : k ≡ every (lockTest p (figuresOf s) (wordsOf s)) (p .locks)
+        locked = locks ∙ locks-named p s (sym tasks ∙ not-false t pass)
+
+        pub sound-locks : not k ≡ true → false ≡ soundTest p s
+        sound-locks h = unsound p s (λ e. untrue (sym (sound-so p s e .3) ∙ sym locked ∙ not-true k h))
+
+        pub sound-parts : (r : Bool) → not o ≡ false → not u ≡ false → not k ≡ false → r ≡ headTest p (figuresOf s) (wordsOf s) → r ≡ soundTest p s
+        unfolding soundTest Each
+        sound-parts r a b c q = same-test r (soundTest p s)
+            (λ e. so-all _ (
+              sym obeyed ∙ not-false o a,
+              (sym q ∙ e, (sym tasks ∙ not-false t pass, (sym locked ∙ not-false k c, (sym spare ∙ not-false u b, tt)))),
+            ))
+            (λ e. q ∙ sound-so p s e .1)

@@ -1,4 +1,5 @@
-// RULES 8: the test of soundness that stands before every step of a state that is handed in.
+// RULES 8: the test of soundness that stands before every step of a state that is handed in. The plan
+// and the state are taken apart once, and each part is lent the arrays that it asks.
 mod all;
 mod head;
 mod lock;
@@ -20,10 +21,19 @@ pub fn sound(p: Plan, s: State) -> bool
     if !obeys(p) {
         return false;
     }
-    all::all_four(
-        head::head_sound(p, s),
-        task::tasks_sound(p, s),
-        lock::locks_sound(p, s),
-        unused::unused_sound(p, s),
-    )
+    if !unused::unused_sound(p, s) {
+        return false;
+    }
+    if !task::tasks_sound(p, s) {
+        return false;
+    }
+    let limit = p.limit;
+    let depth = s.depth;
+    let takes = s.takes;
+    let units = s.units;
+    let owner = s.owner;
+    if !lock::locks_sound(p.tasks, p.locks, &limit, &depth, &takes, &units, &owner) {
+        return false;
+    }
+    head::head_sound(p, s)
 }

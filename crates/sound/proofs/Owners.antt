@@ -10,33 +10,23 @@ use native.Mathlib.Omega.{arith}
 use lib.Dec.{eqb, leb}
 use borrow.Author.Tests.{eqb-true, leb-true, le-leb, eq-eqb, ne-eqb}
 use Rattle.rules.specs.Numbers.Choice.{if_then_else_}
-use Rattle.rules.specs.Numbers.Place.{at, every}
+use Rattle.rules.specs.Numbers.Place.{at}
 use Rattle.rules.specs.Numbers.Row.{under, has}
-use Rattle.rules.specs.Schedulers.Figures.{Figures, figuresOf, holds}
-use Rattle.rules.specs.Schedulers.Lazy.{wordsOf}
+use Rattle.rules.specs.Schedulers.Figures.{Figures, holds}
 use Rattle.rules.specs.Soundness.Sound.{ownerOf}
-use Rattle.rules.specs.Soundness.SoundTest.{ownTest, taskTest, lockTest}
-use Rattle.rules.specs.declared.plan.Plan.{Plan}
-use Rattle.rules.specs.declared.state.State.{State}
+use Rattle.rules.specs.Soundness.SoundTest.{ownTest}
 use Rattle.rules.proofs.Numbers.Choice.{if-true, if-false, if-yes, if-no, by-test, untrue, not-so, lt-or-le, Each, all-so}
-use Rattle.rules.proofs.Numbers.Place.{every-true}
 use Rattle.rules.proofs.Numbers.Row.{has-none, has-cases}
 use Rattle.rules.proofs.Schedulers.WordsKept.{owner-none, owner-some}
-use Rattle.sound.specs.Lent.{ownerNamed, lockNamed}
+use Rattle.sound.specs.Lent.{ownerNamed}
 
 -- two tests that hold where the other does are the same
 pub same-test : (a b : Bool) → (a ≡ true → b ≡ true) → (b ≡ true → a ≡ true) → a ≡ b
 same-test true b f g = sym (f refl)
 same-test false b f g = sym (not-so b (λ e. untrue (sym (g e))))
 
--- what is the same below n is the same for every one of them
-pub every-same : (f g : ℕ → Bool) (n : ℕ) → ((x : ℕ) → x < n → f x ≡ g x) → every f n ≡ every g n
-unfolding every
-every-same f g zero h = refl
-every-same f g (suc k) h = rw (every-same f g k (λ x l. h x (omega arith)), h k (omega arith))
-
 -- each lock of a row has task x for its owner
-own-so : (owner : List ℕ) (x row k : ℕ) → ownTest owner x row k ≡ true → (l : ℕ) → has row k l ≡ true → at owner l ≡ suc x
+pub own-so : (owner : List ℕ) (x row k : ℕ) → ownTest owner x row k ≡ true → (l : ℕ) → has row k l ≡ true → at owner l ≡ suc x
 unfolding ownTest Each
 own-so owner x row zero e l h = untrue (sym h ∙ has-none row l)
 own-so owner x row (suc k) e l h =
@@ -83,26 +73,10 @@ module _ (f : Figures) (l : ℕ) where
   named-none n = if-true (eqb 0 0) true (if leb 0 n then has (at (f .takes) 0) (at (f .depth) 0) l else false) refl
 
   -- the one that is named is the owner exactly where it has it open
-  named-owner : (n o : ℕ) → ((x : ℕ) → x < n → holds f x l ≡ true → o ≡ suc x)
+  pub named-owner : (n o : ℕ) → ((x : ℕ) → x < n → holds f x l ≡ true → o ≡ suc x)
       → ownerNamed n (f .depth) (f .takes) o l ≡ eqb o (ownerOf f n l)
   named-owner n zero own = named-none n
       ∙ sym (eq-eqb 0 (ownerOf f n l) (sym (owner-none f l n (λ x q. not-so (holds f x l) (λ h. omega (arith, own x q h))))))
   named-owner n (suc y) own = same-test (ownerNamed n (f .depth) (f .takes) (suc y) l) (eqb (suc y) (ownerOf f n l))
       (λ e. let (q, h) = named-some n y e in eq-eqb _ _ (sym (owner-held y n q h (λ x i g. omega (arith, own x i g)))))
       (λ e. let (q, h) = owner-some f l n y (sym (eqb-true (suc y) (ownerOf f n l) e)) in some-named n y q h)
-
-module _ (p : Plan) (s : State) (right : every (taskTest p (figuresOf s) (wordsOf s)) (p .tasks) ≡ true) where
-  mine : (x l : ℕ) → x < p .tasks → holds (figuresOf s) x l ≡ true → at (s .owner) l ≡ suc x
-  unfolding taskTest holds Each
-  mine x l q h =
-      let (_, (_, (o, _))) = all-so _ (every-true (taskTest p (figuresOf s) (wordsOf s)) (p .tasks) right x q) in
-      own-so (s .owner) x (at (s .takes) x) (at (s .depth) x) o l h
-
-  lock-named : (l : ℕ) → lockNamed (p .tasks) (p .limit) (s .depth) (s .takes) (s .units) (s .owner) l ≡ lockTest p (figuresOf s) (wordsOf s) l
-  unfolding lockNamed lockTest
-  lock-named l = rw (named-owner (figuresOf s) l (p .tasks) (at (s .owner) l) (λ x q h. mine x l q h))
-
-  -- so where the tasks are sound the locks are tested as the rules say
-  pub locks-named : every (lockNamed (p .tasks) (p .limit) (s .depth) (s .takes) (s .units) (s .owner)) (p .locks)
-      ≡ every (lockTest p (figuresOf s) (wordsOf s)) (p .locks)
-  locks-named = every-same _ _ (p .locks) (λ l q. lock-named l)

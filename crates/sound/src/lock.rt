@@ -11,7 +11,7 @@ ghost use lib.Dec.{eqb, leb};
 ghost use Rattle.rules.specs.Numbers.Capacity.{maxLocks, maxTasks};
 ghost use Rattle.rules.specs.Numbers.Choice.{if_then_else_, allTrue};
 ghost use Rattle.rules.specs.Numbers.Place.{every};
-ghost use Rattle.sound.specs.Lent.{lockNamed, ownerNamed};
+ghost use Rattle.sound.specs.Lent.{lockBy, ownerNamed};
 
 // Nobody is named, or one of the first n tasks that has lock l open.
 fn owner_named(
@@ -61,7 +61,7 @@ fn lock_sound(
     l: usize,
 ) -> bool
     requires { ⌜ (n ≤ maxTasks) × (l < maxLocks) ⌝ }
-    ensures { λ r. ⌜ r ≡ lockNamed n
+    ensures { λ r. ⌜ r ≡ lockBy n
         (now (limit .entry)) (now (depth .entry)) (now (takes .entry)) (now (units .entry)) (now (owner .entry)) l ⌝ }
 {
     let o = owner[l];
@@ -79,7 +79,7 @@ pub fn locks_sound(
     owner: &[u8; MAX_LOCKS],
 ) -> bool
     requires { ⌜ (n ≤ maxTasks) × (m ≤ maxLocks) ⌝ }
-    ensures { λ r. ⌜ r ≡ every (lockNamed n
+    ensures { λ r. ⌜ r ≡ every (lockBy n
         (now (limit .entry)) (now (depth .entry)) (now (takes .entry)) (now (units .entry)) (now (owner .entry))) m ⌝ }
 {
     let mut l: usize = 0;

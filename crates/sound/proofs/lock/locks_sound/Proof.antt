@@ -2,13 +2,13 @@
 use Prim.Native.Nat.{_-_}
 use Rattle.rules.proofs.Numbers.Place.{AllSoFar, every-start, every-next, every-fails, every-ends}
 use Rattle.rules.proofs.Numbers.Choice.{flags}
-use Rattle.sound.specs.Lent.{lockNamed}
+use Rattle.sound.specs.Lent.{lockBy}
 use borrow.Author.Needs.{needs}
 use Rattle.sound.proofs.lock.locks_sound.Statement.{statement}
 use Rattle.sound.proofs.lock.locks_sound.Tie as tie
 
 abbrev Inv-loop : tie.InvT-loop
-Inv-loop n m limit depth takes units owner l₀ l = AllSoFar (lockNamed n limit depth takes units owner) m l
+Inv-loop n m limit depth takes units owner l₀ l = AllSoFar (lockBy n limit depth takes units owner) m l
 
 abbrev μ-loop : tie.MeasureT-loop
 μ-loop n m limit depth takes units owner l₀ l = m - l

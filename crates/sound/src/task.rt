@@ -17,6 +17,7 @@ use rules::capacity::MAX_OPEN;
 use rules::capacity::MAX_TASKS;
 use rules::priority::UserPriority;
 ghost use mathlib.Core.Path.{_≡_};
+ghost use mathlib.Core.Bool.{_&&_, not};
 ghost use Prim.Native.Nat.{_≤_, _<_};
 ghost use lib.Dec.{eqb};
 ghost use lib.ListN.{length};
@@ -78,19 +79,29 @@ fn owner_at(owner: &[u8; MAX_LOCKS], l: u8) -> usize
     0
 }
 
-// No task before x has the release number y.
+// Whether a is another number than y, where all before it are.
+fn also_new(new: bool, a: u32, y: u32) -> bool
+    ensures { λ r. ⌜ r ≡ (new && not (eqb a y)) ⌝ }
+{
+    if a == y {
+        return false;
+    }
+    new
+}
+
+// No task before x has the release number y. All are asked, with no way out: so the compiler asks
+// several at once.
 fn number_new(released: &[u32; MAX_TASKS], y: u32, x: usize) -> bool
     requires { ⌜ (length (now released) ≡ maxTasks) × (x ≤ maxTasks) ⌝ }
     ensures { λ r. ⌜ r ≡ numberNew (now (released .entry)) y x ⌝ }
 {
+    let mut new = true;
     let mut z: usize = 0;
     while z < x {
-        if released[z] == y {
-            return false;
-        }
+        new = also_new(new, released[z], y);
         z += 1;
     }
-    true
+    new
 }
 
 // A task is not released and has no lock open, or its release number is in range and no earlier

@@ -1,4 +1,6 @@
 -- The ways through the test of soundness.
 mod Rows
-mod Holders
+mod Numbered
+mod Owners
 mod Parts
+mod Whole

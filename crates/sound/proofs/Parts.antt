@@ -1,104 +1,90 @@
 -- The tests of a task, of a lock and of the head are their parts' tests. Assumes nothing.
-use mathlib.Core.Path.{_≡_, sym, _∙_, ap, ap₂}
+use mathlib.Core.Path.{_≡_, refl, sym, _∙_, ap, ap₂}
 use mathlib.Core.Bool.{Bool, true, false, not}
-use mathlib.Core.List.{[], _∷_}
+use mathlib.Core.List.{List, [], _∷_}
 use Prim.Native.Nat.{ℕ, _≤_, _<_}
-use lib.Dec.{eqb, leb}
-use borrow.Author.Tests.{eq-eqb, ne-eqb, lt-leb, le-leb, not-true, not-false}
-use Rattle.rules.specs.Numbers.Capacity.{maxTasks, maxLocks, maxOpen, maxDelay, maxAccepted}
+use native.Mathlib.Omega.{arith}
+use lib.Dec.{eqb, leb, ltb}
+use lib.ListN.{length, drop}
+use borrow.Author.Tests.{lt-ltb, le-ltb, lt-leb, le-leb, not-true, not-false}
+use Rattle.rules.specs.Numbers.Capacity.{maxTasks, maxOpen, maxDelay, maxAccepted}
 use Rattle.rules.specs.Numbers.Choice.{if_then_else_, allTrue}
-use lib.ListN.{drop}
-use Rattle.rules.specs.Numbers.Place.{at, every, greatest, zeros}
+use Rattle.rules.specs.Numbers.Place.{at, greatest, zeros}
 use Rattle.rules.specs.Numbers.Row.{priority, saves}
-use Rattle.rules.specs.Schedulers.Figures.{figuresOf, priorityOf, rankOf}
-use Rattle.rules.specs.Schedulers.Lazy.{wordsOf}
-use Rattle.rules.specs.Soundness.Sound.{keptOf, savedOf, ownerOf}
-use Rattle.rules.specs.Soundness.SoundTest.{obeys, rowTest, ownTest, numberTest, taskTest, lockTest, runsTest, headTest, spareTest, soundTest}
-use Rattle.rules.specs.declared.plan.Plan.{Plan}
-use Rattle.rules.specs.declared.state.State.{State}
-use Rattle.rules.proofs.Books.Obeyed.{few-tasks, few-locks}
-use Rattle.rules.proofs.Soundness.SoundTest.{obeys-so}
-use Rattle.rules.proofs.Numbers.Choice.{if-true, if-false, all-fails, all-next}
+use Rattle.rules.specs.Soundness.SoundTest.{rowTest, ownTest, numberTest, runsTest}
+use Rattle.rules.specs.declared.state.Head.{Head}
+use Rattle.rules.proofs.Numbers.Choice.{if-true, if-false, if-yes, if-no, all-fails, all-next}
+use Rattle.rules.proofs.Numbers.Place.{none-past}
+use Rattle.sound.specs.Lent.{rankBy, keptBy, taskBy, ownerNamed, lockBy, headBy, spareBy}
 
--- a task's priority and its saved words, from its base as a word
-module _ (p : Plan) (s : State) (x base r : ℕ) (read : base ≡ at (p .base) x) where
-  pub row-ranks : r ≡ priority (at (p .ceiling)) base (at (s .takes) x) (at (s .depth) x) → r ≡ priorityOf p (figuresOf s) x
-  unfolding priorityOf
-  row-ranks e = e ∙ ap (λ b. priority (at (p .ceiling)) b (at (s .takes) x) (at (s .depth) x)) read
+-- ---- a task's words
 
-  pub row-saved : r ≡ saves (at (p .ceiling)) base (at (s .takes) x) (at (s .depth) x) → r ≡ savedOf p (figuresOf s) x
-  unfolding savedOf
-  row-saved e = e ∙ ap (λ b. saves (at (p .ceiling)) b (at (s .takes) x) (at (s .depth) x)) read
+-- b is its base as a word
+module _ (ceiling : List ℕ) (base number row k b r : ℕ) where
+  pub rank-released : 0 < number → b ≡ base → r ≡ priority (at ceiling) b row k → r ≡ rankBy ceiling base number row k
+  unfolding rankBy
+  rank-released h q e = if-yes (ltb 0 number) _ 0 r (lt-ltb 0 number h) (e ∙ ap (λ v. priority (at ceiling) v row k) q)
 
--- a task's record is its word, where it does not run
-pub kept-runs : (p : Plan) (s : State) (x : ℕ) → x ≡ s .head .running → 0 ≡ keptOf p (figuresOf s) (s .head .running) x
-unfolding keptOf
-kept-runs p s x h = sym (if-true (eqb x (s .head .running)) 0 (rankOf p (figuresOf s) x) (eq-eqb x (s .head .running) h))
+  pub saved-compared : (saved : ℕ) → b ≡ base → r ≡ saves (at ceiling) b row k → eqb saved r ≡ eqb saved (saves (at ceiling) base row k)
+  saved-compared saved q e = ap (eqb saved) (e ∙ ap (λ v. saves (at ceiling) v row k) q)
 
-pub kept-waits : (p : Plan) (s : State) (x word k : ℕ) → (x ≡ s .head .running → ⊥) → word ≡ rankOf p (figuresOf s) x → k ≡ word
-    → k ≡ keptOf p (figuresOf s) (s .head .running) x
-unfolding keptOf
-kept-waits p s x word k h w q = q ∙ w ∙ sym (if-false (eqb x (s .head .running)) 0 (rankOf p (figuresOf s) x) (ne-eqb x (s .head .running) h))
+module _ (ceiling : List ℕ) (base number row k : ℕ) where
+  pub rank-resting : number ≤ 0 → 0 ≡ rankBy ceiling base number row k
+  unfolding rankBy
+  rank-resting h = if-no (ltb 0 number) _ 0 0 (le-ltb 0 number h) refl
 
--- a figure is compared with what the rules give
-pub compared : (a b v : ℕ) → b ≡ v → eqb a b ≡ eqb a v
-compared a b v e = ap (eqb a) e
+-- nobody has a rank
+pub rank-nobody : (ceiling released : List ℕ) (base x row k : ℕ) → length released ≡ maxTasks → maxTasks ≤ x → 0 ≡ rankBy ceiling base (at released x) row k
+rank-nobody ceiling released base x row k e h =
+    rank-resting ceiling base (at released x) row k (omega (arith, none-past released maxTasks x e h))
 
--- a record is compared with the one that the rules give
-pub compared-records : (a b c v : ℕ) (r : Bool) → c ≡ a → b ≡ v → r ≡ eqb c b → r ≡ eqb a v
-compared-records a b c v r e f q = q ∙ ap₂ eqb e f
+-- the record of a task that runs, and of another: it is its word
+pub kept-runs : (kept rank : ℕ) (runs : Bool) → runs ≡ true → eqb kept 0 ≡ eqb kept (keptBy runs rank)
+kept-runs kept rank runs e = ap (eqb kept) (sym (if-true runs 0 rank e))
 
-module _ (p : Plan) (s : State) (x h : ℕ) (opened : h ≡ at (s .depth) x) where
-  pub task-deep : maxOpen < h → false ≡ taskTest p (figuresOf s) (wordsOf s) x
-  unfolding taskTest
-  task-deep l = rw (← opened) (all-fails (leb h maxOpen) _ (lt-leb h maxOpen l))
+pub kept-waits : (kept rank a b : ℕ) (runs r : Bool) → runs ≡ false → a ≡ kept → b ≡ rank → r ≡ eqb a b → r ≡ eqb kept (keptBy runs rank)
+kept-waits kept rank a b runs r e p q h = h ∙ ap₂ eqb p (q ∙ sym (if-false runs 0 rank e))
 
-  pub task-parts : (r a b c d e f : Bool) (row : ℕ) → h ≤ maxOpen → r ≡ allTrue (a ∷ b ∷ c ∷ d ∷ e ∷ f ∷ []) → row ≡ at (s .takes) x
-      → a ≡ rowTest (p .locks) (at (p .uses) x) row h → b ≡ ownTest (s .owner) x row h → c ≡ numberTest (s .head .accepted) (s .released) h x
-      → d ≡ leb (at (s .delay) x) maxDelay → e ≡ eqb (at (s .kept) x) (keptOf p (figuresOf s) (s .head .running) x)
-      → f ≡ eqb (at (s .saved) x) (savedOf p (figuresOf s) x)
-      → r ≡ taskTest p (figuresOf s) (wordsOf s) x
-  unfolding taskTest
-  task-parts r a b c d e f row l q t A B C D E F =
-      rw (← opened, ← t, ← A, ← B, ← C, ← D, ← E, ← F) (all-next (leb h maxOpen) r _ (le-leb h maxOpen l) q)
+-- ---- by their parts
 
-pub lock-parts : (p : Plan) (s : State) (l o : ℕ) (r : Bool) → o ≡ ownerOf (figuresOf s) (p .tasks) l
-    → r ≡ allTrue (eqb (at (s .owner) l) o ∷ leb (at (s .units) l) (at (p .limit) l) ∷ (if eqb (at (s .owner) l) 0 then eqb (at (s .units) l) 0 else true) ∷ [])
-    → r ≡ lockTest p (figuresOf s) (wordsOf s) l
-unfolding lockTest
-lock-parts p s l o r e h = rw (← e) h
+module _ (accepted running m : ℕ) (base ceiling uses released kept delay depth takes saved owner : List ℕ) (x k : ℕ) (opened : k ≡ at depth x) where
+  pub task-deep : maxOpen < k → false ≡ taskBy accepted running m base ceiling uses released kept delay depth takes saved owner x
+  unfolding taskBy
+  task-deep l = rw (← opened) (all-fails (leb k maxOpen) _ (lt-leb k maxOpen l))
 
-pub head-parts : (p : Plan) (s : State) (r runs : Bool) (user next : ℕ)
-    → r ≡ allTrue (leb (s .head .accepted) maxAccepted ∷ leb (s .head .eager) (s .head .accepted) ∷ leb (s .head .lazy) (s .head .accepted) ∷ runs ∷ eqb
-    (s .head .user .0) user ∷ eqb (s .head .next .0) next ∷ [])
-    → runs ≡ runsTest (s .released) (p .tasks) (s .head .running) → user ≡ rankOf p (figuresOf s) (s .head .running)
-    → next ≡ greatest (keptOf p (figuresOf s) (s .head .running)) (p .tasks) → r ≡ headTest p (figuresOf s) (wordsOf s)
-unfolding headTest
-head-parts p s r runs user next h a b c = rw (← a, ← b, ← c) h
+  pub task-parts : (r a b c d e f : Bool) (row rank : ℕ) → k ≤ maxOpen → r ≡ allTrue (a ∷ b ∷ c ∷ d ∷ e ∷ f ∷ []) → row ≡ at takes x
+      → a ≡ rowTest m (at uses x) row k → b ≡ ownTest owner x row k → c ≡ numberTest accepted released k x → d ≡ leb (at delay x) maxDelay
+      → rank ≡ rankBy ceiling (at base x) (at released x) row k → e ≡ eqb (at kept x) (keptBy (eqb x running) rank)
+      → f ≡ eqb (at saved x) (saves (at ceiling) (at base x) row k)
+      → r ≡ taskBy accepted running m base ceiling uses released kept delay depth takes saved owner x
+  unfolding taskBy
+  task-parts r a b c d e f row rank l q t A B C D R E F =
+      rw (← opened, ← t, ← A, ← B, ← C, ← D, ← R, ← E, ← F) (all-next (leb k maxOpen) r _ (le-leb k maxOpen l) q)
 
-pub unused-parts : (p : Plan) (s : State) (r a b c d e f g h : Bool) → r ≡ allTrue (a ∷ b ∷ c ∷ d ∷ e ∷ f ∷ g ∷ h ∷ [])
-    → a ≡ zeros (drop (p .tasks) (s .released)) → b ≡ zeros (drop (p .tasks) (s .kept)) → c ≡ zeros (drop (p .tasks) (s .delay))
-    → d ≡ zeros (drop (p .tasks) (s .depth))
-    → e ≡ zeros (drop (p .tasks) (s .takes)) → f ≡ zeros (drop (p .tasks) (s .saved)) → g ≡ zeros (drop (p .locks) (s .units))
-    → h ≡ zeros (drop (p .locks) (s .owner))
-    → r ≡ spareTest p s
-unfolding spareTest
-unused-parts p s r a b c d e f g h q A B C D E F G H = rw (← A, ← B, ← C, ← D, ← E, ← F, ← G, ← H) q
+pub lock-parts : (n : ℕ) (limit depth takes units owner : List ℕ) (l o : ℕ) (r named : Bool) → o ≡ at owner l → named ≡ ownerNamed n depth takes o l
+    → r ≡ allTrue (named ∷ leb (at units l) (at limit l) ∷ (if eqb o 0 then eqb (at units l) 0 else true) ∷ [])
+    → r ≡ lockBy n limit depth takes units owner l
+unfolding lockBy
+lock-parts n limit depth takes units owner l o r named q e h = rw (← q, ← e) h
 
--- a plan that obeys the rules has no more tasks and locks than there are places
-pub obeyed-tasks : (p : Plan) (r : Bool) → r ≡ obeys p → not r ≡ false → p .tasks ≤ maxTasks
-obeyed-tasks p r e h = few-tasks (obeys-so p (sym e ∙ not-false r h))
+module _ (h : Head) (n : ℕ) (base ceiling released kept depth takes : List ℕ) (t : Bool) (runs : t ≡ runsTest released n (h .running)) where
+  pub head-idle : not t ≡ true → false ≡ headBy h n base ceiling released kept depth takes
+  unfolding headBy
+  head-idle q = rw (← runs) (all-fails t _ (not-true t q))
 
-pub obeyed-locks : (p : Plan) (r : Bool) → r ≡ obeys p → not r ≡ false → p .locks ≤ maxLocks
-obeyed-locks p r e h = few-locks (obeys-so p (sym e ∙ not-false r h))
+  pub head-parts : (r : Bool) (user next : ℕ) → not t ≡ false
+      → r ≡ allTrue
+      (leb (h .accepted) maxAccepted ∷ leb (h .eager) (h .accepted) ∷ leb (h .lazy) (h .accepted) ∷ eqb (h .user .0) user ∷ eqb (h .next .0) next ∷ [])
+      → user ≡ rankBy ceiling (at base (h .running)) (at released (h .running)) (at takes (h .running)) (at depth (h .running))
+      → next ≡ greatest (at kept) n → r ≡ headBy h n base ceiling released kept depth takes
+  unfolding headBy
+  head-parts r user next q e a b = rw (← runs, ← a, ← b) (all-next t r _ (not-false t q) e)
 
-module _ (p : Plan) (s : State) (o : Bool) (obeyed : o ≡ obeys p) where
-  pub sound-lawless : not o ≡ true → false ≡ soundTest p s
-  unfolding soundTest
-  sound-lawless h = all-fails (obeys p) _ (sym obeyed ∙ not-true o h)
-
-  pub sound-parts : (r a b c d : Bool) → not o ≡ false → r ≡ allTrue (a ∷ b ∷ c ∷ d ∷ []) → a ≡ headTest p (figuresOf s) (wordsOf s)
-      → b ≡ every (taskTest p (figuresOf s) (wordsOf s)) (p .tasks) → c ≡ every (lockTest p (figuresOf s) (wordsOf s)) (p .locks) → d ≡ spareTest p s
-      → r ≡ soundTest p s
-  unfolding soundTest
-  sound-parts r a b c d h q A B C D = rw (← A, ← B, ← C, ← D) (all-next (obeys p) r _ (sym obeyed ∙ not-false o h) q)
+pub unused-parts : (n m : ℕ) (released kept delay depth takes saved units owner : List ℕ) (r a b c d e f g h : Bool)
+    → r ≡ allTrue (a ∷ b ∷ c ∷ d ∷ e ∷ f ∷ g ∷ h ∷ [])
+    → a ≡ zeros (drop n released) → b ≡ zeros (drop n kept) → c ≡ zeros (drop n delay) → d ≡ zeros (drop n depth)
+    → e ≡ zeros (drop n takes) → f ≡ zeros (drop n saved) → g ≡ zeros (drop m units) → h ≡ zeros (drop m owner)
+    → r ≡ spareBy n m released kept delay depth takes saved units owner
+unfolding spareBy
+unused-parts n m released kept delay depth takes saved units owner r a b c d e f g h q A B C D E F G H =
+    rw (← A, ← B, ← C, ← D, ← E, ← F, ← G, ← H) q

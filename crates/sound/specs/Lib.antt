@@ -1,2 +1,2 @@
 -- RULES 8: what the code of this crate tells its own callers.
-pub mod Placed
+pub mod Lent

@@ -3,8 +3,8 @@ ghost use mathlib.Core.Path.{_≡_};
 ghost use mathlib.Core.List.{[], _∷_};
 ghost use Rattle.rules.specs.Numbers.Choice.{allTrue};
 
-pub fn all_four(a: bool, b: bool, c: bool, d: bool) -> bool
-    ensures { λ r. ⌜ r ≡ allTrue (a ∷ b ∷ c ∷ d ∷ []) ⌝ }
+pub fn all_five(a: bool, b: bool, c: bool, d: bool, e: bool) -> bool
+    ensures { λ r. ⌜ r ≡ allTrue (a ∷ b ∷ c ∷ d ∷ e ∷ []) ⌝ }
 {
     if !a {
         return false;
@@ -15,7 +15,10 @@ pub fn all_four(a: bool, b: bool, c: bool, d: bool) -> bool
     if !c {
         return false;
     }
-    d
+    if !d {
+        return false;
+    }
+    e
 }
 
 pub fn all_six(a: bool, b: bool, c: bool, d: bool, e: bool, f: bool) -> bool

@@ -1,29 +1,26 @@
 // Whether the counts, the running task and the two words are sound.
-use crate::all::all_six;
-use crate::rank::greatest_of;
-use crate::rank::priority_of;
+use crate::all::all_five;
+use crate::rank::greatest_kept;
+use crate::rank::rank_of;
 use figures::priority::same_record;
 use figures::priority::same_word;
 use rules::capacity::MAX_ACCEPTED;
+use rules::capacity::MAX_LOCKS;
 use rules::capacity::MAX_TASKS;
 use rules::capacity::NOBODY;
-use rules::plan::Plan;
 use rules::priority::KernelPriority;
 use rules::priority::UserPriority;
 use rules::state::Head;
-use rules::state::State;
 ghost use mathlib.Core.Path.{_≡_};
 ghost use mathlib.Core.List.{[], _∷_};
 ghost use Prim.Native.Nat.{_≤_};
 ghost use lib.Dec.{eqb, leb};
 ghost use lib.ListN.{length};
-ghost use Rattle.rules.specs.Numbers.Capacity.{maxAccepted, maxTasks};
+ghost use Rattle.rules.specs.Numbers.Capacity.{maxAccepted, maxLocks, maxTasks};
 ghost use Rattle.rules.specs.Numbers.Choice.{allTrue};
-ghost use Rattle.rules.specs.Schedulers.Figures.{figuresOf, rankOf};
-ghost use Rattle.rules.specs.Schedulers.Lazy.{wordsOf};
 ghost use Rattle.rules.specs.Numbers.Place.{at, every};
-ghost use Rattle.rules.specs.Soundness.SoundTest.{headTest, runsTest};
-ghost use Rattle.sound.specs.Placed.{Stands};
+ghost use Rattle.rules.specs.Soundness.SoundTest.{runsTest};
+ghost use Rattle.sound.specs.Lent.{headBy, rankBy};
 
 fn none_released(released: &[u32; MAX_TASKS], n: usize) -> bool
     requires { ⌜ (length (now released) ≡ maxTasks) × (n ≤ maxTasks) ⌝ }
@@ -54,38 +51,33 @@ fn runs_sound(released: &[u32; MAX_TASKS], n: usize, r: u8) -> bool
     0 < released[x]
 }
 
-// The release number at place x, and 0 where there is no such place.
-fn number_at(released: &[u32; MAX_TASKS], x: usize) -> u32
-    requires { ⌜ length (now released) ≡ maxTasks ⌝ }
-    ensures { λ r. ⌜ (r ≡ at (now (released .entry)) x) × Stands r x ⌝ }
+// The running task's rank, and 0 with nobody.
+fn running_rank(
+    running: u8,
+    base: &[u8; MAX_TASKS],
+    ceiling: &[u8; MAX_LOCKS],
+    released: &[u32; MAX_TASKS],
+    depth: &[u8; MAX_TASKS],
+    takes: &[u64; MAX_TASKS],
+) -> UserPriority
+    requires { ⌜ (length (now ceiling) ≡ maxLocks) × (length (now released) ≡ maxTasks) ⌝ }
+    ensures { λ r. ⌜ r .0 ≡ rankBy (now (ceiling .entry))
+        (at (now (base .entry)) running) (at (now (released .entry)) running) (at (now (takes .entry)) running) (at (now (depth .entry)) running) ⌝ }
 {
-    if x < MAX_TASKS {
-        return released[x];
+    let x = running as usize;
+    if MAX_TASKS <= x {
+        return UserPriority(0);
     }
-    0
+    rank_of(ceiling, base[x], released[x], takes[x], depth[x])
 }
 
-// The running task's priority, and 0 with nobody.
-fn running_rank(p: Plan, s: State) -> UserPriority
-    ensures { λ r. ⌜ r .0 ≡ rankOf p (figuresOf s) (s .head .running) ⌝ }
-{
-    let x = s.head.running as usize;
-    let released = s.released;
-    let number = number_at(&released, x);
-    if 0 < number {
-        return priority_of(p, s, x);
-    }
-    UserPriority(0)
-}
-
-// The counts are in range, the running task is one that may run, and both words are what they must be.
-fn head_fits(h: Head, runs: bool, user: UserPriority, next: KernelPriority) -> bool
+// The counts are in range, and both words are what they must be.
+fn head_fits(h: Head, user: UserPriority, next: KernelPriority) -> bool
     ensures { λ r. ⌜
         r ≡ allTrue
         (leb (h .accepted) maxAccepted
         ∷ leb (h .eager) (h .accepted)
         ∷ leb (h .lazy) (h .accepted)
-        ∷ runs
         ∷ eqb (h .user .0) (user .0)
         ∷ eqb (h .next .0) (next .0)
         ∷ [])
@@ -93,23 +85,34 @@ fn head_fits(h: Head, runs: bool, user: UserPriority, next: KernelPriority) -> b
 {
     let word = h.user;
     let second = h.next;
-    all_six(
+    all_five(
         h.accepted <= MAX_ACCEPTED,
         h.eager <= h.accepted,
         h.lazy <= h.accepted,
-        runs,
         same_word(word, user),
         same_record(second, next),
     )
 }
 
-pub fn head_sound(p: Plan, s: State) -> bool
-    requires { ⌜ p .tasks ≤ maxTasks ⌝ }
-    ensures { λ r. ⌜ r ≡ headTest p (figuresOf s) (wordsOf s) ⌝ }
+// Where every task is sound. Who may not run has no row that is asked for a rank: it may be too long.
+pub fn head_sound(
+    h: Head,
+    n: usize,
+    base: &[u8; MAX_TASKS],
+    ceiling: &[u8; MAX_LOCKS],
+    released: &[u32; MAX_TASKS],
+    kept: &[u8; MAX_TASKS],
+    depth: &[u8; MAX_TASKS],
+    takes: &[u64; MAX_TASKS],
+) -> bool
+    requires { ⌜ (n ≤ maxTasks) × (length (now ceiling) ≡ maxLocks) × (length (now released) ≡ maxTasks) ⌝ }
+    ensures { λ r. ⌜ r ≡ headBy h n
+        (now (base .entry)) (now (ceiling .entry)) (now (released .entry)) (now (kept .entry)) (now (depth .entry)) (now (takes .entry)) ⌝ }
 {
-    let released = s.released;
-    let runs = runs_sound(&released, p.tasks, s.head.running);
-    let user = running_rank(p, s);
-    let next = greatest_of(p, s);
-    head_fits(s.head, runs, user, next)
+    if !runs_sound(released, n, h.running) {
+        return false;
+    }
+    let user = running_rank(h.running, base, ceiling, released, depth, takes);
+    let next = greatest_kept(n, kept);
+    head_fits(h, user, next)
 }

@@ -1,6 +1,8 @@
-// RULES 8: the test of soundness that stands before every step of a state that is handed in.
+// RULES 8: the test of soundness that stands before every step of a state that is handed in. The plan
+// and the state are taken apart once, and each test is lent the arrays that it asks.
 mod all;
 mod head;
+mod lent;
 mod lock;
 mod priority;
 mod rank;
@@ -8,10 +10,20 @@ mod task;
 mod unused;
 
 use plan::obeys;
+use rules::capacity::MAX_LOCKS;
+use rules::capacity::MAX_TASKS;
 use rules::plan::Plan;
 use rules::state::State;
 ghost use mathlib.Core.Path.{_≡_};
+ghost use lib.ListN.{length};
+ghost use Rattle.rules.specs.Numbers.Capacity.{maxLocks, maxTasks};
 ghost use Rattle.rules.specs.Soundness.SoundTest.{soundTest};
+
+// An array has the places that its type says. This is said where the call that asks it stands far from
+// where the arrays are from.
+fn placed(ceiling: [u8; MAX_LOCKS], released: [u32; MAX_TASKS], owner: [u8; MAX_LOCKS])
+    ensures { λ _. ⌜ (length ceiling ≡ maxLocks) × (length released ≡ maxTasks) × (length owner ≡ maxLocks) ⌝ }
+{}
 
 // Whether every condition of soundness holds of any plan and any state.
 pub fn sound(p: Plan, s: State) -> bool
@@ -20,10 +32,35 @@ pub fn sound(p: Plan, s: State) -> bool
     if !obeys(p) {
         return false;
     }
-    all::all_four(
-        head::head_sound(p, s),
-        task::tasks_sound(p, s),
-        lock::locks_sound(p, s),
-        unused::unused_sound(p, s),
+    let base = p.base;
+    let ceiling = p.ceiling;
+    let limit = p.limit;
+    let uses = p.uses;
+    let head = s.head;
+    let released = s.released;
+    let kept = s.kept;
+    let delay = s.delay;
+    let depth = s.depth;
+    let takes = s.takes;
+    let saved = s.saved;
+    let units = s.units;
+    let owner = s.owner;
+    placed(ceiling, released, owner);
+    lent::parts_sound(
+        head,
+        p.tasks,
+        p.locks,
+        &base,
+        &ceiling,
+        &limit,
+        &uses,
+        &released,
+        &kept,
+        &delay,
+        &depth,
+        &takes,
+        &saved,
+        &units,
+        &owner,
     )
 }

@@ -1,57 +1,45 @@
-// Whether the figures of one lock are sound.
+// Whether the figures of one lock are sound. That each task has its open locks in its own name is
+// tested with the tasks; so of a lock only the task that is named for it is asked.
 use figures::row::has_lock;
-use rules::plan::Plan;
-use rules::state::State;
+use rules::capacity::MAX_LOCKS;
+use rules::capacity::MAX_TASKS;
 ghost use mathlib.Core.Path.{_≡_};
 ghost use mathlib.Core.Bool.{true};
 ghost use mathlib.Core.List.{[], _∷_};
-ghost use Prim.Native.Nat.{_+_, _≤_, _<_};
+ghost use Prim.Native.Nat.{_≤_, _<_};
 ghost use lib.Dec.{eqb, leb};
 ghost use Rattle.rules.specs.Numbers.Capacity.{maxLocks, maxTasks};
 ghost use Rattle.rules.specs.Numbers.Choice.{if_then_else_, allTrue};
-ghost use Rattle.rules.specs.Schedulers.Figures.{figuresOf, holds};
-ghost use Rattle.rules.specs.Schedulers.Lazy.{wordsOf};
 ghost use Rattle.rules.specs.Numbers.Place.{every};
-ghost use Rattle.rules.specs.Soundness.Sound.{ownerOf};
-ghost use Rattle.rules.specs.Soundness.SoundTest.{lockTest};
+ghost use Rattle.sound.specs.Lent.{lockBy, ownerNamed};
 
-fn has_open(s: State, x: usize, l: u8) -> bool
-    requires { ⌜ x < maxTasks ⌝ }
-    ensures { λ r. ⌜ r ≡ holds (figuresOf s) x l ⌝ }
-{
-    has_lock(s.takes[x], s.depth[x], l)
-}
-
-fn owner_after(owner: usize, x: usize, yes: bool) -> usize
-    requires { ⌜ x < maxTasks ⌝ }
-    ensures { λ r. ⌜ r ≡ (if yes then x + 1 else owner) ⌝ }
-{
-    if yes {
-        return x + 1;
-    }
-    owner
-}
-
-// Of the first n tasks the one that has lock l open, plus one; 0 without one.
-fn owner_of(s: State, n: usize, l: u8) -> usize
+// Nobody is named, or one of the first n tasks that has lock l open.
+fn owner_named(
+    n: usize,
+    depth: &[u8; MAX_TASKS],
+    takes: &[u64; MAX_TASKS],
+    owner: u8,
+    l: u8,
+) -> bool
     requires { ⌜ n ≤ maxTasks ⌝ }
-    ensures { λ r. ⌜ r ≡ ownerOf (figuresOf s) n l ⌝ }
+    ensures { λ r. ⌜ r ≡ ownerNamed n (now (depth .entry)) (now (takes .entry)) owner l ⌝ }
 {
-    let mut owner: usize = 0;
-    let mut x: usize = 0;
-    while x < n {
-        let yes = has_open(s, x, l);
-        owner = owner_after(owner, x, yes);
-        x += 1;
+    let o = owner as usize;
+    if o == 0 {
+        return true;
     }
-    owner
+    if n < o {
+        return false;
+    }
+    let x = o - 1;
+    has_lock(takes[x], depth[x], l)
 }
 
-// Its owner is the task that has it open, and its units are within its limit, 0 where it is closed.
-fn lock_fits(owner: u8, holder: usize, units: u16, limit: u16) -> bool
-    ensures { λ r. ⌜ r ≡ allTrue (eqb owner holder ∷ leb units limit ∷ (if eqb owner 0 then eqb units 0 else true) ∷ []) ⌝ }
+// Its owner is named rightly, and its units are within its limit, 0 where it is closed.
+fn lock_fits(named: bool, owner: u8, units: u16, limit: u16) -> bool
+    ensures { λ r. ⌜ r ≡ allTrue (named ∷ leb units limit ∷ (if eqb owner 0 then eqb units 0 else true) ∷ []) ⌝ }
 {
-    if owner as usize != holder {
+    if !named {
         return false;
     }
     if limit < units {
@@ -63,22 +51,40 @@ fn lock_fits(owner: u8, holder: usize, units: u16, limit: u16) -> bool
     true
 }
 
-fn lock_sound(p: Plan, s: State, l: usize) -> bool
-    requires { ⌜ (p .tasks ≤ maxTasks) × (l < maxLocks) ⌝ }
-    ensures { λ r. ⌜ r ≡ lockTest p (figuresOf s) (wordsOf s) l ⌝ }
+fn lock_sound(
+    n: usize,
+    limit: &[u16; MAX_LOCKS],
+    depth: &[u8; MAX_TASKS],
+    takes: &[u64; MAX_TASKS],
+    units: &[u16; MAX_LOCKS],
+    owner: &[u8; MAX_LOCKS],
+    l: usize,
+) -> bool
+    requires { ⌜ (n ≤ maxTasks) × (l < maxLocks) ⌝ }
+    ensures { λ r. ⌜ r ≡ lockBy n
+        (now (limit .entry)) (now (depth .entry)) (now (takes .entry)) (now (units .entry)) (now (owner .entry)) l ⌝ }
 {
-    let holder = owner_of(s, p.tasks, l as u8);
-    lock_fits(s.owner[l], holder, s.units[l], p.limit[l])
+    let o = owner[l];
+    let named = owner_named(n, depth, takes, o, l as u8);
+    lock_fits(named, o, units[l], limit[l])
 }
 
-pub fn locks_sound(p: Plan, s: State) -> bool
-    requires { ⌜ (p .tasks ≤ maxTasks) × (p .locks ≤ maxLocks) ⌝ }
-    ensures { λ r. ⌜ r ≡ every (lockTest p (figuresOf s) (wordsOf s)) (p .locks) ⌝ }
+pub fn locks_sound(
+    n: usize,
+    m: usize,
+    limit: &[u16; MAX_LOCKS],
+    depth: &[u8; MAX_TASKS],
+    takes: &[u64; MAX_TASKS],
+    units: &[u16; MAX_LOCKS],
+    owner: &[u8; MAX_LOCKS],
+) -> bool
+    requires { ⌜ (n ≤ maxTasks) × (m ≤ maxLocks) ⌝ }
+    ensures { λ r. ⌜ r ≡ every (lockBy n
+        (now (limit .entry)) (now (depth .entry)) (now (takes .entry)) (now (units .entry)) (now (owner .entry))) m ⌝ }
 {
-    let m = p.locks;
     let mut l: usize = 0;
     while l < m {
-        if !lock_sound(p, s, l) {
+        if !lock_sound(n, limit, depth, takes, units, owner, l) {
             return false;
         }
         l += 1;

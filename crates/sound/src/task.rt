@@ -1,11 +1,13 @@
 // Whether the figures of one task are sound.
 use crate::all::all_six;
-use crate::rank::kept_of;
-use crate::rank::saved_of;
+use crate::priority::row_saves;
+use crate::rank::rank_of;
 use figures::mask::has_bit;
 use figures::number::place_of;
 use figures::priority::kernel_of;
+use figures::priority::recorded;
 use figures::priority::same_record;
+use figures::priority::user_of;
 use figures::row::has_lock;
 use figures::row::newest_of;
 use figures::row::under_of;
@@ -13,18 +15,17 @@ use rules::capacity::MAX_DELAY;
 use rules::capacity::MAX_LOCKS;
 use rules::capacity::MAX_OPEN;
 use rules::capacity::MAX_TASKS;
-use rules::plan::Plan;
-use rules::state::State;
+use rules::priority::UserPriority;
 ghost use mathlib.Core.Path.{_≡_};
+ghost use mathlib.Core.Bool.{_&&_, not};
 ghost use Prim.Native.Nat.{_≤_, _<_};
-ghost use lib.Dec.{eqb, leb};
+ghost use lib.Dec.{eqb};
 ghost use lib.ListN.{length};
-ghost use Rattle.rules.specs.Numbers.Capacity.{maxDelay, maxLocks, maxOpen, maxTasks};
-ghost use Rattle.rules.specs.Schedulers.Figures.{figuresOf};
-ghost use Rattle.rules.specs.Schedulers.Lazy.{wordsOf};
+ghost use Rattle.rules.specs.Numbers.Capacity.{maxLocks, maxOpen, maxTasks};
 ghost use Rattle.rules.specs.Numbers.Place.{at, every};
-ghost use Rattle.rules.specs.Soundness.Sound.{keptOf, savedOf};
-ghost use Rattle.rules.specs.Soundness.SoundTest.{numberNew, numberTest, ownTest, rowTest, taskTest};
+ghost use Rattle.rules.specs.Numbers.Row.{saves};
+ghost use Rattle.rules.specs.Soundness.SoundTest.{numberNew, numberTest, ownTest, rowTest};
+ghost use Rattle.sound.specs.Lent.{keptBy, taskBy};
 
 // Each of the k newest of a row is one of m locks, declared, and stands once; after them there is 0.
 fn row_sound(m: usize, uses: u32, row: u64, k: u8) -> bool
@@ -78,19 +79,29 @@ fn owner_at(owner: &[u8; MAX_LOCKS], l: u8) -> usize
     0
 }
 
-// No task before x has the release number y.
+// Whether a is another number than y, where all before it are.
+fn also_new(new: bool, a: u32, y: u32) -> bool
+    ensures { λ r. ⌜ r ≡ (new && not (eqb a y)) ⌝ }
+{
+    if a == y {
+        return false;
+    }
+    new
+}
+
+// No task before x has the release number y. All are asked, with no way out: so the compiler asks
+// several at once.
 fn number_new(released: &[u32; MAX_TASKS], y: u32, x: usize) -> bool
     requires { ⌜ (length (now released) ≡ maxTasks) × (x ≤ maxTasks) ⌝ }
     ensures { λ r. ⌜ r ≡ numberNew (now (released .entry)) y x ⌝ }
 {
+    let mut new = true;
     let mut z: usize = 0;
     while z < x {
-        if released[z] == y {
-            return false;
-        }
+        new = also_new(new, released[z], y);
         z += 1;
     }
-    true
+    new
 }
 
 // A task is not released and has no lock open, or its release number is in range and no earlier
@@ -109,71 +120,100 @@ fn number_sound(accepted: u32, released: &[u32; MAX_TASKS], depth: u8, x: usize)
     number_new(released, y, x)
 }
 
-fn owners_sound(owner: [u8; MAX_LOCKS], x: usize, row: u64, k: u8) -> bool
-    requires { ⌜ x < maxTasks ⌝ }
-    ensures { λ r. ⌜ r ≡ ownTest owner x row k ⌝ }
+// What is kept for a task is its rank, and nothing while it runs.
+fn kept_sound(kept: u8, runs: bool, rank: UserPriority) -> bool
+    ensures { λ r. ⌜ r ≡ eqb kept (keptBy runs (rank .0)) ⌝ }
 {
-    own_sound(&owner, x, row, k)
+    if runs {
+        return kept == 0;
+    }
+    same_record(kernel_of(kept), recorded(rank))
 }
 
-fn numbers_sound(accepted: u32, released: [u32; MAX_TASKS], depth: u8, x: usize) -> bool
-    requires { ⌜ x < maxTasks ⌝ }
-    ensures { λ r. ⌜ r ≡ numberTest accepted released depth x ⌝ }
+// What is saved for a task of this base is what its row gives.
+fn saved_sound(ceiling: &[u8; MAX_LOCKS], base: u8, row: u64, k: u8, saved: u64) -> bool
+    requires { ⌜ (length (now ceiling) ≡ maxLocks) × (k ≤ maxOpen) ⌝ }
+    ensures { λ r. ⌜ r ≡ eqb saved (saves (at (now (ceiling .entry))) base row k) ⌝ }
 {
-    number_sound(accepted, &released, depth, x)
+    let words = row_saves(user_of(base), ceiling, row, k);
+    saved == words
 }
 
-fn kept_sound(p: Plan, s: State, x: usize) -> bool
-    requires { ⌜ x < maxTasks ⌝ }
-    ensures { λ r. ⌜ r ≡ eqb (at (s .kept) x) (keptOf p (figuresOf s) (s .head .running) x) ⌝ }
+fn task_sound(
+    accepted: u32,
+    running: u8,
+    m: usize,
+    base: &[u8; MAX_TASKS],
+    ceiling: &[u8; MAX_LOCKS],
+    uses: &[u32; MAX_TASKS],
+    released: &[u32; MAX_TASKS],
+    kept: &[u8; MAX_TASKS],
+    delay: &[u16; MAX_TASKS],
+    depth: &[u8; MAX_TASKS],
+    takes: &[u64; MAX_TASKS],
+    saved: &[u64; MAX_TASKS],
+    owner: &[u8; MAX_LOCKS],
+    x: usize,
+) -> bool
+    requires { ⌜ (x < maxTasks) × (length (now ceiling) ≡ maxLocks) × (length (now owner) ≡ maxLocks) × (length (now released) ≡ maxTasks) ⌝ }
+    ensures { λ r. ⌜ r ≡ taskBy accepted running m (now (base .entry)) (now (ceiling .entry)) (now (uses .entry))
+        (now (released .entry)) (now (kept .entry)) (now (delay .entry)) (now (depth .entry)) (now (takes .entry)) (now (saved .entry)) (now (owner .entry))
+        x ⌝ }
 {
-    let kept = kept_of(p, s, x);
-    same_record(kernel_of(s.kept[x]), kept)
-}
-
-fn saved_sound(p: Plan, s: State, x: usize) -> bool
-    requires { ⌜ (x < maxTasks) × (at (s .depth) x ≤ maxOpen) ⌝ }
-    ensures { λ r. ⌜ r ≡ eqb (at (s .saved) x) (savedOf p (figuresOf s) x) ⌝ }
-{
-    let saved = saved_of(p, s, x);
-    s.saved[x] == saved
-}
-
-fn delay_sound(s: State, x: usize) -> bool
-    requires { ⌜ x < maxTasks ⌝ }
-    ensures { λ r. ⌜ r ≡ leb (at (s .delay) x) maxDelay ⌝ }
-{
-    s.delay[x] <= MAX_DELAY
-}
-
-fn task_sound(p: Plan, s: State, x: usize) -> bool
-    requires { ⌜ x < maxTasks ⌝ }
-    ensures { λ r. ⌜ r ≡ taskTest p (figuresOf s) (wordsOf s) x ⌝ }
-{
-    let depth = s.depth[x];
-    if MAX_OPEN < depth {
+    let k = depth[x];
+    if MAX_OPEN < k {
         return false;
     }
-    let row = s.takes[x];
-    let listed = row_sound(p.locks, p.uses[x], row, depth);
-    let owner = s.owner;
-    let owned = owners_sound(owner, x, row, depth);
-    let released = s.released;
-    let numbered = numbers_sound(s.head.accepted, released, depth, x);
-    let delayed = delay_sound(s, x);
-    let kept = kept_sound(p, s, x);
-    let saved = saved_sound(p, s, x);
-    all_six(listed, owned, numbered, delayed, kept, saved)
+    let row = takes[x];
+    let listed = row_sound(m, uses[x], row, k);
+    let owned = own_sound(owner, x, row, k);
+    let numbered = number_sound(accepted, released, k, x);
+    let delayed = delay[x] <= MAX_DELAY;
+    let rank = rank_of(ceiling, base[x], released[x], row, k);
+    let keeps = kept_sound(kept[x], x == running as usize, rank);
+    let saves = saved_sound(ceiling, base[x], row, k, saved[x]);
+    all_six(listed, owned, numbered, delayed, keeps, saves)
 }
 
-pub fn tasks_sound(p: Plan, s: State) -> bool
-    requires { ⌜ p .tasks ≤ maxTasks ⌝ }
-    ensures { λ r. ⌜ r ≡ every (taskTest p (figuresOf s) (wordsOf s)) (p .tasks) ⌝ }
+pub fn tasks_sound(
+    accepted: u32,
+    running: u8,
+    n: usize,
+    m: usize,
+    base: &[u8; MAX_TASKS],
+    ceiling: &[u8; MAX_LOCKS],
+    uses: &[u32; MAX_TASKS],
+    released: &[u32; MAX_TASKS],
+    kept: &[u8; MAX_TASKS],
+    delay: &[u16; MAX_TASKS],
+    depth: &[u8; MAX_TASKS],
+    takes: &[u64; MAX_TASKS],
+    saved: &[u64; MAX_TASKS],
+    owner: &[u8; MAX_LOCKS],
+) -> bool
+    requires { ⌜ (n ≤ maxTasks) × (length (now ceiling) ≡ maxLocks) × (length (now owner) ≡ maxLocks) × (length (now released) ≡ maxTasks) ⌝ }
+    ensures { λ r. ⌜ r ≡ every (taskBy accepted running m (now (base .entry)) (now (ceiling .entry)) (now (uses .entry))
+        (now (released .entry)) (now (kept .entry)) (now (delay .entry)) (now (depth .entry)) (now (takes .entry)) (now (saved .entry)) (now (owner .entry)))
+        n ⌝ }
 {
-    let n = p.tasks;
     let mut x: usize = 0;
     while x < n {
-        if !task_sound(p, s, x) {
+        if !task_sound(
+            accepted,
+            running,
+            m,
+            base,
+            ceiling,
+            uses,
+            released,
+            kept,
+            delay,
+            depth,
+            takes,
+            saved,
+            owner,
+            x,
+        ) {
             return false;
         }
         x += 1;

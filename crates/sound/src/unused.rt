@@ -6,70 +6,32 @@ use figures::spare::spare32;
 use figures::spare::spare64;
 use rules::capacity::MAX_LOCKS;
 use rules::capacity::MAX_TASKS;
-use rules::plan::Plan;
-use rules::state::State;
 ghost use mathlib.Core.Path.{_≡_};
-ghost use lib.ListN.{drop};
-ghost use Rattle.rules.specs.Numbers.Place.{zeros};
-ghost use Rattle.rules.specs.Soundness.SoundTest.{spareTest};
+ghost use Rattle.sound.specs.Lent.{spareBy};
 
-fn tasks32(xs: [u32; MAX_TASKS], n: usize) -> bool
-    ensures { λ r. ⌜ r ≡ zeros (drop n xs) ⌝ }
+pub fn unused_sound(
+    n: usize,
+    m: usize,
+    released: &[u32; MAX_TASKS],
+    kept: &[u8; MAX_TASKS],
+    delay: &[u16; MAX_TASKS],
+    depth: &[u8; MAX_TASKS],
+    takes: &[u64; MAX_TASKS],
+    saved: &[u64; MAX_TASKS],
+    units: &[u16; MAX_LOCKS],
+    owner: &[u8; MAX_LOCKS],
+) -> bool
+    ensures { λ r. ⌜ r ≡ spareBy n m (now (released .entry)) (now (kept .entry)) (now (delay .entry)) (now (depth .entry)) (now (takes .entry))
+        (now (saved .entry)) (now (units .entry)) (now (owner .entry)) ⌝ }
 {
-    spare32(&xs, n)
-}
-
-fn tasks8(xs: [u8; MAX_TASKS], n: usize) -> bool
-    ensures { λ r. ⌜ r ≡ zeros (drop n xs) ⌝ }
-{
-    spare8(&xs, n)
-}
-
-fn tasks16(xs: [u16; MAX_TASKS], n: usize) -> bool
-    ensures { λ r. ⌜ r ≡ zeros (drop n xs) ⌝ }
-{
-    spare16(&xs, n)
-}
-
-fn tasks64(xs: [u64; MAX_TASKS], n: usize) -> bool
-    ensures { λ r. ⌜ r ≡ zeros (drop n xs) ⌝ }
-{
-    spare64(&xs, n)
-}
-
-fn locks16(xs: [u16; MAX_LOCKS], m: usize) -> bool
-    ensures { λ r. ⌜ r ≡ zeros (drop m xs) ⌝ }
-{
-    spare16(&xs, m)
-}
-
-fn locks8(xs: [u8; MAX_LOCKS], m: usize) -> bool
-    ensures { λ r. ⌜ r ≡ zeros (drop m xs) ⌝ }
-{
-    spare8(&xs, m)
-}
-
-pub fn unused_sound(p: Plan, s: State) -> bool
-    ensures { λ r. ⌜ r ≡ spareTest p s ⌝ }
-{
-    let n = p.tasks;
-    let m = p.locks;
-    let released = s.released;
-    let kept = s.kept;
-    let delay = s.delay;
-    let depth = s.depth;
-    let takes = s.takes;
-    let saved = s.saved;
-    let units = s.units;
-    let owner = s.owner;
     all_eight(
-        tasks32(released, n),
-        tasks8(kept, n),
-        tasks16(delay, n),
-        tasks8(depth, n),
-        tasks64(takes, n),
-        tasks64(saved, n),
-        locks16(units, m),
-        locks8(owner, m),
+        spare32(released, n),
+        spare8(kept, n),
+        spare16(delay, n),
+        spare8(depth, n),
+        spare64(takes, n),
+        spare64(saved, n),
+        spare16(units, m),
+        spare8(owner, m),
     )
 }

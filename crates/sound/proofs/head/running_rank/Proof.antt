@@ -1,5 +1,5 @@
 -- `sound::head::running_rank` meets its contract. One law for each way. Assumes nothing.
-use Rattle.sound.proofs.Holders.{stands-placed, rank-yes, rank-no}
+use Rattle.sound.proofs.Parts.{rank-nobody}
 use borrow.Author.Needs.{needs}
 use Rattle.sound.proofs.head.running_rank.Statement.{statement}
 use Rattle.sound.proofs.head.running_rank.Tie as tie
@@ -8,5 +8,5 @@ pub running-rank-spec : {M : Type 1} → statement M
 running-rank-spec =
     tie.close
     (tie.spec
-    (λ c. search needs) (λ c κs. search needs) (λ c κs. search stands-placed) (λ c. search rank-yes)
-    (λ c. search rank-no))
+    (λ c. search rank-nobody) (λ c. search needs) (λ c. search needs) (λ c. search needs) (λ c. search needs) (λ c. search needs) (λ c. search needs)
+    (λ c κs. search needs) (λ c. search needs))

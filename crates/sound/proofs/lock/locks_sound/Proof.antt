@@ -2,18 +2,16 @@
 use Prim.Native.Nat.{_-_}
 use Rattle.rules.proofs.Numbers.Place.{AllSoFar, every-start, every-next, every-fails, every-ends}
 use Rattle.rules.proofs.Numbers.Choice.{flags}
-use Rattle.rules.specs.Schedulers.Figures.{figuresOf}
-use Rattle.rules.specs.Schedulers.Lazy.{wordsOf}
-use Rattle.rules.specs.Soundness.SoundTest.{lockTest}
+use Rattle.sound.specs.Lent.{lockBy}
 use borrow.Author.Needs.{needs}
 use Rattle.sound.proofs.lock.locks_sound.Statement.{statement}
 use Rattle.sound.proofs.lock.locks_sound.Tie as tie
 
 abbrev Inv-loop : tie.InvT-loop
-Inv-loop p s m l₀ l = AllSoFar (lockTest p (figuresOf s) (wordsOf s)) m l
+Inv-loop n m limit depth takes units owner l₀ l = AllSoFar (lockBy n limit depth takes units owner) m l
 
 abbrev μ-loop : tie.MeasureT-loop
-μ-loop p s m l₀ l = m - l
+μ-loop n m limit depth takes units owner l₀ l = m - l
 
 pub locks-sound-spec : {M : Type 1} → statement M
 locks-sound-spec =

@@ -2,18 +2,17 @@
 use Prim.Native.Nat.{_-_}
 use Rattle.rules.proofs.Numbers.Place.{AllSoFar, every-start, every-next, every-fails, every-ends}
 use Rattle.rules.proofs.Numbers.Choice.{flags}
-use Rattle.rules.specs.Schedulers.Figures.{figuresOf}
-use Rattle.rules.specs.Schedulers.Lazy.{wordsOf}
-use Rattle.rules.specs.Soundness.SoundTest.{taskTest}
+use Rattle.sound.specs.Lent.{taskBy}
 use borrow.Author.Needs.{needs}
 use Rattle.sound.proofs.task.tasks_sound.Statement.{statement}
 use Rattle.sound.proofs.task.tasks_sound.Tie as tie
 
 abbrev Inv-loop : tie.InvT-loop
-Inv-loop p s n x₀ x = AllSoFar (taskTest p (figuresOf s) (wordsOf s)) n x
+Inv-loop accepted running n m base ceiling uses released kept delay depth takes saved owner x₀ x =
+    AllSoFar (taskBy accepted running m base ceiling uses released kept delay depth takes saved owner) n x
 
 abbrev μ-loop : tie.MeasureT-loop
-μ-loop p s n x₀ x = n - x
+μ-loop accepted running n m base ceiling uses released kept delay depth takes saved owner x₀ x = n - x
 
 pub tasks-sound-spec : {M : Type 1} → statement M
 tasks-sound-spec =

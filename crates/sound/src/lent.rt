@@ -1,0 +1,76 @@
+// The tests of a state that was taken apart, one after the other. What a later test asks rests on the
+// earlier ones: only where the tasks are sound are the named owners and the kept priorities enough, and
+// are the rows short.
+use crate::head::head_sound;
+use crate::lock::locks_sound;
+use crate::task::tasks_sound;
+use crate::unused::unused_sound;
+use rules::capacity::MAX_LOCKS;
+use rules::capacity::MAX_TASKS;
+use rules::state::Head;
+ghost use mathlib.Core.Path.{_≡_};
+ghost use Prim.Native.Nat.{_≤_};
+ghost use lib.ListN.{length};
+ghost use Rattle.rules.specs.Numbers.Capacity.{maxLocks, maxTasks};
+ghost use Rattle.sound.specs.Lent.{partsBy};
+
+pub fn parts_sound(
+    h: Head,
+    n: usize,
+    m: usize,
+    base: &[u8; MAX_TASKS],
+    ceiling: &[u8; MAX_LOCKS],
+    limit: &[u16; MAX_LOCKS],
+    uses: &[u32; MAX_TASKS],
+    released: &[u32; MAX_TASKS],
+    kept: &[u8; MAX_TASKS],
+    delay: &[u16; MAX_TASKS],
+    depth: &[u8; MAX_TASKS],
+    takes: &[u64; MAX_TASKS],
+    saved: &[u64; MAX_TASKS],
+    units: &[u16; MAX_LOCKS],
+    owner: &[u8; MAX_LOCKS],
+) -> bool
+    requires { ⌜ (n ≤ maxTasks) × (m ≤ maxLocks) ⌝ }
+    requires { ⌜ (length (now ceiling) ≡ maxLocks) × (length (now released) ≡ maxTasks) × (length (now owner) ≡ maxLocks) ⌝ }
+    ensures { λ r. ⌜ r ≡ partsBy h n m
+        (now (base .entry)) (now (ceiling .entry)) (now (limit .entry)) (now (uses .entry)) (now (released .entry)) (now (kept .entry))
+        (now (delay .entry)) (now (depth .entry)) (now (takes .entry)) (now (saved .entry)) (now (units .entry)) (now (owner .entry)) ⌝ }
+{
+    if !tasks_sound(
+        h.accepted,
+        h.running,
+        n,
+        m,
+        base,
+        ceiling,
+        uses,
+        released,
+        kept,
+        delay,
+        depth,
+        takes,
+        saved,
+        owner,
+    ) {
+        return false;
+    }
+    if !head_sound(h, n, base, ceiling, released, kept, depth, takes) {
+        return false;
+    }
+    if !locks_sound(n, m, limit, depth, takes, units, owner) {
+        return false;
+    }
+    unused_sound(
+        n,
+        m,
+        released,
+        kept,
+        delay,
+        depth,
+        takes,
+        saved,
+        units,
+        owner,
+    )
+}

@@ -2,7 +2,6 @@
 -- table of kept priorities says the same as the rules' own tests. Assumes nothing.
 use mathlib.Core.Path.{_≡_, refl, sym, _∙_, ap}
 use mathlib.Core.Bool.{Bool, true, false, not}
-use mathlib.Core.List.{List}
 use Prim.Native.Nat.{ℕ, zero, suc, _≤_, _<_}
 use native.Mathlib.Omega.{arith}
 use lib.Dec.{eqb}
@@ -11,7 +10,7 @@ use Rattle.rules.specs.Numbers.Capacity.{maxTasks, maxLocks}
 use Rattle.rules.specs.Numbers.Place.{at, every, greatest}
 use Rattle.rules.specs.Schedulers.Figures.{Figures, figuresOf, holds, priorityOf, rankOf}
 use Rattle.rules.specs.Schedulers.Lazy.{Words, wordsOf}
-use Rattle.rules.specs.Soundness.Sound.{keptOf, savedOf, ownerOf}
+use Rattle.rules.specs.Soundness.Sound.{keptOf, savedOf}
 use Rattle.rules.specs.Soundness.SoundTest.{obeys, taskTest, lockTest, headTest, spareTest, soundTest}
 use Rattle.rules.specs.declared.plan.Plan.{Plan}
 use Rattle.rules.specs.declared.state.State.{State}

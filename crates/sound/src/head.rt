@@ -23,7 +23,7 @@ ghost use Rattle.rules.specs.Soundness.SoundTest.{runsTest};
 ghost use Rattle.sound.specs.Lent.{headBy, rankBy};
 
 fn none_released(released: &[u32; MAX_TASKS], n: usize) -> bool
-    requires { ⌜ (length (now released) ≡ maxTasks) × (n ≤ maxTasks) ⌝ }
+    requires { ⌜ n ≤ maxTasks ⌝ }
     ensures { λ r. ⌜ r ≡ every (λ x. eqb (at (now (released .entry)) x) 0) n ⌝ }
 {
     let mut x: usize = 0;
@@ -38,7 +38,7 @@ fn none_released(released: &[u32; MAX_TASKS], n: usize) -> bool
 
 // Nobody runs and none is released, or a released task runs.
 fn runs_sound(released: &[u32; MAX_TASKS], n: usize, r: u8) -> bool
-    requires { ⌜ (length (now released) ≡ maxTasks) × (n ≤ maxTasks) ⌝ }
+    requires { ⌜ n ≤ maxTasks ⌝ }
     ensures { λ t. ⌜ t ≡ runsTest (now (released .entry)) n r ⌝ }
 {
     if r == NOBODY {

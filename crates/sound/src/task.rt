@@ -92,7 +92,7 @@ fn also_new(new: bool, a: u32, y: u32) -> bool
 // No task before x has the release number y. All are asked, with no way out: so the compiler asks
 // several at once.
 fn number_new(released: &[u32; MAX_TASKS], y: u32, x: usize) -> bool
-    requires { ⌜ (length (now released) ≡ maxTasks) × (x ≤ maxTasks) ⌝ }
+    requires { ⌜ x ≤ maxTasks ⌝ }
     ensures { λ r. ⌜ r ≡ numberNew (now (released .entry)) y x ⌝ }
 {
     let mut new = true;
@@ -107,7 +107,7 @@ fn number_new(released: &[u32; MAX_TASKS], y: u32, x: usize) -> bool
 // A task is not released and has no lock open, or its release number is in range and no earlier
 // task's.
 fn number_sound(accepted: u32, released: &[u32; MAX_TASKS], depth: u8, x: usize) -> bool
-    requires { ⌜ (length (now released) ≡ maxTasks) × (x < maxTasks) ⌝ }
+    requires { ⌜ x < maxTasks ⌝ }
     ensures { λ r. ⌜ r ≡ numberTest accepted (now (released .entry)) depth x ⌝ }
 {
     let y = released[x];
@@ -155,7 +155,7 @@ fn task_sound(
     owner: &[u8; MAX_LOCKS],
     x: usize,
 ) -> bool
-    requires { ⌜ (x < maxTasks) × (length (now ceiling) ≡ maxLocks) × (length (now owner) ≡ maxLocks) × (length (now released) ≡ maxTasks) ⌝ }
+    requires { ⌜ (x < maxTasks) × (length (now ceiling) ≡ maxLocks) × (length (now owner) ≡ maxLocks) ⌝ }
     ensures { λ r. ⌜ r ≡ taskBy accepted running m (now (base .entry)) (now (ceiling .entry)) (now (uses .entry))
         (now (released .entry)) (now (kept .entry)) (now (delay .entry)) (now (depth .entry)) (now (takes .entry)) (now (saved .entry)) (now (owner .entry))
         x ⌝ }
@@ -191,7 +191,7 @@ pub fn tasks_sound(
     saved: &[u64; MAX_TASKS],
     owner: &[u8; MAX_LOCKS],
 ) -> bool
-    requires { ⌜ (n ≤ maxTasks) × (length (now ceiling) ≡ maxLocks) × (length (now owner) ≡ maxLocks) × (length (now released) ≡ maxTasks) ⌝ }
+    requires { ⌜ (n ≤ maxTasks) × (length (now ceiling) ≡ maxLocks) × (length (now owner) ≡ maxLocks) ⌝ }
     ensures { λ r. ⌜ r ≡ every (taskBy accepted running m (now (base .entry)) (now (ceiling .entry)) (now (uses .entry))
         (now (released .entry)) (now (kept .entry)) (now (delay .entry)) (now (depth .entry)) (now (takes .entry)) (now (saved .entry)) (now (owner .entry)))
         n ⌝ }

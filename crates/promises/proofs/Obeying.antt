@@ -38,7 +38,8 @@ obeys-obeys p r h e = obeys-so p (sym h ∙ e)
 -- what `load_table` answers, as its contract says (`load-table-says`), and what a host is answered
 pub table-obeys : (ts : List TaskRecord) (locks uses : List ℕ) (r : Loaded) → r ≡ loadOf (numbersOf ts) locks uses → verdictNumber (r .verdict) ≡ 0
     → Obeys (r .plan)
-table-obeys ts locks uses r h = subst (λ (l : Loaded). verdictNumber (l .verdict) ≡ 0 → Obeys (l .plan)) (sym h) (demand1 .load (numbersOf ts) locks uses .obeys)
+table-obeys ts locks uses r h = subst (λ (l : Loaded). verdictNumber (l .verdict) ≡ 0 → Obeys (l .plan)) (sym h)
+    (demand1 .load (numbersOf ts) locks uses .obeys)
 
 pub recorder-table-obeys : (ts : List TaskRecord) (locks uses : List ℕ) (r : DeviceLoad) → r ≡ loadSpelled (loadOf (numbersOf ts) locks uses) → r .number ≡ 0
     → Obeys (r .plan)

@@ -25,7 +25,8 @@ step-refuses p s e r h = subst (StepRefuses p s e) (sym h) (demand1 .step p s e)
 
 -- any records
 pub load-refuses : (κs : Lfts 3) (a : _) (b : _) (r : Loaded) → load.Post κs a r b → LoadRefuses (now (a .0)) (now (a .1 .0)) (now (a .1 .1 .0)) r
-load-refuses κs a b r h = subst (LoadRefuses (now (a .0)) (now (a .1 .0)) (now (a .1 .1 .0))) (sym h) (demand1 .load (now (a .0)) (now (a .1 .0)) (now (a .1 .1 .0)))
+load-refuses κs a b r h = subst (LoadRefuses (now (a .0)) (now (a .1 .0)) (now (a .1 .1 .0))) (sym h)
+    (demand1 .load (now (a .0)) (now (a .1 .0)) (now (a .1 .1 .0)))
 
 -- any bytes, with any row space
 pub check-refuses : (κs : Lfts 1) (a : _) (b : _) (r : Checked) → check.Post κs a r b → BookRefuses (now (a .0)) (a .1 .0) r

@@ -80,7 +80,8 @@ module _ (p : Plan) (s : State) (e : Event) (body row : List ℕ) (four : length
 
   answer-is : (answer : Answer) → answerFrom (after answer .verdict) (at (after answer .rows) 3) ≡ answer
   unfolding after onward answerFrom
-  answer-is (Answer.Accepted call) = ap Answer.Accepted (ap (λ x. eqb x 1) (row-call row 0 (actOf p s e .state .head) call (omega (arith, four))) ∙ one-or-none call)
+  answer-is (Answer.Accepted call) =
+      ap Answer.Accepted (ap (λ x. eqb x 1) (row-call row 0 (actOf p s e .state .head) call (omega (arith, four))) ∙ one-or-none call)
   answer-is (Answer.Refused why) = refl
 
   state-is : (answer : Answer) → after answer .state ≡ actOf p s e .state

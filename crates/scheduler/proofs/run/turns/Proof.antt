@@ -8,14 +8,15 @@ use Rattle.scheduler.proofs.run.turns.Statement.{statement}
 use Rattle.scheduler.proofs.run.turns.Tie as tie
 
 abbrev Inv-loop : tie.InvT-loop
-Inv-loop n m base ceiling limit uses released₀ kept₀ delay₀ depth₀ takes₀ saved₀ units₀ owner₀ first body rows₀ c ended₀ k₀ released kept delay depth takes saved
-    units owner rows ended k =
-    Going (planWith n m base ceiling limit uses) (eventOn first body) c (stateWith (ended₀ .head) released₀ kept₀ delay₀ depth₀ takes₀ saved₀ units₀ owner₀) rows₀ k
+Inv-loop n m base ceiling limit uses released₀ kept₀ delay₀ depth₀ takes₀ saved₀ units₀ owner₀ first body rows₀ c ended₀ k₀
+    released kept delay depth takes saved units owner rows ended k =
+    Going (planWith n m base ceiling limit uses) (eventOn first body) c
+    (stateWith (ended₀ .head) released₀ kept₀ delay₀ depth₀ takes₀ saved₀ units₀ owner₀) rows₀ k
     (endedAs ended released kept delay depth takes saved units owner rows)
 
 abbrev μ-loop : tie.MeasureT-loop
-μ-loop n m base ceiling limit uses released₀ kept₀ delay₀ depth₀ takes₀ saved₀ units₀ owner₀ first body rows₀ c ended₀ k₀ released kept delay depth takes saved units
-    owner rows ended k = c - k
+μ-loop n m base ceiling limit uses released₀ kept₀ delay₀ depth₀ takes₀ saved₀ units₀ owner₀ first body rows₀ c ended₀ k₀
+    released kept delay depth takes saved units owner rows ended k = c - k
 
 -- the place where the turn begins, before its arguments are lent: an array more is one step more
 abbrev begun : tie.After-turn-arg9 Inv-loop μ-loop → tie.After-head Inv-loop μ-loop

@@ -1,6 +1,6 @@
 -- 7 by the arrays: a ceiling above 0 that is the greatest base of the lock's users has a user, so that nobody need be counted. Assumes nothing.
 use mathlib.Core.Path.{_≡_, refl}
-use mathlib.Core.Bool.{Bool, true, false, not}
+use mathlib.Core.Bool.{Bool, not}
 use mathlib.Core.List.{List}
 use Prim.Native.Nat.{ℕ, zero, suc, _+_}
 use native.Mathlib.Omega.{arith}

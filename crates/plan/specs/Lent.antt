@@ -1,11 +1,11 @@
--- RULES 3: the tests of a plan by the arrays that the code is lent for each. Assumes nothing.
-use mathlib.Core.Bool.{Bool, not}
+-- RULES 3 and 13.4: the tests of a plan, and what its bounds are made of, by the arrays that the code is lent for each. Assumes nothing.
+use mathlib.Core.Bool.{Bool, not, _&&_}
 use mathlib.Core.List.{List, [], _∷_}
 use Prim.Native.Nat.{ℕ, _^_}
-use lib.Dec.{eqb, ltb}
+use lib.Dec.{eqb, leb, ltb}
 use lib.ListN.{drop}
 use Rattle.rules.specs.Numbers.Choice.{if_then_else_, allTrue}
-use Rattle.rules.specs.Numbers.Place.{at, every, greatest, zeros}
+use Rattle.rules.specs.Numbers.Place.{at, every, any, greatest, zeros}
 use Rattle.rules.specs.Numbers.Mask.{hasBit}
 use Rattle.rules.specs.Books.Plan.{taskFault, lockFault}
 
@@ -50,3 +50,17 @@ partsBy n m base ceiling limit uses =
     ∷ every (lockBy n base ceiling limit uses) m
     ∷ spareBy n m base ceiling limit uses
     ∷ [])
+
+-- ---- the bound on a delay
+
+-- task x may take lock l and has a base below b
+unfoldable pub lowerBy : List ℕ → List ℕ → ℕ → ℕ → ℕ → Bool
+lowerBy base uses b l x = hasBit (at uses x) l && ltb (at base x) b
+
+-- lock l may hold up a task of base b: one of the first n tasks is such a user
+unfoldable pub blocksBy : ℕ → List ℕ → List ℕ → List ℕ → ℕ → ℕ → Bool
+blocksBy n base ceiling uses b l = leb b (at ceiling l) && any (lowerBy base uses b l) n
+
+-- the limit of such a lock
+unfoldable pub limitBy : ℕ → List ℕ → List ℕ → List ℕ → List ℕ → ℕ → ℕ → ℕ
+limitBy n base ceiling limit uses b l = if blocksBy n base ceiling uses b l then at limit l else 0

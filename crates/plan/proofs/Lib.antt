@@ -1,5 +1,6 @@
 -- The laws behind the proofs of this crate.
 mod Ways
+mod Users
 mod Limits
 mod Order
 mod Masks

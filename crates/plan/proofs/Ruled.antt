@@ -1,20 +1,22 @@
 -- The ways through the test of a plan that is handed in. Assumes nothing.
-use mathlib.Core.Path.{_≡_, refl, sym, _∙_}
+use mathlib.Core.Path.{_≡_, refl, sym, _∙_, ap}
 use mathlib.Core.Bool.{Bool, true, false, not}
 use mathlib.Core.List.{[], _∷_}
-use Prim.Native.Nat.{ℕ, _*_, _%_, _^_, _≤_, _<_}
+use Prim.Native.Nat.{ℕ, zero, suc, _*_, _%_, _^_, _≤_, _<_}
 use native.Mathlib.Nat.{one-mul, mod-eq-of-lt}
 use native.Mathlib.Omega.{arith}
 use lib.Dec.{eqb, ltb}
 use lib.Pow.{pow-lt}
-use borrow.Author.Tests.{eq-eqb, ne-eqb, lt-ltb, ltb-false}
-use Rattle.rules.proofs.Numbers.Choice.{or-false}
+use borrow.Author.Tests.{eq-eqb, ne-eqb, eqb-false, lt-ltb, ltb-false}
+use Rattle.rules.proofs.Numbers.Choice.{by-test, or-false, all-next}
 use Rattle.rules.specs.Numbers.Capacity.{maxTasks, maxLocks}
 use Rattle.rules.specs.Numbers.Choice.{if_then_else_, allTrue}
-use Rattle.rules.specs.Books.Plan.{most, countFault, taskFault, lockFault, ceilingFault}
-use Rattle.rules.specs.Numbers.Place.{at}
-use Rattle.rules.specs.Soundness.SoundTest.{lockObeys}
+use Rattle.rules.specs.Books.Plan.{most, countFault, taskFault, lockFault}
+use Rattle.rules.specs.Numbers.Place.{at, every}
+use Rattle.rules.specs.Soundness.SoundTest.{taskObeys, lockObeys, spareObeys, obeys}
 use Rattle.rules.specs.declared.plan.Plan.{Plan}
+use Rattle.plan.specs.Lent.{taskBy, lockBy, spareBy, partsBy}
+use Rattle.plan.proofs.Users.{ceiling-same}
 
 last : (t : Bool) → t ≡ allTrue (t ∷ [])
 unfolding allTrue if_then_else_
@@ -56,9 +58,44 @@ module _ (c u : ℕ) (w : Bool) where
   unfolding lockFault allTrue if_then_else_
   lock-limited n z a b = rw (ne-eqb c 0 n, ne-eqb u 0 z, lt-ltb c (2 ^ 8) a, lt-ltb u (2 ^ 16) b) (last (not w))
 
--- the test of lock l, where w says what 7 says of its ceiling
-pub lock-tested : (p : Plan) (l : ℕ) (w r : Bool) → w ≡ ceilingFault p l → r
-    ≡ allTrue (not (lockFault (at (p .ceiling) l) 0 (at (p .limit) l)) ∷ ltb (at (p .ceiling) l) (2 ^ 8) ∷ ltb (at (p .limit) l) (2 ^ 16) ∷ not w ∷ [])
-    → r ≡ lockObeys p l
-unfolding lockObeys
-lock-tested p l w r e d = rw (← e) d
+-- ---- the whole plan
+
+-- what is the same below n is the same for every one of them
+every-same : (f g : ℕ → Bool) (n : ℕ) → ((x : ℕ) → x < n → f x ≡ g x) → every f n ≡ every g n
+unfolding every
+every-same f g zero h = refl
+every-same f g (suc k) h = rw (every-same f g k (λ x l. h x (omega arith)), h k (omega arith))
+
+module _ (p : Plan) where
+  -- the tests of this plan, by its arrays
+  abbrev lockHere : ℕ → Bool
+  lockHere = lockBy (p .tasks) (p .base) (p .ceiling) (p .limit) (p .uses)
+
+  abbrev parts : Bool
+  parts = partsBy (p .tasks) (p .locks) (p .base) (p .ceiling) (p .limit) (p .uses)
+
+  task-same : (t : ℕ) → taskBy (p .locks) (p .base) (p .uses) t ≡ taskObeys p t
+  unfolding taskBy taskObeys
+  task-same t = refl
+
+  -- a ceiling of 0 fails both
+  lock-same : (l : ℕ) → lockHere l ≡ lockObeys p l
+  unfolding lockBy lockObeys lockFault allTrue if_then_else_
+  lock-same l = by-test (eqb (at (p .ceiling) l) 0) (λ e. rw e) (λ e. rw (ceiling-same p l (eqb-false (at (p .ceiling) l) 0 e)))
+
+  spare-same : spareBy (p .tasks) (p .locks) (p .base) (p .ceiling) (p .limit) (p .uses) ≡ spareObeys p
+  unfolding spareBy spareObeys
+  spare-same = refl
+
+  parts-same : parts ≡ allTrue (every (taskObeys p) (p .tasks) ∷ every (lockObeys p) (p .locks) ∷ spareObeys p ∷ [])
+  unfolding partsBy
+  parts-same = rw (
+    every-same (taskBy (p .locks) (p .base) (p .uses)) (taskObeys p) (p .tasks) (λ t h. task-same t),
+    every-same lockHere (lockObeys p) (p .locks) (λ l h. lock-same l),
+    spare-same,
+  )
+
+  -- a and b say what 2 says of the counts
+  pub parts-obey : (a b r : Bool) → a ≡ countFault 0 (p .tasks) → a ≡ false → b ≡ countFault 1 (p .locks) → b ≡ false → r ≡ parts → r ≡ obeys p
+  unfolding obeys
+  parts-obey a b r d e g h q = all-next _ r _ (ap not (sym d ∙ e)) (all-next _ r _ (ap not (sym g ∙ h)) (q ∙ parts-same))

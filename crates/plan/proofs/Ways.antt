@@ -8,8 +8,7 @@ use borrow.Author.Tests.{eq-eqb, ne-eqb, le-leb, lt-leb, lt-ltb, le-ltb}
 use native.Mathlib.Omega.{arith}
 use Rattle.rules.specs.Numbers.Choice.{if_then_else_}
 use Rattle.rules.specs.Numbers.Place.{at}
-use Rattle.rules.specs.Books.Plan.{most, countFault, taskFault, lockFault, users, usersBase, ceilingFault}
-use Rattle.rules.specs.declared.plan.Plan.{Plan}
+use Rattle.rules.specs.Books.Plan.{most, countFault, taskFault, lockFault}
 use Rattle.rules.specs.Books.Load.{useTask, useLock, useKey, useFault, countFaultOf}
 
 and-with : (a : Bool) → (a && true) ≡ a
@@ -89,13 +88,3 @@ module _ (n m i : ℕ) (uses : List ℕ) where
 pub count-said : (n m u e c : ℕ) (r : Bool) → c ≡ (if eqb e 0 then n else if eqb e 1 then m else u) → r ≡ countFault e c → r ≡ countFaultOf n m u e
 unfolding countFaultOf
 count-said n m u e c r g h = rw (← g) h
-
--- 7
-module _ (p : Plan) (l u c g : ℕ) (counted : u ≡ users p l) where
-  pub ceiling-none : u ≡ 0 → true ≡ ceilingFault p l
-  unfolding ceilingFault
-  ceiling-none e = rw (← counted, eq-eqb u 0 e)
-
-  pub ceiling-else : (u ≡ 0 → ⊥) → c ≡ at (p .ceiling) l → g ≡ usersBase p l → not (eqb c g) ≡ ceilingFault p l
-  unfolding ceilingFault
-  ceiling-else n e h = rw (← counted, ← e, ← h, ne-eqb u 0 n)

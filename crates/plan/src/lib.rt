@@ -43,7 +43,7 @@ pub fn bound(p: Plan, t: usize) -> u16
     lower::longest(p, b)
 }
 
-// Whether a plan that is handed in obeys the rules, test by test.
+// Whether a plan that is handed in obeys the rules, test by test. It is taken apart once.
 pub fn obeys(p: Plan) -> bool
     ensures { λ r. ⌜ r ≡ SoundTest.obeys p ⌝ }
 {
@@ -53,11 +53,9 @@ pub fn obeys(p: Plan) -> bool
     if count::count_fault(1, p.locks) {
         return false;
     }
-    if !obey::tasks_obey(p) {
-        return false;
-    }
-    if !obey::locks_obey(p) {
-        return false;
-    }
-    obey::spare_obeys(p)
+    let base = p.base;
+    let ceiling = p.ceiling;
+    let limit = p.limit;
+    let uses = p.uses;
+    obey::parts_obey(p.tasks, p.locks, &base, &ceiling, &limit, &uses)
 }

@@ -7,11 +7,15 @@ use rules::capacity::MAX_LOCKS;
 use rules::capacity::MAX_TASKS;
 use rules::plan::Plan;
 ghost use mathlib.Core.Path.{_≡_};
+ghost use mathlib.Core.Bool.{_&&_};
 ghost use Prim.Native.Nat.{_<_, _≤_};
+ghost use lib.Dec.{ltb};
 ghost use lib.ListN.{length};
 ghost use Rattle.rules.specs.Numbers.Capacity.{maxTasks, maxLocks};
-ghost use Rattle.rules.specs.Numbers.Place.{at};
-ghost use Rattle.rules.specs.Demands.Bound.{lowerAt, lowerUser, mayBlock, limitIf, longestLimit};
+ghost use Rattle.rules.specs.Numbers.Place.{any, at, greatest};
+ghost use Rattle.rules.specs.Numbers.Mask.{hasBit};
+ghost use Rattle.rules.specs.Demands.Bound.{longestLimit};
+ghost use Rattle.plan.specs.Lent.{blocksBy, limitBy, lowerBy};
 
 fn base_in(base: &[u8; MAX_TASKS], t: usize) -> u8
     requires { ⌜ length (now base) ≡ maxTasks ⌝ }
@@ -46,28 +50,24 @@ fn lock_places(limit: &[u16; MAX_LOCKS]) -> usize
     MAX_LOCKS
 }
 
-// Whether task x may take lock l and has a base below b.
-fn lower_at(p: Plan, b: u8, l: u8, x: usize) -> bool
-    requires { ⌜ x < maxTasks ⌝ }
-    ensures { λ r. ⌜ r ≡ lowerAt p b l x ⌝ }
+// Whether a task may take lock l, by its set of locks, and has a base below b.
+fn lower_at(base: u8, uses: u32, b: u8, l: u8) -> bool
+    ensures { λ r. ⌜ r ≡ (hasBit uses l && ltb base b) ⌝ }
 {
-    let mask = p.uses[x];
-    if has_bit(mask, l) {
-        let base = p.base[x];
+    if has_bit(uses, l) {
         return base < b;
     }
     false
 }
 
-// Whether lock l has a user of base below b.
-fn lower_user(p: Plan, b: u8, l: u8) -> bool
-    ensures { λ r. ⌜ r ≡ lowerUser p b l ⌝ }
+// Whether lock l has a user of base below b among the first n tasks.
+fn lower_user(n: usize, base: &[u8; MAX_TASKS], uses: &[u32; MAX_TASKS], b: u8, l: u8) -> bool
+    requires { ⌜ n ≤ maxTasks ⌝ }
+    ensures { λ r. ⌜ r ≡ any (lowerBy (now (base .entry)) (now (uses .entry)) b l) n ⌝ }
 {
-    let uses = p.uses;
-    let n = least(p.tasks, task_places(&uses));
     let mut x: usize = 0;
     while x < n {
-        if lower_at(p, b, l, x) {
+        if lower_at(base[x], uses[x], b, l) {
             return true;
         }
         x += 1;
@@ -75,39 +75,74 @@ fn lower_user(p: Plan, b: u8, l: u8) -> bool
     false
 }
 
-fn may_block(p: Plan, b: u8, l: usize) -> bool
-    requires { ⌜ l < maxLocks ⌝ }
-    ensures { λ r. ⌜ r ≡ mayBlock p b l ⌝ }
+fn may_block(
+    n: usize,
+    base: &[u8; MAX_TASKS],
+    ceiling: &[u8; MAX_LOCKS],
+    uses: &[u32; MAX_TASKS],
+    b: u8,
+    l: usize,
+) -> bool
+    requires { ⌜ (n ≤ maxTasks) × (l < maxLocks) ⌝ }
+    ensures { λ r. ⌜ r ≡ blocksBy n (now (base .entry)) (now (ceiling .entry)) (now (uses .entry)) b l ⌝ }
 {
-    if b <= p.ceiling[l] {
-        return lower_user(p, b, l as u8);
+    if b <= ceiling[l] {
+        return lower_user(n, base, uses, b, l as u8);
     }
     false
 }
 
 // The limit of lock l if it may hold up a task of base b, and 0 if not.
-fn limit_if(p: Plan, b: u8, l: usize) -> u16
-    requires { ⌜ l < maxLocks ⌝ }
-    ensures { λ r. ⌜ r ≡ limitIf p b l ⌝ }
+fn limit_if(
+    n: usize,
+    base: &[u8; MAX_TASKS],
+    ceiling: &[u8; MAX_LOCKS],
+    limit: &[u16; MAX_LOCKS],
+    uses: &[u32; MAX_TASKS],
+    b: u8,
+    l: usize,
+) -> u16
+    requires { ⌜ (n ≤ maxTasks) × (l < maxLocks) ⌝ }
+    ensures { λ r. ⌜ r ≡ limitBy n (now (base .entry)) (now (ceiling .entry)) (now (limit .entry)) (now (uses .entry)) b l ⌝ }
 {
-    if may_block(p, b, l) {
-        return p.limit[l];
+    if may_block(n, base, ceiling, uses, b, l) {
+        return limit[l];
     }
     0
 }
 
-// The greatest of these limits.
-pub fn longest(p: Plan, b: u8) -> u16
-    ensures { λ r. ⌜ r ≡ longestLimit p b ⌝ }
+// The greatest of these limits, of m locks.
+fn longest_of(
+    n: usize,
+    m: usize,
+    base: &[u8; MAX_TASKS],
+    ceiling: &[u8; MAX_LOCKS],
+    limit: &[u16; MAX_LOCKS],
+    uses: &[u32; MAX_TASKS],
+    b: u8,
+) -> u16
+    requires { ⌜ (n ≤ maxTasks) × (m ≤ maxLocks) ⌝ }
+    ensures { λ r. ⌜ r ≡ greatest (limitBy n (now (base .entry)) (now (ceiling .entry)) (now (limit .entry)) (now (uses .entry)) b) m ⌝ }
 {
-    let limit = p.limit;
-    let m = least(p.locks, lock_places(&limit));
     let mut top: u16 = 0;
     let mut l: usize = 0;
     while l < m {
-        let units = limit_if(p, b, l);
+        let units = limit_if(n, base, ceiling, limit, uses, b, l);
         top = greater_word(top, units);
         l += 1;
     }
     top
+}
+
+// The plan is taken apart once.
+pub fn longest(p: Plan, b: u8) -> u16
+    ensures { λ r. ⌜ r ≡ longestLimit p b ⌝ }
+{
+    let base = p.base;
+    let ceiling = p.ceiling;
+    let limit = p.limit;
+    let uses = p.uses;
+    let n = least(p.tasks, task_places(&uses));
+    let m = least(p.locks, lock_places(&limit));
+    longest_of(n, m, &base, &ceiling, &limit, &uses, b)
 }

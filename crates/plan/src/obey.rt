@@ -1,9 +1,11 @@
-// Whether a plan that is handed in obeys 2 and 4 to 7, and holds 0 in its unused places.
-use crate::ceilings::ceiling_fault;
+// Whether a plan that is handed in obeys 4 to 7, and holds 0 in its unused places. It was taken apart:
+// each test is lent the arrays that it asks.
+use crate::ceilings::wrong_ceiling;
 use figures::spare::spare8;
 use figures::spare::spare16;
 use figures::spare::spare32;
-use rules::plan::Plan;
+use rules::capacity::MAX_LOCKS;
+use rules::capacity::MAX_TASKS;
 ghost use mathlib.Core.Path.{_≡_};
 ghost use mathlib.Core.Bool.{not};
 ghost use mathlib.Core.List.{[], _∷_};
@@ -13,7 +15,7 @@ ghost use Rattle.rules.specs.Numbers.Capacity.{maxLocks, maxTasks};
 ghost use Rattle.rules.specs.Numbers.Choice.{allTrue};
 ghost use Rattle.rules.specs.Numbers.Place.{every};
 ghost use Rattle.rules.specs.Books.Plan.{lockFault, taskFault};
-ghost use Rattle.rules.specs.Soundness.SoundTest.{lockObeys, spareObeys, taskObeys};
+ghost use Rattle.plan.specs.Lent.{lockBy, partsBy, spareBy, taskBy};
 
 fn legal_task(base: u8, uses: u32, m: usize) -> bool
     requires { ⌜ m ≤ maxLocks ⌝ }
@@ -26,21 +28,20 @@ fn legal_task(base: u8, uses: u32, m: usize) -> bool
     (uses as u64) < past
 }
 
-fn task_obeys(p: Plan, t: usize) -> bool
-    requires { ⌜ (t < maxTasks) × (p .locks ≤ maxLocks) ⌝ }
-    ensures { λ r. ⌜ r ≡ taskObeys p t ⌝ }
+fn task_obeys(m: usize, base: &[u8; MAX_TASKS], uses: &[u32; MAX_TASKS], t: usize) -> bool
+    requires { ⌜ (m ≤ maxLocks) × (t < maxTasks) ⌝ }
+    ensures { λ r. ⌜ r ≡ taskBy m (now (base .entry)) (now (uses .entry)) t ⌝ }
 {
-    legal_task(p.base[t], p.uses[t], p.locks)
+    legal_task(base[t], uses[t], m)
 }
 
-pub fn tasks_obey(p: Plan) -> bool
-    requires { ⌜ (p .tasks ≤ maxTasks) × (p .locks ≤ maxLocks) ⌝ }
-    ensures { λ r. ⌜ r ≡ every (taskObeys p) (p .tasks) ⌝ }
+fn tasks_obey(n: usize, m: usize, base: &[u8; MAX_TASKS], uses: &[u32; MAX_TASKS]) -> bool
+    requires { ⌜ (n ≤ maxTasks) × (m ≤ maxLocks) ⌝ }
+    ensures { λ r. ⌜ r ≡ every (taskBy m (now (base .entry)) (now (uses .entry))) n ⌝ }
 {
-    let n = p.tasks;
     let mut t: usize = 0;
     while t < n {
-        if !task_obeys(p, t) {
+        if !task_obeys(m, base, uses, t) {
             return false;
         }
         t += 1;
@@ -60,22 +61,35 @@ fn legal_lock(ceiling: u8, limit: u16, wrong: bool) -> bool
     !wrong
 }
 
-fn lock_obeys(p: Plan, l: usize) -> bool
-    requires { ⌜ (p .tasks ≤ maxTasks) × (l < maxLocks) ⌝ }
-    ensures { λ r. ⌜ r ≡ lockObeys p l ⌝ }
+fn lock_obeys(
+    n: usize,
+    base: &[u8; MAX_TASKS],
+    ceiling: &[u8; MAX_LOCKS],
+    limit: &[u16; MAX_LOCKS],
+    uses: &[u32; MAX_TASKS],
+    l: usize,
+) -> bool
+    requires { ⌜ (n ≤ maxTasks) × (l < maxLocks) ⌝ }
+    ensures { λ r. ⌜ r ≡ lockBy n (now (base .entry)) (now (ceiling .entry)) (now (limit .entry)) (now (uses .entry)) l ⌝ }
 {
-    let wrong = ceiling_fault(p, l);
-    legal_lock(p.ceiling[l], p.limit[l], wrong)
+    let wrong = wrong_ceiling(n, base, ceiling, uses, l);
+    legal_lock(ceiling[l], limit[l], wrong)
 }
 
-pub fn locks_obey(p: Plan) -> bool
-    requires { ⌜ (p .tasks ≤ maxTasks) × (p .locks ≤ maxLocks) ⌝ }
-    ensures { λ r. ⌜ r ≡ every (lockObeys p) (p .locks) ⌝ }
+fn locks_obey(
+    n: usize,
+    m: usize,
+    base: &[u8; MAX_TASKS],
+    ceiling: &[u8; MAX_LOCKS],
+    limit: &[u16; MAX_LOCKS],
+    uses: &[u32; MAX_TASKS],
+) -> bool
+    requires { ⌜ (n ≤ maxTasks) × (m ≤ maxLocks) ⌝ }
+    ensures { λ r. ⌜ r ≡ every (lockBy n (now (base .entry)) (now (ceiling .entry)) (now (limit .entry)) (now (uses .entry))) m ⌝ }
 {
-    let m = p.locks;
     let mut l: usize = 0;
     while l < m {
-        if !lock_obeys(p, l) {
+        if !lock_obeys(n, base, ceiling, limit, uses, l) {
             return false;
         }
         l += 1;
@@ -83,23 +97,45 @@ pub fn locks_obey(p: Plan) -> bool
     true
 }
 
-pub fn spare_obeys(p: Plan) -> bool
-    ensures { λ r. ⌜ r ≡ spareObeys p ⌝ }
+fn spare_obeys(
+    n: usize,
+    m: usize,
+    base: &[u8; MAX_TASKS],
+    ceiling: &[u8; MAX_LOCKS],
+    limit: &[u16; MAX_LOCKS],
+    uses: &[u32; MAX_TASKS],
+) -> bool
+    ensures { λ r. ⌜ r ≡ spareBy n m (now (base .entry)) (now (ceiling .entry)) (now (limit .entry)) (now (uses .entry)) ⌝ }
 {
-    let n = p.tasks;
-    let base = p.base;
-    if !spare8(&base, n) {
+    if !spare8(base, n) {
         return false;
     }
-    let uses = p.uses;
-    if !spare32(&uses, n) {
+    if !spare32(uses, n) {
         return false;
     }
-    let m = p.locks;
-    let ceiling = p.ceiling;
-    if !spare8(&ceiling, m) {
+    if !spare8(ceiling, m) {
         return false;
     }
-    let limit = p.limit;
-    spare16(&limit, m)
+    spare16(limit, m)
+}
+
+// A plan of n tasks and m locks.
+pub fn parts_obey(
+    n: usize,
+    m: usize,
+    base: &[u8; MAX_TASKS],
+    ceiling: &[u8; MAX_LOCKS],
+    limit: &[u16; MAX_LOCKS],
+    uses: &[u32; MAX_TASKS],
+) -> bool
+    requires { ⌜ (n ≤ maxTasks) × (m ≤ maxLocks) ⌝ }
+    ensures { λ r. ⌜ r ≡ partsBy n m (now (base .entry)) (now (ceiling .entry)) (now (limit .entry)) (now (uses .entry)) ⌝ }
+{
+    if !tasks_obey(n, m, base, uses) {
+        return false;
+    }
+    if !locks_obey(n, m, base, ceiling, limit, uses) {
+        return false;
+    }
+    spare_obeys(n, m, base, ceiling, limit, uses)
 }

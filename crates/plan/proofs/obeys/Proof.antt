@@ -1,7 +1,7 @@
--- `plan::obeys` meets its contract. Each test in its turn. Assumes nothing.
+-- `plan::obeys` meets its contract. The counts, and then the tests of its parts. Assumes nothing.
 use Rattle.rules.proofs.Numbers.Choice.{alls, nots, flags}
 use Rattle.rules.specs.Soundness.SoundTest as SoundTest
-use Rattle.plan.proofs.Ruled.{tasks-fit, locks-fit}
+use Rattle.plan.proofs.Ruled.{tasks-fit, locks-fit, parts-obey}
 use borrow.Author.Needs.{needs}
 use Rattle.plan.proofs.obeys.Statement.{statement}
 use Rattle.plan.proofs.obeys.Tie as tie
@@ -13,5 +13,4 @@ obeys-spec =
     (tie.spec
     (λ c κs. search needs) (λ c. search (alls, nots, flags)) (λ c κs. search needs)
     (λ c. search (alls, nots, flags)) (λ c κs. (search (tasks-fit, flags), search (locks-fit, flags)))
-    (λ c. search (alls, nots, flags)) (λ c κs. (search (tasks-fit, flags), search (locks-fit, flags)))
-    (λ c. search (alls, nots, flags)) (λ c κs. search needs) (λ c. search (alls, nots, flags)))
+    (λ c. search parts-obey))

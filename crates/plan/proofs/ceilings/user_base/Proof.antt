@@ -8,4 +8,4 @@ pub user-base-spec : {M : Type 1} → statement M
 user-base-spec =
     tie.close
     (tie.spec
-    (λ c κs. search needs) (λ c. search needs) (λ c. search flags) (λ c. search flags))
+    (λ c κs. search needs) (λ c. search flags) (λ c. search flags))

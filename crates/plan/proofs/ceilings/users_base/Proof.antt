@@ -4,21 +4,22 @@ use Rattle.rules.proofs.Numbers.Place.{GreatestSoFar, greatest-start, greatest-
 use Rattle.rules.specs.Numbers.Choice.{if_then_else_}
 use Rattle.rules.specs.Numbers.Mask.{hasBit}
 use Rattle.rules.specs.Numbers.Place.{at}
-use Rattle.rules.specs.Books.Plan.{usersBase, declares}
+use Rattle.plan.specs.Lent.{usersTop}
 use borrow.Author.Needs.{needs}
 use Rattle.plan.proofs.ceilings.users_base.Statement.{statement}
 use Rattle.plan.proofs.ceilings.users_base.Tie as tie
 
 abbrev Inv-loop : tie.InvT-loop
-Inv-loop l n base uses top₀ x₀ top x = GreatestSoFar (λ y. if hasBit (at uses y) l then at base y else 0) n x top
+Inv-loop n base uses l top₀ x₀ top x = GreatestSoFar (λ y. if hasBit (at uses y) l then at base y else 0) n x top
 
 abbrev μ-loop : tie.MeasureT-loop
-μ-loop l n base uses top₀ x₀ top x = n - x
+μ-loop n base uses l top₀ x₀ top x = n - x
 
 pub users-base-spec : {M : Type 1} → statement M
-unfolding usersBase declares
+unfolding usersTop
 users-base-spec =
     tie.close
     (tie.spec
-    Inv-loop μ-loop (λ c. search greatest-start) (λ c κs. search needs) (λ c κs. search needs)
+    Inv-loop μ-loop (λ c. search greatest-start) (λ c. search needs) (λ c. search needs) (λ c. search needs)
+    (λ c κs. search needs) (λ c κs. search needs)
     (λ c. search needs) (λ c. search needs) (λ c. search greatest-next) (λ c. search greatest-ends))

@@ -8,5 +8,4 @@ pub lower-at-spec : {M : Type 1} → statement M
 lower-at-spec =
     tie.close
     (tie.spec
-    (λ c. search needs) (λ c. search needs) (λ c κs. search needs) (λ c. search needs) (λ c. search low-yes)
-    (λ c. search low-no))
+    (λ c κs. search needs) (λ c. search low-yes) (λ c. search low-no))

@@ -1,17 +1,17 @@
--- `plan::obey::locks_obey` meets its contract. Each turn passes one by. Assumes nothing.
+-- `plan::obey::locks_obey` meets its contract. Each turn passes one lock by. Assumes nothing.
 use Prim.Native.Nat.{_-_}
 use Rattle.rules.proofs.Numbers.Choice.{flags}
 use Rattle.rules.proofs.Numbers.Place.{AllSoFar, every-start, every-next, every-fails, every-ends}
-use Rattle.rules.specs.Soundness.SoundTest.{lockObeys}
+use Rattle.plan.specs.Lent.{lockBy}
 use borrow.Author.Needs.{needs}
 use Rattle.plan.proofs.obey.locks_obey.Statement.{statement}
 use Rattle.plan.proofs.obey.locks_obey.Tie as tie
 
 abbrev Inv-loop : tie.InvT-loop
-Inv-loop p m l₀ l = AllSoFar (lockObeys p) m l
+Inv-loop n m base ceiling limit uses l₀ l = AllSoFar (lockBy n base ceiling limit uses) m l
 
 abbrev μ-loop : tie.MeasureT-loop
-μ-loop p m l₀ l = m - l
+μ-loop n m base ceiling limit uses l₀ l = m - l
 
 pub locks-obey-spec : {M : Type 1} → statement M
 locks-obey-spec =

@@ -1,11 +1,11 @@
 -- `plan::obey::task_obeys` meets its contract. The definition, by its parts. Assumes nothing.
-use Rattle.rules.specs.Soundness.SoundTest.{taskObeys}
+use Rattle.plan.specs.Lent.{taskBy}
 use borrow.Author.Needs.{needs}
 use Rattle.plan.proofs.obey.task_obeys.Statement.{statement}
 use Rattle.plan.proofs.obey.task_obeys.Tie as tie
 
 pub task-obeys-spec : {M : Type 1} → statement M
-unfolding taskObeys
+unfolding taskBy
 task-obeys-spec =
     tie.close
     (tie.spec

@@ -1,17 +1,17 @@
--- `plan::obey::tasks_obey` meets its contract. Each turn passes one by. Assumes nothing.
+-- `plan::obey::tasks_obey` meets its contract. Each turn passes one task by. Assumes nothing.
 use Prim.Native.Nat.{_-_}
 use Rattle.rules.proofs.Numbers.Choice.{flags}
 use Rattle.rules.proofs.Numbers.Place.{AllSoFar, every-start, every-next, every-fails, every-ends}
-use Rattle.rules.specs.Soundness.SoundTest.{taskObeys}
+use Rattle.plan.specs.Lent.{taskBy}
 use borrow.Author.Needs.{needs}
 use Rattle.plan.proofs.obey.tasks_obey.Statement.{statement}
 use Rattle.plan.proofs.obey.tasks_obey.Tie as tie
 
 abbrev Inv-loop : tie.InvT-loop
-Inv-loop p n t₀ t = AllSoFar (taskObeys p) n t
+Inv-loop n m base uses t₀ t = AllSoFar (taskBy m base uses) n t
 
 abbrev μ-loop : tie.MeasureT-loop
-μ-loop p n t₀ t = n - t
+μ-loop n m base uses t₀ t = n - t
 
 pub tasks-obey-spec : {M : Type 1} → statement M
 tasks-obey-spec =

@@ -1,20 +1,20 @@
--- `plan::ceilings::first_ceiling` meets its contract. Each turn passes one record by. Assumes nothing.
+-- `plan::ceilings::first_wrong` meets its contract. Each turn passes one lock by. Assumes nothing.
 use Prim.Native.Nat.{_-_}
 use Rattle.rules.proofs.Numbers.Choice.{flags}
 use Rattle.rules.proofs.Numbers.Place.{PassedSoFar, passed-start, passed-next, passed-found, passed-ends}
-use Rattle.rules.specs.Books.Plan.{ceilingFault}
+use Rattle.plan.specs.Lent.{wrongCeiling}
 use borrow.Author.Needs.{needs}
-use Rattle.plan.proofs.ceilings.first_ceiling.Statement.{statement}
-use Rattle.plan.proofs.ceilings.first_ceiling.Tie as tie
+use Rattle.plan.proofs.ceilings.first_wrong.Statement.{statement}
+use Rattle.plan.proofs.ceilings.first_wrong.Tie as tie
 
 abbrev Inv-loop : tie.InvT-loop
-Inv-loop p m l₀ l = PassedSoFar (ceilingFault p) (m) l
+Inv-loop n m base ceiling uses l₀ l = PassedSoFar (wrongCeiling n base ceiling uses) m l
 
 abbrev μ-loop : tie.MeasureT-loop
-μ-loop p m l₀ l = m - l
+μ-loop n m base ceiling uses l₀ l = m - l
 
-pub first-ceiling-spec : {M : Type 1} → statement M
-first-ceiling-spec =
+pub first-wrong-spec : {M : Type 1} → statement M
+first-wrong-spec =
     tie.close
     (tie.spec
     Inv-loop μ-loop (λ c. search passed-start) (λ c κs. search needs) (λ c. search (passed-found, flags))

@@ -63,3 +63,7 @@ module _ (p : Plan) (b n m j k : ℕ) (tasks : n ≡ min (p .tasks) j) (users : 
   longest-same r locks limits e =
       e ∙ greatest-ext (limitBy n (p .base) (p .ceiling) (p .limit) (p .uses) b) (limitIf p b) m (λ l h. limit-same l)
       ∙ rw (locks, limits) (greatest-clamped (limitIf p b) (p .locks) (length (p .limit)) limit-past)
+
+-- the bound of a task of base b
+pub bound-said : (p : Plan) (t b r : ℕ) → b ≡ at (p .base) t → r ≡ longestLimit p b → r ≡ longestLimit p (at (p .base) t)
+bound-said p t b r e d = rw (← e) d

@@ -1,7 +1,7 @@
 -- The ways through the test of a plan that is handed in. Assumes nothing.
 use mathlib.Core.Path.{_≡_, refl, sym, _∙_, ap}
 use mathlib.Core.Bool.{Bool, true, false, not}
-use mathlib.Core.List.{[], _∷_}
+use mathlib.Core.List.{List, [], _∷_}
 use Prim.Native.Nat.{ℕ, zero, suc, _*_, _%_, _^_, _≤_, _<_}
 use native.Mathlib.Nat.{one-mul, mod-eq-of-lt}
 use native.Mathlib.Omega.{arith}
@@ -15,7 +15,7 @@ use Rattle.rules.specs.Books.Plan.{most, countFault, taskFault, lockFault}
 use Rattle.rules.specs.Numbers.Place.{at, every}
 use Rattle.rules.specs.Soundness.SoundTest.{taskObeys, lockObeys, spareObeys, obeys}
 use Rattle.rules.specs.declared.plan.Plan.{Plan}
-use Rattle.plan.specs.Lent.{taskBy, lockBy, spareBy, partsBy}
+use Rattle.plan.specs.Lent.{wrongCeiling, taskBy, lockBy, spareBy, partsBy}
 use Rattle.plan.proofs.Users.{ceiling-same}
 
 last : (t : Bool) → t ≡ allTrue (t ∷ [])
@@ -57,6 +57,13 @@ module _ (c u : ℕ) (w : Bool) where
   pub lock-limited : (c ≡ 0 → ⊥) → (u ≡ 0 → ⊥) → c < 2 ^ 8 → u < 2 ^ 16 → not w ≡ allTrue (not (lockFault c 0 u) ∷ ltb c (2 ^ 8) ∷ ltb u (2 ^ 16) ∷ not w ∷ [])
   unfolding lockFault allTrue if_then_else_
   lock-limited n z a b = rw (ne-eqb c 0 n, ne-eqb u 0 z, lt-ltb c (2 ^ 8) a, lt-ltb u (2 ^ 16) b) (last (not w))
+
+-- the test of lock l, where w says whether its ceiling is wrong
+pub lock-tested : (n l : ℕ) (base ceiling limit uses : List ℕ) (w r : Bool) → w ≡ wrongCeiling n base ceiling uses l
+    → r ≡ allTrue (not (lockFault (at ceiling l) 0 (at limit l)) ∷ ltb (at ceiling l) (2 ^ 8) ∷ ltb (at limit l) (2 ^ 16) ∷ not w ∷ [])
+    → r ≡ lockBy n base ceiling limit uses l
+unfolding lockBy
+lock-tested n l base ceiling limit uses w r e d = rw (← e) d
 
 -- ---- the whole plan
 

@@ -28,20 +28,13 @@ fn legal_task(base: u8, uses: u32, m: usize) -> bool
     (uses as u64) < past
 }
 
-fn task_obeys(m: usize, base: &[u8; MAX_TASKS], uses: &[u32; MAX_TASKS], t: usize) -> bool
-    requires { ⌜ (m ≤ maxLocks) × (t < maxTasks) ⌝ }
-    ensures { λ r. ⌜ r ≡ taskBy m (now (base .entry)) (now (uses .entry)) t ⌝ }
-{
-    legal_task(base[t], uses[t], m)
-}
-
 fn tasks_obey(n: usize, m: usize, base: &[u8; MAX_TASKS], uses: &[u32; MAX_TASKS]) -> bool
     requires { ⌜ (n ≤ maxTasks) × (m ≤ maxLocks) ⌝ }
     ensures { λ r. ⌜ r ≡ every (taskBy m (now (base .entry)) (now (uses .entry))) n ⌝ }
 {
     let mut t: usize = 0;
     while t < n {
-        if !task_obeys(m, base, uses, t) {
+        if !legal_task(base[t], uses[t], m) {
             return false;
         }
         t += 1;

@@ -14,8 +14,10 @@ abbrev μ-loop : tie.MeasureT-loop
 μ-loop n m base uses t₀ t = n - t
 
 pub tasks-obey-spec : {M : Type 1} → statement M
+unfolding taskBy
 tasks-obey-spec =
     tie.close
     (tie.spec
-    Inv-loop μ-loop (λ c. search every-start) (λ c κs. search needs) (λ c. search (every-fails, flags))
+    Inv-loop μ-loop (λ c. search every-start) (λ c. search needs) (λ c. search needs) (λ c. search needs)
+    (λ c κs. search needs) (λ c. search (every-fails, flags))
     (λ c. search needs) (λ c. search needs) (λ c. search (every-next, flags)) (λ c. search every-ends))

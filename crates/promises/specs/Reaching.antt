@@ -1,4 +1,4 @@
--- That the bound is reached, as the code counts it. Assumes nothing.
+-- RULES 14.3: that the bound is reached, as the code counts it. Assumes nothing.
 use mathlib.Core.Path.{_≡_}
 use mathlib.Core.List.{List}
 use Prim.Native.Nat.{ℕ, _*_, _≤_, _<_}

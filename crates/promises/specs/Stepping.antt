@@ -1,4 +1,4 @@
--- A run of `step` from a fresh start, call by call, and what is promised of each answer. Assumes nothing.
+-- RULES 14.2, 14.3: a run of `step` from a fresh start, call by call, and what is promised of each answer. Assumes nothing.
 use mathlib.Core.Path.{_≡_}
 use mathlib.Core.Logic.{_≢_, _↔_}
 use mathlib.Core.Bool.{true}

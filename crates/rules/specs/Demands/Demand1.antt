@@ -1,5 +1,5 @@
--- Demand 1: whatever is handed in, a refusal is given with its number, at its place, exactly where its own test holds and none before it does; and a refusal
--- changes nothing. Assumes nothing.
+-- RULES 14.1: whatever is handed in, a refusal is given with its number, at its place, exactly where its own test holds and none before it does; and a
+-- refusal changes nothing. Assumes nothing.
 use mathlib.Core.Path.{_≡_}
 use mathlib.Core.Logic.{_↔_}
 use mathlib.Core.Bool.{Bool, true, not}

@@ -116,6 +116,10 @@ module _ (b rows : List ℕ) (r : Replayed) (ran : ranAs r rows ≡ ranOf b) (pl
   whole-front after e =
       rw (e ∙ ap (wrote out 0) (text-is b rows r ran planned), whole-length) (front-whole out (textOf b) (omega (arith, text-fits b)))
 
+  -- and what stands after it stays
+  pub whole-bytes : (after : List ℕ) → after ≡ wrote out 0 (reported r rows) → after ≡ wrote out 0 (textOf b)
+  whole-bytes after e = e ∙ ap (wrote out 0) (text-is b rows r ran planned)
+
   -- as a part of the buffer that is lent
   pub whole-counts : (after : List ℕ) → after ≡ wrote out 0 (reported r rows) → Counts n after
   whole-counts after e =

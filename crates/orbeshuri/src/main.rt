@@ -47,11 +47,12 @@ fn report_state(
     )
 }
 
-// The whole text for a book at the front of `out`, and how many bytes it has.
+// The whole text for a book at the front of `out`, and how many bytes it has. The bytes after it stay.
 fn text(book: &[u8], out: &mut [u8]) -> usize
     requires { ⌜ reportSpace ≤ length (now out) ⌝ }
     ensures { λ r. ⌜ r ≡ length (textOf (now (book .entry))) ⌝ }
     ensures { λ r. ⌜ take r (now (out .exit)) ≡ textOf (now (book .entry)) ⌝ }
+    ensures { λ _. ⌜ now (out .exit) ≡ wrote (now (out .entry)) 0 (textOf (now (book .entry))) ⌝ }
     ensures { λ r. ⌜ Counts r (now (out .exit)) ⌝ }
 {
     let mut rows = [0u8; ROW_SPACE];

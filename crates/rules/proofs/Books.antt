@@ -2,5 +2,6 @@
 pub mod Obeyed
 pub mod Loaded
 pub mod Passes
+pub mod ReadBack
 pub mod WithEvents
 pub mod Cut

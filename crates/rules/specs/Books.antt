@@ -1,5 +1,7 @@
--- RULES 3 to 6: plans and books, their records, their bytes, and refusals 1 to 9.
+-- RULES 3 to 6: plans and books, their records, their bytes, and refusals 1 to 9 and 23.
 pub mod Event
 pub mod Plan
 pub mod Load
 pub mod Book
+pub mod Bytes
+pub mod Write

@@ -48,6 +48,12 @@ pub struct Checked {
     pub events: usize,
 }
 
+// What the writing of a book comes to: what was refused, and the book's length, 0 beside a refusal.
+pub struct Written {
+    pub verdict: Verdict,
+    pub length: usize,
+}
+
 // The answer of a step and the state after it, which is the given one where the event is refused.
 pub struct Stepped {
     pub answer: Answer,

@@ -25,6 +25,7 @@ pub enum Refusal {
     NoWork,
     PastLimit,
     StillOpen,
+    ShortBuffer,
 }
 
 // Its number.
@@ -54,5 +55,6 @@ pub fn number(why: Refusal) -> u8
         Refusal::NoWork => 20,
         Refusal::PastLimit => 21,
         Refusal::StillOpen => 22,
+        Refusal::ShortBuffer => 23,
     }
 }

@@ -18,15 +18,8 @@ use Rattle.rules.specs.declared.refusal.Refusal.{Refusal}
 use Rattle.rules.specs.declared.refusal.Refusal.the-variants.{WrongCount, WrongLayout}
 use Rattle.rules.specs.declared.answer.Verdict.{Verdict}
 use Rattle.rules.proofs.Numbers.Choice.{if-true, if-false, by-test, or-false, lt-or-le}
-use Rattle.rules.proofs.Numbers.Place.{first-none, first-some}
+use Rattle.rules.proofs.Numbers.Place.{first-same, first-none, first-some}
 use Rattle.rules.proofs.Numbers.Checks.{check-finds, check-passes, one-passes}
-
--- the first place of two tests that are the same at each of them
-first-same : (f g : ℕ → Bool) (i left : ℕ) → ((x : ℕ) → i ≤ x → x < i + left → f x ≡ g x) → firstFrom f i left ≡ firstFrom g i left
-unfolding firstFrom
-first-same f g i zero h = refl
-first-same f g i (suc left) h =
-    ap₂ (λ t k. if t then i else k) (h i (omega arith) (omega arith)) (first-same f g (suc i) left (λ x a b. h x (omega arith) (omega arith)))
 
 -- ---- what the contents alone decide
 

@@ -1,5 +1,5 @@
 -- Checks in order, each by the name of its refusal: what the first that finds an offender says, and what is known where none does. Assumes nothing.
-use mathlib.Core.Path.{_≡_, refl, sym, _∙_, ap}
+use mathlib.Core.Path.{_≡_, refl, sym, _∙_, ap, ap₂}
 use mathlib.Core.Logic.{_↔_, ⊎-elim}
 use mathlib.Core.Bool.{Bool, true, false, not}
 use mathlib.Core.List.{List, [], _∷_, _++_}
@@ -13,7 +13,7 @@ use Rattle.rules.specs.Numbers.Answer.{verdictNumber, verdictPlace}
 use Rattle.rules.specs.declared.refusal.Refusal.{Refusal}
 use Rattle.rules.specs.declared.answer.Verdict.{Verdict}
 use Rattle.rules.proofs.Numbers.Choice.{if-true, if-false, by-test, either, untrue, and-true, or-false, lt-or-le}
-use Rattle.rules.proofs.Numbers.Place.{first-stop, first-on, first-none, first-hit, first-before, first-is}
+use Rattle.rules.proofs.Numbers.Place.{first-same, first-stop, first-on, first-none, first-hit, first-before, first-is}
 use Rattle.rules.proofs.Numbers.Order.{among, once}
 use Rattle.rules.proofs.Numbers.Refusals.{numbered}
 
@@ -211,6 +211,20 @@ spare-check cs c ds h = go (firstFault cs) refl
     go : (v : Verdict) → firstFault cs ≡ v → firstFault (cs ++ c ∷ ds) ≡ firstFault (cs ++ ds)
     go Verdict.Passed e = check-right cs (c ∷ ds) e ∙ clean-passes c ds (h e) ∙ sym (check-right cs ds e)
     go (Verdict.Refused why place) e = check-left cs (c ∷ ds) why place e ∙ sym (check-left cs ds why place e)
+
+-- checks whose records offend alike, with the same after them
+pub same-faults : (why : Refusal) (first n : ℕ) (f g : ℕ → Bool) (cs ds : List Check) → ((i : ℕ) → i < n → f i ≡ g i) → firstFault cs ≡ firstFault ds
+    → firstFault ((record { refusal = why; first = first; count = n; fault = f }) ∷ cs)
+    ≡ firstFault ((record { refusal = why; first = first; count = n; fault = g }) ∷ ds)
+unfolding firstFault found
+same-faults why first n f g cs ds h e =
+    let c : Check = record { refusal = why; first = first; count = n; fault = g } in
+    ap₂ (found c) (first-same f g 0 n (λ i _ l. h i (omega arith))) e
+
+pub same-after : (cs ds es : List Check) → firstFault ds ≡ firstFault es → firstFault (cs ++ ds) ≡ firstFault (cs ++ es)
+unfolding firstFault
+same-after [] ds es e = e
+same-after (c ∷ cs) ds es e = ap (found c (firstFrom (c .fault) 0 (c .count))) (same-after cs ds es e)
 
 -- a check of one record
 pub one-finds : (t : Bool) → t ≡ true → 0 ≡ firstFrom (λ _. t) 0 1

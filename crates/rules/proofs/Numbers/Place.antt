@@ -273,6 +273,13 @@ greatest-set xs n t v z l b = le-antisymm
     max-least : (a b c : ℕ) → a ≤ c → b ≤ c → max a b ≤ c
     max-least a b c h g = omega arith
 
+-- the first place of two tests that are the same at each of them
+pub first-same : (f g : ℕ → Bool) (i left : ℕ) → ((x : ℕ) → i ≤ x → x < i + left → f x ≡ g x) → firstFrom f i left ≡ firstFrom g i left
+unfolding firstFrom
+first-same f g i zero h = refl
+first-same f g i (suc left) h =
+    ap₂ (λ t k. if t then i else k) (h i (omega arith) (omega arith)) (first-same f g (suc i) left (λ x a b. h x (omega arith) (omega arith)))
+
 -- ---- tables
 
 module _ {X : Type 0} (f : ℕ → X) where

@@ -74,7 +74,10 @@ locksOf b = longsAt b 1
 abbrev pub usesOf : List ℕ → List ℕ
 usesOf b = wordsAt b 2
 
--- the event body, where it lies
+-- the records of the events as numbers, and the event body where it lies
+abbrev pub eventNumbersOf : List ℕ → List ℕ
+eventNumbersOf b = longsAt b 3
+
 abbrev pub eventBody : List ℕ → List ℕ
 eventBody b = drop (bodyAt b 3) b
 
@@ -97,18 +100,25 @@ foundAt body k =
 abbrev pub planIn : List ℕ → Plan
 planIn b = planOf (tasksOf b) (locksOf b) (usesOf b)
 
+-- 2, of all four entries by their counts, and 8, of n events
+abbrev pub countCheck : (ℕ → ℕ) → Check
+countCheck counts = record { refusal = WrongCount; first = 1; count = 4; fault = λ e. countFault e (counts e) }
+
+abbrev pub eventCheck : ℕ → (ℕ → Bool) → Check
+eventCheck n fault = record { refusal = WrongEvent; first = 0; count = n; fault = fault }
+
 -- 1 (place 0), 2 (the entry, 1 to 4), 3 (the entry, or 5 for the end)
 unfoldable pub contentsChecks : List ℕ → List Check
 contentsChecks b =
     (record { refusal = ShortBook; first = 0; count = 1; fault = λ _. ltb (length b) contents })
-    ∷ (record { refusal = WrongCount; first = 1; count = 4; fault = λ e. countFault e (countAt b e) })
+    ∷ countCheck (countAt b)
     ∷ (record { refusal = WrongLayout; first = 1; count = 5; fault = layoutFault b })
     ∷ []
 
 -- 8 (the event), 9 (place 0): four bytes of row space for each event
 unfoldable pub eventChecks : List ℕ → ℕ → List Check
 eventChecks b room =
-    (record { refusal = WrongEvent; first = 0; count = countAt b 3; fault = recordFault (eventBody b) })
+    eventCheck (countAt b 3) (recordFault (eventBody b))
     ∷ (record { refusal = ShortRows; first = 0; count = 1; fault = λ _. ltb room (countAt b 3 * 4) })
     ∷ []
 

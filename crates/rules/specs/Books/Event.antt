@@ -1,6 +1,6 @@
 -- RULES 4.7: the six events, the kind, id and amount of each in a book, refusal 8, and the event of a record. Assumes nothing.
 use mathlib.Core.Bool.{Bool, true, not}
-use Prim.Native.Nat.{ℕ}
+use Prim.Native.Nat.{ℕ, _+_, _*_, _/_, _%_}
 use lib.Dec.{eqb, leb}
 use Rattle.rules.specs.Numbers.Choice.{if_then_else_}
 use Rattle.rules.specs.declared.event.Event.{Event}
@@ -50,3 +50,25 @@ eventOf kind id amount =
     else if eqb kind 4 then Work amount
     else if eqb kind 5 then Finish
     else Tick
+
+-- ---- a record as one number, low byte first
+
+abbrev pub recordKind : ℕ → ℕ
+recordKind w = w % 256
+
+abbrev pub recordId : ℕ → ℕ
+recordId w = w / 256 % 256
+
+abbrev pub recordAmount : ℕ → ℕ
+recordAmount w = w / 65536
+
+-- whether 8 refuses it, and its event
+unfoldable pub numberFault : ℕ → Bool
+numberFault w = eventFault (recordKind w) (recordId w) (recordAmount w)
+
+unfoldable pub numberEvent : ℕ → Event
+numberEvent w = eventOf (recordKind w) (recordId w) (recordAmount w)
+
+-- the number of an event's record
+abbrev pub eventNumber : Event → ℕ
+eventNumber e = kindOf e + idOf e * 256 + amountOf e * 65536

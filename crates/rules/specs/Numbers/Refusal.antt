@@ -55,6 +55,8 @@ numberOf Refusal.NoWork = 20
 numberOf Refusal.PastLimit = 21
 -- the running task still has a lock open
 numberOf Refusal.StillOpen = 22
+-- the lent buffer is shorter than the book that is to be written
+numberOf Refusal.ShortBuffer = 23
 
 -- tests in order, each with its refusal: the first that holds refuses
 unfoldable pub firstTrue : List (Bool × Refusal) → Tested

@@ -6,3 +6,5 @@ mod Order
 mod Where
 pub mod Accepted
 pub mod EventWalk
+mod Laying
+mod WriteOrder

@@ -1,13 +1,15 @@
-// RULES 4 and 5: a book, that is its contents (1 to 3), its plan (2 and 4 to 7), its events where they
-// lie (8), and the row space for them (9).
+// RULES 4 to 6: a book, that is its contents (1 to 3), its plan (2 and 4 to 7), its events where they
+// lie (8), and the row space for them (9); and the writer of one (23).
 mod bodies;
 mod contents;
 pub mod cursor;
 mod entry;
 mod events;
+mod lay;
 mod number;
 pub mod reader;
 pub mod record;
+pub mod writer;
 
 use rules::answer::Checked;
 use rules::answer::Verdict;

@@ -4,12 +4,12 @@ use mathlib.Core.Logic.{⊎-elim}
 use mathlib.Core.List.{List, [], _∷_}
 use Prim.Native.Nat.{ℕ, zero, suc, _^_, _≤_, _<_, min}
 use native.Mathlib.Omega.{arith}
-use lib.ListN.{length, take, set, replicate, length-take}
-use lib.Seq.{sets, sets-eq, take-append-seam}
+use lib.ListN.{length, take, replicate, length-take}
+use lib.Seq.{take-append-seam}
 use Rattle.io.specs.Counts.{Counts}
 use Rattle.rules.specs.Numbers.Capacity.{maxEvents}
 use Rattle.rules.specs.Numbers.Answer.{verdictNumber, verdictPlace}
-use Rattle.rules.specs.Numbers.Place.{at}
+use Rattle.rules.specs.Numbers.Place.{at, stored}
 use Rattle.rules.specs.Books.Plan.{Obeys}
 use Rattle.rules.specs.Books.Book.{eventsOf, checkOf, checkedAs, checkedOf}
 use Rattle.rules.specs.Schedulers.State.{freshOf}
@@ -21,12 +21,12 @@ use Rattle.rules.specs.declared.event.Event.{Event}
 use Rattle.rules.specs.declared.answer.Verdict.{Verdict}
 use Rattle.rules.specs.declared.answer.Replayed.{Replayed}
 use Rattle.rules.proofs.Numbers.Choice.{lt-or-le}
+use Rattle.rules.proofs.Numbers.Stored.{stored-front}
 use Rattle.rules.proofs.Books.Obeyed.{few-tasks}
 use Rattle.rules.proofs.Numbers.Checks.{none-refused-at}
 use Rattle.rules.proofs.Books.Passes.{passed-contents, passed-obeys}
 use Rattle.rules.proofs.Demands.Replayed.{replayed}
 use Rattle.rules.proofs.Demands.Sizes.{place-few, few-events, row-small, lazy-few, eager-few, bound-word}
-use Rattle.report.specs.Page.{wrote}
 use Rattle.report.specs.Report.{reportOf}
 use Rattle.orbeshuri.specs.Text.{rowSpace, reportSpace, ranOf, textOf}
 use Rattle.orbeshuri.proofs.Written.{rows-room, reported, text-is, refused-text}
@@ -98,13 +98,8 @@ text-fits b = go (checkOf b rowSpace) refl
 
 -- ---- so the whole of it stands at the front of the buffer
 
-wrote-sets : (out : List ℕ) (i : ℕ) (t : List ℕ) → wrote out i t ≡ sets out i t
-unfolding wrote
-wrote-sets out i [] = refl
-wrote-sets out i (x ∷ t) = wrote-sets (set out i x) (suc i) t
-
-front-whole : (out t : List ℕ) → length t ≤ length out → take (length t) (wrote out 0 t) ≡ t
-front-whole out t h = ap (take (length t)) (wrote-sets out 0 t ∙ sets-eq t out 0 (omega arith)) ∙ take-append-seam t _
+front-whole : (out t : List ℕ) → length t ≤ length out → take (length t) (stored out 0 t) ≡ t
+front-whole out t h = ap (take (length t)) (stored-front out t h) ∙ take-append-seam t _
 
 -- the report of a replay, in a buffer with room for every text
 module _ (b rows : List ℕ) (r : Replayed) (ran : ranAs r rows ≡ ranOf b) (planned : r .plan ≡ checkedOf b (length (replicate {A = ℕ} rowSpace 0)) .plan)
@@ -112,15 +107,15 @@ module _ (b rows : List ℕ) (r : Replayed) (ran : ranAs r rows ≡ ranOf b) (pl
   pub whole-length : n ≡ length (textOf b)
   whole-length = omega (arith, text-fits b, counted ∙ ap (λ (t : List ℕ). min (length t) (length out)) (text-is b rows r ran planned))
 
-  pub whole-front : (after : List ℕ) → after ≡ wrote out 0 (reported r rows) → take n after ≡ textOf b
+  pub whole-front : (after : List ℕ) → after ≡ stored out 0 (reported r rows) → take n after ≡ textOf b
   whole-front after e =
-      rw (e ∙ ap (wrote out 0) (text-is b rows r ran planned), whole-length) (front-whole out (textOf b) (omega (arith, text-fits b)))
+      rw (e ∙ ap (stored out 0) (text-is b rows r ran planned), whole-length) (front-whole out (textOf b) (omega (arith, text-fits b)))
 
   -- and what stands after it stays
-  pub whole-bytes : (after : List ℕ) → after ≡ wrote out 0 (reported r rows) → after ≡ wrote out 0 (textOf b)
-  whole-bytes after e = e ∙ ap (wrote out 0) (text-is b rows r ran planned)
+  pub whole-bytes : (after : List ℕ) → after ≡ stored out 0 (reported r rows) → after ≡ stored out 0 (textOf b)
+  whole-bytes after e = e ∙ ap (stored out 0) (text-is b rows r ran planned)
 
   -- as a part of the buffer that is lent
-  pub whole-counts : (after : List ℕ) → after ≡ wrote out 0 (reported r rows) → Counts n after
+  pub whole-counts : (after : List ℕ) → after ≡ stored out 0 (reported r rows) → Counts n after
   whole-counts after e =
       let fill : n ≡ length (take n after) = whole-length ∙ ap length (sym (whole-front after e)) in (omega (arith, length-take n after), fill)

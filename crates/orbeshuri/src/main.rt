@@ -9,7 +9,7 @@ ghost use mathlib.Core.Path.{_≡_};
 ghost use Prim.Native.Nat.{_≤_, min};
 ghost use lib.ListN.{length, take};
 ghost use Rattle.rules.specs.Numbers.Capacity.{maxTasks};
-ghost use Rattle.report.specs.Page.{wrote};
+ghost use Rattle.rules.specs.Numbers.Place.{stored};
 ghost use Rattle.report.specs.Report.{reportOf};
 ghost use Rattle.io.specs.Counts.{Counts};
 ghost use Rattle.orbeshuri.specs.Text.{reportSpace, textOf};
@@ -30,7 +30,7 @@ fn report_state(
     tasks: usize,
 ) -> usize
     requires { ⌜ tasks ≤ maxTasks ⌝ }
-    ensures { λ _. ⌜ now (out .exit) ≡ wrote (now (out .entry)) 0 (reportOf verdict (head .accepted) (now (rows .entry)) (head .lazy) (head .eager)
+    ensures { λ _. ⌜ now (out .exit) ≡ stored (now (out .entry)) 0 (reportOf verdict (head .accepted) (now (rows .entry)) (head .lazy) (head .eager)
         (take tasks delay)) ⌝ }
     ensures { λ r. ⌜ r ≡ min (length (reportOf verdict (head .accepted) (now (rows .entry)) (head .lazy) (head .eager) (take tasks delay)))
         (length (now (out .entry))) ⌝ }
@@ -52,7 +52,7 @@ fn text(book: &[u8], out: &mut [u8]) -> usize
     requires { ⌜ reportSpace ≤ length (now out) ⌝ }
     ensures { λ r. ⌜ r ≡ length (textOf (now (book .entry))) ⌝ }
     ensures { λ r. ⌜ take r (now (out .exit)) ≡ textOf (now (book .entry)) ⌝ }
-    ensures { λ _. ⌜ now (out .exit) ≡ wrote (now (out .entry)) 0 (textOf (now (book .entry))) ⌝ }
+    ensures { λ _. ⌜ now (out .exit) ≡ stored (now (out .entry)) 0 (textOf (now (book .entry))) ⌝ }
     ensures { λ r. ⌜ Counts r (now (out .exit)) ⌝ }
 {
     let mut rows = [0u8; ROW_SPACE];

@@ -1,8 +1,8 @@
 -- The order of the load: each check is asked where those before it found no offender. Assumes nothing.
-use mathlib.Core.Path.{_≡_, refl, sym, _∙_, ap, ap₂}
+use mathlib.Core.Path.{_≡_, refl, sym, _∙_, ap}
 use mathlib.Core.Bool.{Bool, not, _||_}
 use mathlib.Core.List.{List}
-use Prim.Native.Nat.{ℕ, zero, suc, _+_, _≤_, _<_}
+use Prim.Native.Nat.{ℕ, _+_, _≤_, _<_}
 use native.Mathlib.Omega.{arith}
 use lib.Dec.{eqb}
 use lib.ListN.{length, replicate}
@@ -20,7 +20,7 @@ use Rattle.rules.specs.declared.answer.Loaded.{Loaded}
 use Rattle.rules.specs.declared.refusal.Refusal.{Refusal}
 use Rattle.rules.specs.declared.refusal.Refusal.the-variants.{WrongCount, WrongTask, WrongLock, WrongUse, WrongCeiling}
 use Rattle.rules.proofs.Numbers.Choice.{or-false}
-use Rattle.rules.proofs.Numbers.Place.{renewed-table, none-past, getD-tabulate}
+use Rattle.rules.proofs.Numbers.Place.{first-same, renewed-table, none-past, getD-tabulate}
 use Rattle.rules.proofs.Numbers.Checks.{Clean, clean-for, check-left, check-right, check-none, check-finds, check-passes}
 use Rattle.rules.proofs.Books.Loaded.{tasks-fit, locks-fit, use-known}
 use Rattle.plan.specs.Placed.{Placed}
@@ -83,13 +83,6 @@ module _ (tasks locks uses : List ℕ) (e : ℕ) (count : e ≡ firstFrom (count
             ∙ check-none)
 
 -- ---- then 7
-
--- the first place of two tests that are the same at each of them
-first-same : (f g : ℕ → Bool) (i left : ℕ) → ((x : ℕ) → i ≤ x → x < i + left → f x ≡ g x) → firstFrom f i left ≡ firstFrom g i left
-unfolding firstFrom
-first-same f g i zero h = refl
-first-same f g i (suc left) h =
-    ap₂ (λ t k. if t then i else k) (h i (omega arith) (omega arith)) (first-same f g (suc i) left (λ x a b. h x (omega arith) (omega arith)))
 
 -- v is what the checks of the records say
 module _ (tasks locks uses : List ℕ) (v : Verdict) (said : v ≡ firstFault (recordChecks tasks locks uses)) where

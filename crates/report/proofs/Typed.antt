@@ -10,7 +10,8 @@ use lib.ListN.{length, getD, set, drop, length-set, drop-of-length-le}
 use lib.Seq.{set-out, drop-cons}
 use borrow.Author.Tests.{lt-ltb, le-ltb}
 use Rattle.rules.proofs.Numbers.Choice.{if-true, if-false, lt-or-le}
-use Rattle.report.specs.Page.{wrote, Page, page, put, typed}
+use Rattle.rules.specs.Numbers.Place.{stored}
+use Rattle.report.specs.Page.{Page, page, put, typed}
 -- every proof rests on this file, so the block of P1 is checked before them all: a wrong text that it shows is refused there first
 use Rattle.report.specs.Shown
 
@@ -51,27 +52,27 @@ text-ends p q text k e l = ap (typed q) (sym (drop-of-length-le text l)) ∙ e
 
 -- ---- what is typed is what was to be written
 
-wrote-past : (out : List ℕ) (i : ℕ) (text : List ℕ) → length out ≤ i → wrote out i text ≡ out
-unfolding wrote
-wrote-past out i [] l = refl
-wrote-past out i (b ∷ bs) l = ap (λ o. wrote o (suc i) bs) (set-out out i b l) ∙ wrote-past out (suc i) bs (omega arith)
+stored-past : (out : List ℕ) (i : ℕ) (text : List ℕ) → length out ≤ i → stored out i text ≡ out
+unfolding stored
+stored-past out i [] l = refl
+stored-past out i (b ∷ bs) l = ap (λ o. stored o (suc i) bs) (set-out out i b l) ∙ stored-past out (suc i) bs (omega arith)
 
-pub typed-wrote : (out : List ℕ) (i : ℕ) (text : List ℕ) → i ≤ length out
-    → typed (page out i) text ≡ page (wrote out i text) (min (i + length text) (length out))
-unfolding typed wrote
-typed-wrote out i [] l = ap (page out) (omega arith)
-typed-wrote out i (b ∷ bs) l = ⊎-elim
+pub typed-stored : (out : List ℕ) (i : ℕ) (text : List ℕ) → i ≤ length out
+    → typed (page out i) text ≡ page (stored out i text) (min (i + length text) (length out))
+unfolding typed stored
+typed-stored out i [] l = ap (page out) (omega arith)
+typed-stored out i (b ∷ bs) l = ⊎-elim
     (λ (h : i < length out). ap (λ p. typed p bs) (sym (put-within out i b h) ∙ ap (page (set out i b)) (add-one i))
-    ∙ typed-wrote (set out i b) (suc i) bs (omega (arith, length-set out i b))
-    ∙ ap (page (wrote (set out i b) (suc i) bs)) (omega (arith, length-set out i b)))
+    ∙ typed-stored (set out i b) (suc i) bs (omega (arith, length-set out i b))
+    ∙ ap (page (stored (set out i b) (suc i) bs)) (omega (arith, length-set out i b)))
     (λ (h : length out ≤ i). ap (λ p. typed p bs) (sym (put-past out i b h))
-    ∙ typed-wrote out i bs l
-    ∙ ap₂ page (wrote-past out i bs h ∙ sym (ap (λ o. wrote o (suc i) bs) (set-out out i b h) ∙ wrote-past out (suc i) bs (omega arith))) (omega arith))
+    ∙ typed-stored out i bs l
+    ∙ ap₂ page (stored-past out i bs h ∙ sym (ap (λ o. stored o (suc i) bs) (set-out out i b h) ∙ stored-past out (suc i) bs (omega arith))) (omega arith))
     (lt-or-le i (length out))
 
 -- from the start, as the contract has it
-pub typed-bytes : (out ys : List ℕ) (r : ℕ) (text : List ℕ) → page ys r ≡ typed (page out 0) text → ys ≡ wrote out 0 text
-typed-bytes out ys r text h = ap (λ p. p .bytes) (h ∙ typed-wrote out 0 text (omega arith))
+pub typed-bytes : (out ys : List ℕ) (r : ℕ) (text : List ℕ) → page ys r ≡ typed (page out 0) text → ys ≡ stored out 0 text
+typed-bytes out ys r text h = ap (λ p. p .bytes) (h ∙ typed-stored out 0 text (omega arith))
 
 pub typed-length : (out ys : List ℕ) (r : ℕ) (text : List ℕ) → page ys r ≡ typed (page out 0) text → r ≡ min (length text) (length out)
-typed-length out ys r text h = ap (λ p. p .place) (h ∙ typed-wrote out 0 text (omega arith)) ∙ omega arith
+typed-length out ys r text h = ap (λ p. p .place) (h ∙ typed-stored out 0 text (omega arith)) ∙ omega arith

@@ -1,16 +1,11 @@
 -- RULES 15: a text written into lent bytes; it is cut where they end. Assumes nothing.
 use mathlib.Core.List.{List, [], _∷_}
-use Prim.Native.Nat.{ℕ, suc, _+_}
+use Prim.Native.Nat.{ℕ, _+_}
 use lib.Dec.{ltb}
 use lib.ListN.{length, set}
 use Rattle.rules.specs.Numbers.Choice.{if_then_else_}
 
--- the bytes with a text from place i on; a place past the end is not written
-unfoldable pub wrote : List ℕ → ℕ → List ℕ → List ℕ
-wrote out i [] = out
-wrote out i (b ∷ bs) = wrote (set out i b) (suc i) bs
-
--- the same as the code goes along: the bytes, and the place that is next, which is at most their end
+-- as the code goes along: the bytes, and the place that is next, which is at most their end
 pub record Page : Type 0 where
   pub bytes : List ℕ
   pub place : ℕ

@@ -7,7 +7,8 @@ ghost use mathlib.Core.Path.{_≡_};
 ghost use mathlib.Core.List.{_++_};
 ghost use Prim.Native.Nat.{min};
 ghost use lib.ListN.{length};
-ghost use Rattle.report.specs.Page.{page, typed, wrote};
+ghost use Rattle.rules.specs.Numbers.Place.{stored};
+ghost use Rattle.report.specs.Page.{page, typed};
 ghost use Rattle.report.specs.Report.{header, rowLines, callsLine, delayedLine, reportOf};
 
 // The header and the rows so far.
@@ -57,7 +58,7 @@ pub fn report(
     eager: u32,
     delay: &[u16],
 ) -> usize
-    ensures { λ _. ⌜ now (out .exit) ≡ wrote (now (out .entry)) 0 (reportOf verdict accepted (now (rows .entry)) lazy eager (now (delay .entry))) ⌝ }
+    ensures { λ _. ⌜ now (out .exit) ≡ stored (now (out .entry)) 0 (reportOf verdict accepted (now (rows .entry)) lazy eager (now (delay .entry))) ⌝ }
     ensures { λ r. ⌜ r ≡ min (length (reportOf verdict accepted (now (rows .entry)) lazy eager (now (delay .entry)))) (length (now (out .entry))) ⌝ }
 {
     put_report(out, verdict, accepted, rows, lazy, eager, delay)

@@ -217,6 +217,7 @@ module _ (tasks locks uses events : List ℕ) where
   layout (suc (suc (suc (suc (suc e))))) h = absurd (omega arith)
 
   same-counts : (e : ℕ) → e < 4 → countFault e (countAt b e) ≡ countFault e (countsOf tasks locks uses events e)
+  unfolding if_then_else_
   same-counts zero h = ap (countFault 0) (counts .0)
   same-counts (suc zero) h = ap (countFault 1) (counts .1)
   same-counts (suc (suc zero)) h = ap (countFault 2) (counts .2)

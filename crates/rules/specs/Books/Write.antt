@@ -1,8 +1,9 @@
 -- RULES 6.5, 6.6: a book that is written from its records into a lent buffer: 2, 4 to 8 and 23 in order, or the book's bytes. Assumes nothing.
 use mathlib.Core.List.{List, [], _∷_, _++_}
 use Prim.Native.Nat.{ℕ}
-use lib.Dec.{ltb}
+use lib.Dec.{eqb, ltb}
 use lib.ListN.{length, drop}
+use Rattle.rules.specs.Numbers.Choice.{if_then_else_}
 use Rattle.rules.specs.Numbers.Place.{at}
 use Rattle.rules.specs.Numbers.Refusal.{Check, firstFault}
 use Rattle.rules.specs.Books.Event.{numberFault}
@@ -13,9 +14,12 @@ use Rattle.rules.specs.declared.answer.Verdict.{Verdict}
 use Rattle.rules.specs.declared.answer.Written.{Written}
 use Rattle.rules.specs.declared.refusal.Refusal.the-variants.{ShortBuffer}
 
--- how many records each entry has
+-- how many records entry e has, of n tasks, m locks, u uses and k events
+abbrev pub countOf : (n m u k : ℕ) → ℕ → ℕ
+countOf n m u k e = if eqb e 0 then n else if eqb e 1 then m else if eqb e 2 then u else k
+
 abbrev pub countsOf : (tasks locks uses events : List ℕ) → ℕ → ℕ
-countsOf tasks locks uses events e = at (length tasks ∷ length locks ∷ length uses ∷ length events ∷ []) e
+countsOf tasks locks uses events e = countOf (length tasks) (length locks) (length uses) (length events) e
 
 -- what is asked of the records of a whole book: 2 (the entry, 1 to 4), those of its plan (4 to 7), 8 (the event)
 unfoldable pub wholeChecks : (tasks locks uses events : List ℕ) → List Check

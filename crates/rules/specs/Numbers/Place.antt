@@ -54,6 +54,11 @@ unfoldable pub renewed : List ℕ → (ℕ → ℕ) → ℕ → List ℕ
 renewed xs f zero = xs
 renewed xs f (suc k) = set (renewed xs f k) k (f k)
 
+-- the list with these values from place i on; what would come past its end is not stored
+unfoldable pub stored : List ℕ → ℕ → List ℕ → List ℕ
+stored xs i [] = xs
+stored xs i (v ∷ vs) = stored (set xs i v) (suc i) vs
+
 -- every element is 0
 unfoldable pub zeros : List ℕ → Bool
 zeros [] = true

@@ -1,4 +1,4 @@
--- The demands hold: of the definitions, and of every replay.
+-- The demands hold: of the definitions, of every replay, and of the writer.
 pub mod Demand1
 pub mod History
 pub mod Urgency
@@ -15,3 +15,4 @@ pub mod WorstRun
 pub mod Running
 pub mod Replayed
 pub mod Sizes
+pub mod Written

@@ -27,7 +27,7 @@ verdict-held Verdict.Passed b = refl
 verdict-held (Verdict.Refused why place) b = refl
 
 module _ (b : List ℕ) where
-  counts-clean : firstFault (contentsChecks b) ≡ Verdict.Passed → (e : ℕ) → e < 3
+  pub counts-clean : firstFault (contentsChecks b) ≡ Verdict.Passed → (e : ℕ) → e < 3
       → countFaultOf (length (tasksOf b)) (length (locksOf b)) (length (usesOf b)) e ≡ false
   unfolding contentsChecks checkFor numberOf countFaultOf if_then_else_
   counts-clean passed zero h = ap (countFault 0) (length-from _ 0 (countAt b 0)) ∙ clean-for (contentsChecks b) passed WrongCount 0 (omega arith)
@@ -57,8 +57,11 @@ module _ (b : List ℕ) where
       unfolding checkOf
       passed-rest = passed-both (loadChecks (tasksOf b) (locksOf b) (usesOf b)) (eventChecks b room) (passed-both (contentsChecks b) _ passed .1)
 
+      pub passed-loads : firstFault (loadChecks (tasksOf b) (locksOf b) (usesOf b)) ≡ Verdict.Passed
+      passed-loads = passed-rest .0
+
       pub passed-obeys : Obeys (planIn b)
-      passed-obeys = loaded-obeys (tasksOf b) (locksOf b) (usesOf b) (passed-rest .0)
+      passed-obeys = loaded-obeys (tasksOf b) (locksOf b) (usesOf b) passed-loads
 
       pub passed-events : firstFault (eventChecks b room) ≡ Verdict.Passed
       passed-events = passed-rest .1

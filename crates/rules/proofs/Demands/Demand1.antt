@@ -1,24 +1,28 @@
 -- Demand 1 holds. Assumes nothing.
 use mathlib.Core.Path.{_≡_, refl, sym, _∙_, ap}
-use mathlib.Core.Bool.{Bool, true}
-use mathlib.Core.List.{List}
-use Prim.Native.Nat.{ℕ, _<_}
+use mathlib.Core.Bool.{Bool, true, false}
+use mathlib.Core.List.{List, [], _∷_}
+use Prim.Native.Nat.{ℕ, zero, suc, _<_}
 use native.Mathlib.Omega.{arith}
 use lib.ListN.{length}
 use Rattle.rules.specs.Numbers.Choice.{if_then_else_}
-use Rattle.rules.specs.Numbers.Refusal.{numberOf, firstTrue, Check, firstFault}
+use Rattle.rules.specs.Numbers.Refusal.{numberOf, firstTrue, Check, firstFault, checkFor}
 use Rattle.rules.specs.Numbers.Answer.{testedNumber, answerNumber, answerCalls, verdictNumber}
-use Rattle.rules.specs.Books.Load.{recordChecks, loadChecks, planOf, loadedAs, loadOf}
-use Rattle.rules.specs.Books.Book.{planIn, eventsOf, checkOf, checkedAs, checkedOf}
+use Rattle.rules.specs.Books.Load.{countFaultOf, recordChecks, loadChecks, planOf, loadedAs, loadOf}
+use Rattle.rules.specs.Books.Book.{countCheck, planIn, eventsOf, checkOf, checkedAs, checkedOf}
+use Rattle.rules.specs.Books.Bytes.{bookOf}
+use Rattle.rules.specs.Books.Write.{countsOf, wholeChecks, writeChecks, wroteAs, writeOf}
 use Rattle.rules.specs.Schedulers.EventRefusals.{testsOf, releaseOrder, acquireOrder, unlockOrder, workOrder, finishOrder, refusalOf}
 use Rattle.rules.specs.Schedulers.Lazy.{wordsOf, lazyCall}
 use Rattle.rules.specs.Soundness.SoundTest.{soundTest}
 use Rattle.rules.specs.Replays.Step.{afterOf, answered, actOf, stepOf}
 use Rattle.rules.specs.Replays.Replay.{replayAs, replayOf}
-use Rattle.rules.specs.Demands.Demand1.{stepTests, StepRefuses, Judged, LoadRefuses, bookChecks, BookRefuses, Untouched, ReplayRefuses, Demand1}
+use Rattle.rules.specs.Demands.Demand1.{stepTests, StepRefuses, Judged, LoadRefuses, bookChecks, BookRefuses, Untouched, ReplayRefuses}
+use Rattle.rules.specs.Demands.Demand1.{writerChecks, WriteRefuses, Demand1}
 use Rattle.rules.specs.declared.plan.Plan.{Plan}
 use Rattle.rules.specs.declared.state.State.{State}
 use Rattle.rules.specs.declared.refusal.Refusal.{Refusal}
+use Rattle.rules.specs.declared.refusal.Refusal.the-variants.{WrongCount}
 use Rattle.rules.specs.declared.answer.Tested.{Tested}
 use Rattle.rules.specs.declared.answer.Verdict.{Verdict}
 use Rattle.rules.specs.declared.event.Event.{Event}
@@ -26,7 +30,7 @@ use Rattle.rules.specs.declared.event.Event.the-variants.{Release, Acqui
 use Rattle.rules.proofs.Numbers.Choice.{by-test}
 use Rattle.rules.proofs.Numbers.Order.{among, once, ofTest, given-exactly, number-given, none-refused}
 use Rattle.rules.proofs.Numbers.Refusals.{numbered}
-use Rattle.rules.proofs.Numbers.Checks.{ofCheck, refused-not, given-at-exactly, number-given-at, none-refused-at}
+use Rattle.rules.proofs.Numbers.Checks.{ofCheck, refused-not, clean-for, spare-check, given-at-exactly, number-given-at, none-refused-at}
 use Rattle.rules.proofs.Books.Loaded.{loaded-obeys}
 use Rattle.rules.proofs.Books.Passes.{check-is, checks-once, passed-obeys}
 use Rattle.rules.proofs.Replays.OneStep.{answered-number}
@@ -141,5 +145,38 @@ replay-refuses b rows = go (checkOf b (length rows))
     go Verdict.Passed h = absurd (omega arith)
     go (Verdict.Refused why place) h = record { number = refl; place = refl; state = refl; bytes = refl }
 
+-- ---- 2, 4 to 8 and 23, of a book that is to be written
+
+module _ (tasks locks uses events : List ℕ) where
+  -- the plan's own check of the counts finds nothing that the check of all four does not
+  counts-spare : firstFault (countCheck (countsOf tasks locks uses events) ∷ []) ≡ Verdict.Passed → (e : ℕ) → e < 3
+      → countFaultOf (length tasks) (length locks) (length uses) e ≡ false
+  unfolding checkFor numberOf countFaultOf if_then_else_
+  counts-spare passed zero h = clean-for (countCheck (countsOf tasks locks uses events) ∷ []) passed WrongCount 0 (omega arith)
+  counts-spare passed (suc zero) h = clean-for (countCheck (countsOf tasks locks uses events) ∷ []) passed WrongCount 1 (omega arith)
+  counts-spare passed (suc (suc zero)) h = clean-for (countCheck (countsOf tasks locks uses events) ∷ []) passed WrongCount 2 (omega arith)
+  counts-spare passed (suc (suc (suc e))) h = absurd (omega arith)
+
+  write-is : (room : ℕ) → firstFault (writeChecks tasks locks uses events room) ≡ firstFault (writerChecks tasks locks uses events room)
+  unfolding writeChecks wholeChecks loadChecks recordChecks
+  write-is room = spare-check (countCheck (countsOf tasks locks uses events) ∷ []) _ _ counts-spare
+
+  writer-once : (room : ℕ) → once ofCheck (writerChecks tasks locks uses events room) ≡ true
+  unfolding writeChecks wholeChecks loadChecks recordChecks among once numberOf
+  writer-once room = refl
+
+  write-refuses : (buffer : List ℕ) → WriteRefuses tasks locks uses events buffer (writeOf tasks locks uses events buffer)
+  unfolding writeOf wroteAs verdictNumber
+  write-refuses buffer = go (firstFault checks) (rw (write-is (length buffer)) (judged (writerChecks tasks locks uses events (length buffer))
+      (writer-once (length buffer))))
+    where
+      checks : List Check
+      checks = writeChecks tasks locks uses events (length buffer)
+
+      go : (v : Verdict) → Judged (writerChecks tasks locks uses events (length buffer)) v
+          → WriteRefuses tasks locks uses events buffer (wroteAs v (bookOf tasks locks uses events) buffer)
+      go Verdict.Passed J = record { judged = J; none = λ h. absurd (omega arith); bytes = λ h. absurd (omega arith) }
+      go (Verdict.Refused why place) J = record { judged = J; none = λ _. refl; bytes = λ _. refl }
+
 pub demand1 : Demand1
-demand1 = record { step = step-refuses; load = load-refuses; check = book-refuses; replay = replay-refuses }
+demand1 = record { step = step-refuses; load = load-refuses; check = book-refuses; replay = replay-refuses; write = write-refuses }

@@ -5,6 +5,7 @@ use Prim.Native.Nat.{ℕ, _*_, _≤_, _<_}
 use native.Mathlib.Omega.{arith}
 use lib.ListN.{length}
 use borrow.Author.Tests.{ltb-false}
+use Rattle.rules.specs.Numbers.Capacity.{maxEvents}
 use Rattle.rules.specs.Numbers.Choice.{if_then_else_}
 use Rattle.rules.specs.Numbers.Place.{at}
 use Rattle.rules.specs.Numbers.Refusal.{numberOf, checkFor}
@@ -43,15 +44,15 @@ module _ (b rows : List ℕ) where
 book-reaches : (b : List ℕ) (room : ℕ) → checkOf b room ≡ Verdict.Passed → Obeys (planIn b) → (t : ℕ) → t < planIn b .tasks → BookReaches b t
 book-reaches b room passed O t h =
     let es : List Event = worstCase (planIn b) t in
-    let same : eventsOf (withEvents b es) ≡ es = events-same b es in
+    let few : length es ≤ maxEvents = omega (arith, worst-few O t h) in
+    let same : eventsOf (withEvents b es) ≡ es = events-same b es (worst-recorded O t h) in
     record {
       book = withEvents b es;
       plan = plan-same b es;
-      bytes = bytes-with b es (omega (arith, worst-few O t h)) (worst-recorded O t h);
+      bytes = bytes-with b es (worst-recorded O t h) room passed few;
       replay = λ rows fits.
           let fit : length es * 4 ≤ length rows = rw same at fits in
-          let accepted : checkOf (withEvents b es) (length rows) ≡ Verdict.Passed = accepted-with b es room passed (omega (arith, worst-few O t h))
-          (worst-recorded O t h) (length rows) fit in
+          let accepted : checkOf (withEvents b es) (length rows) ≡ Verdict.Passed = accepted-with b es (worst-recorded O t h) room passed few (length rows) fit in
           rw (replay-runs (withEvents b es) rows accepted, same, plan-same b es) (worst-reaches O t h rows fit);
     }
 

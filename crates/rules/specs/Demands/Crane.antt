@@ -1,18 +1,20 @@
 -- RULES 18.1, 18.2: the crane plan and its runs P1 to P12, as one table under one claim. Assumes nothing.
 use mathlib.Core.Bool.{Bool, true, false, _&&_}
-use mathlib.Core.List.{List, [], _∷_}
+use mathlib.Core.List.{List, [], _∷_, _++_}
 use Prim.Native.Nat.{ℕ, suc}
 use lib.Dec.{T, eqb}
 use lib.ListN.{length, replicate, take}
 use Rattle.rules.specs.Numbers.Choice.{if_then_else_, allTrue}
 use Rattle.rules.specs.Numbers.Place.{every, any, count, greatest, firstFrom, from, tabulate, renewed, zeros}
 use Rattle.rules.specs.Numbers.Refusal.{numberOf, firstTrue, found, firstFault}
-use Rattle.rules.specs.Numbers.Answer.{verdictNumber}
-use Rattle.rules.specs.Books.Event.{eventFault, eventOf}
+use Rattle.rules.specs.Numbers.Answer.{verdictNumber, verdictPlace}
+use Rattle.rules.specs.Books.Event.{eventFault, eventOf, numberFault}
 use Rattle.rules.specs.Numbers.Mask.{hasBit, withBit}
 use Rattle.rules.specs.Books.Plan.{most, countFault, taskFault, lockFault, declares, users, usersBase, ceilingFault}
 use Rattle.rules.specs.Books.Load.{taskFaultAt, lockFaultAt, countFaultOf, useFault, masksOf, planOf, recordChecks, loadChecks}
 use Rattle.rules.specs.Books.Book.{sizeOf, bodyAt, layoutFault, contentsChecks, eventChecks, checkOf}
+use Rattle.rules.specs.Books.Bytes.{wordBytes, longBytes, bookOf}
+use Rattle.rules.specs.Books.Write.{wholeChecks, writeChecks, wroteAs, writeOf}
 use Rattle.rules.specs.Schedulers.State.{freshOf}
 use Rattle.rules.specs.Numbers.Row.{has, priority, saves}
 use Rattle.rules.specs.Schedulers.Figures.{holds, priorityOf, rankOf}
@@ -36,9 +38,21 @@ use Rattle.rules.specs.declared.event.Event.{Event}
 use Rattle.rules.specs.declared.event.Event.the-variants.{Release, Acquire, Unlock, Work, Finish}
 use Rattle.rules.specs.declared.answer.Answer.{Answer}
 
--- RULES 18.1: the bases of four tasks; the limit and ceiling of two locks; the lock and task of four uses
+-- RULES 18.1: the bases of four tasks; the limit and ceiling of two locks; the lock and task of four uses; and the events of P1: amount, id and kind
+taskNumbers : List ℕ
+taskNumbers = 1 ∷ 3 ∷ 5 ∷ 7 ∷ []
+
+lockNumbers : List ℕ
+lockNumbers = 0x4_0005 ∷ 0xa_0003 ∷ []
+
+useNumbers : List ℕ
+useNumbers = 0x0000 ∷ 0x0100 ∷ 0x0101 ∷ 0x0002 ∷ []
+
+eventNumbers : List ℕ
+eventNumbers = 0x0001 ∷ 0x0002 ∷ 0x0101 ∷ 0x2_0004 ∷ 0x0003 ∷ 0x0005 ∷ 0x0005 ∷ []
+
 crane : Plan
-crane = planOf (1 ∷ 3 ∷ 5 ∷ 7 ∷ []) (0x4_0005 ∷ 0xa_0003 ∷ []) (0x0000 ∷ 0x0100 ∷ 0x0101 ∷ 0x0002 ∷ [])
+crane = planOf taskNumbers lockNumbers useNumbers
 
 -- the book of P1: contents, tasks, locks, uses, events
 unfoldable pub book : List ℕ
@@ -67,6 +81,8 @@ data Case : Type 0 where
   bounds : List ℕ → Case
   -- a book, its row bytes, and the end
   replay : List ℕ → List ℕ → List ℕ → Case
+  -- the plan with events as numbers, written into so many bytes of 7: the number, the place and the length, and the bytes
+  write : List ℕ → ℕ → List ℕ → List ℕ → Case
 
 -- the end: the running task, the user and the next word, lazy and eager calls, and the delays of the four tasks
 endOf : State → List ℕ
@@ -101,6 +117,9 @@ right (run es rows end) = sames (rowsOf freshOf es) rows && same (endOf (lazyAt 
 right (bounds bs) = same (tabulate 4 (boundOf crane)) bs
 right (replay b rows end) =
     let r = replayOf b (replicate (length rows) 0) in eqb (verdictNumber (r .verdict)) 0 && same (r .rows) rows && same (endOf (r .state)) end
+right (write events room answer bytes) =
+    let w = writeOf taskNumbers lockNumbers useNumbers events (replicate room 7) in
+    same (verdictNumber (w .verdict) ∷ verdictPlace (w .verdict) ∷ w .length ∷ []) answer && same (w .bytes) bytes
 
 all : List Case → Bool
 all [] = true
@@ -112,6 +131,10 @@ cases =
     replay book
     (0 ∷ 1 ∷ 0 ∷ 0 ∷ 0 ∷ 5 ∷ 0 ∷ 0 ∷ 0 ∷ 5 ∷ 3 ∷ 0 ∷ 0 ∷ 5 ∷ 3 ∷ 0 ∷ 1 ∷ 3 ∷ 1 ∷ 1 ∷ 0 ∷ 1 ∷ 0 ∷ 0 ∷ 255 ∷ 0 ∷ 0 ∷ 0 ∷ [])
     (255 ∷ 0 ∷ 0 ∷ 1 ∷ 2 ∷ 0 ∷ 2 ∷ 0 ∷ 0 ∷ [])
+    -- that book, written: into a buffer with two bytes more, and into one that is a byte too short; and with a last event of no kind, whose 8 comes before 23
+    ∷ write eventNumbers 86 (0 ∷ 0 ∷ 84 ∷ []) (book ++ replicate 2 7)
+    ∷ write eventNumbers 83 (23 ∷ 0 ∷ 0 ∷ []) (replicate 83 7)
+    ∷ write (eventNumbers ++ 0x0007 ∷ []) 83 (8 ∷ 7 ∷ 0 ∷ []) (replicate 83 7)
     ∷ run (Release 0 ∷ Acquire 0 ∷ Release 1 ∷ Work 2 ∷ Unlock 0 ∷ Finish ∷ Finish ∷ [])
     ((0 ∷ 1 ∷ 0 ∷ 0 ∷ []) ∷ (0 ∷ 5 ∷ 0 ∷ 0 ∷ []) ∷ (0 ∷ 5 ∷ 3 ∷ 0 ∷ []) ∷ (0 ∷ 5 ∷ 3 ∷ 0 ∷ []) ∷ (1 ∷ 3 ∷ 1 ∷ 1 ∷ []) ∷ (0 ∷ 1 ∷ 0 ∷ 0 ∷ [])
     ∷ (255 ∷ 0 ∷ 0 ∷ 0 ∷ []) ∷ [])
@@ -159,11 +182,11 @@ cases =
     ∷ []
 
 table : T (all cases)
-unfolding crane book endOf rowOf rowsOf same sames agree right all cases
-    if_then_else_ allTrue every any count greatest firstFrom from renewed zeros numberOf firstTrue found firstFault verdictNumber eventFault eventOf hasBit
+unfolding taskNumbers lockNumbers useNumbers eventNumbers crane book endOf rowOf rowsOf same sames agree right all cases
+    if_then_else_ allTrue every any count greatest firstFrom from renewed zeros numberOf firstTrue found firstFault verdictNumber verdictPlace eventFault eventOf numberFault hasBit
     withBit
     most countFault taskFault lockFault declares users usersBase ceilingFault taskFaultAt lockFaultAt countFaultOf useFault masksOf planOf recordChecks
-    loadChecks sizeOf bodyAt layoutFault contentsChecks eventChecks checkOf
+    loadChecks sizeOf bodyAt layoutFault contentsChecks eventChecks checkOf wordBytes longBytes bookOf wholeChecks writeChecks wroteAs writeOf
     has priority saves holds priorityOf rankOf earlier earliest elected elsewhere notNewest pastLimit testsOf releaseOrder acquireOrder unlockOrder workOrder
     finishOrder refusalOf eagerCalls charged delayed figuresAfter runningOf settle eagerTest eagerStep
     callsFor runsOn switched waits afterRelease afterAcquire restored afterUnlock wordsAfter lazyCall keptOf savedOf ownerOf

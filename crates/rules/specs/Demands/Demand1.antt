@@ -5,12 +5,13 @@ use mathlib.Core.Logic.{_↔_}
 use mathlib.Core.Bool.{Bool, true, not}
 use mathlib.Core.List.{List, _∷_, _++_}
 use Prim.Native.Nat.{ℕ, _<_}
-use lib.ListN.{length, drop}
+use lib.ListN.{length, take, drop}
 use Rattle.rules.specs.Numbers.Refusal.{numberOf, firstTrue, testFor, testsBefore, Check, Offended}
 use Rattle.rules.specs.Numbers.Answer.{answerNumber, answerCalls, verdictNumber, verdictPlace}
 use Rattle.rules.specs.Books.Plan.{Obeys}
 use Rattle.rules.specs.Books.Load.{blankPlan, loadChecks, loadOf}
 use Rattle.rules.specs.Books.Book.{tasksOf, locksOf, usesOf, contentsChecks, eventChecks, checkOf, checkedOf}
+use Rattle.rules.specs.Books.Write.{writeChecks, Wrote, writeOf}
 use Rattle.rules.specs.Schedulers.State.{freshOf}
 use Rattle.rules.specs.Schedulers.Figures.{figuresOf}
 use Rattle.rules.specs.Schedulers.EventRefusals.{allTests}
@@ -82,8 +83,22 @@ pub record Untouched (rows : List ℕ) (verdict : Verdict) (ran : Ran) : Type 0 
 abbrev pub ReplayRefuses : List ℕ → List ℕ → Ran → Type 0
 ReplayRefuses b rows ran = 0 < verdictNumber (checkOf b (length rows)) → Untouched rows (checkOf b (length rows)) ran
 
+-- ---- 2, 4 to 8 and 23, of a book that is to be written
+
+-- a check for each of them; the counts are checked with the events', so the plan's own check of them is left out
+abbrev pub writerChecks : (tasks locks uses events : List ℕ) → ℕ → List Check
+writerChecks tasks locks uses events room =
+    take 1 (writeChecks tasks locks uses events room) ++ drop 2 (writeChecks tasks locks uses events room)
+
+-- what is asked of w, which the writer made of these records and this buffer: a refusal leaves every byte
+pub record WriteRefuses (tasks locks uses events buffer : List ℕ) (w : Wrote) : Type 0 where
+  pub judged : Judged (writerChecks tasks locks uses events (length buffer)) (w .verdict)
+  pub none : 0 < verdictNumber (w .verdict) → w .length ≡ 0
+  pub bytes : 0 < verdictNumber (w .verdict) → w .bytes ≡ buffer
+
 pub record Demand1 : Type 0 where
   pub step : (p : Plan) (s : State) (e : Event) → StepRefuses p s e (stepOf p s e)
   pub load : (tasks locks uses : List ℕ) → LoadRefuses tasks locks uses (loadOf tasks locks uses)
   pub check : (b : List ℕ) (room : ℕ) → BookRefuses b room (checkedOf b room)
   pub replay : (b rows : List ℕ) → ReplayRefuses b rows (replayOf b rows)
+  pub write : (tasks locks uses events buffer : List ℕ) → WriteRefuses tasks locks uses events buffer (writeOf tasks locks uses events buffer)

@@ -9,6 +9,7 @@ use Rattle.rules.specs.Numbers.Capacity.{nobody}
 use Rattle.rules.specs.Numbers.Place.{at}
 use Rattle.rules.specs.Numbers.Answer.{testedNumber, verdictNumber, verdictPlace}
 use Rattle.rules.specs.Books.Book.{planIn, eventsOf, checkOf}
+use Rattle.rules.specs.Books.Bytes.{Bytes}
 use Rattle.rules.specs.Schedulers.Figures.{figuresOf, holds, rankOf}
 use Rattle.rules.specs.Schedulers.Eager.{eagerTest}
 use Rattle.rules.specs.Replays.Run.{Ran}
@@ -80,7 +81,7 @@ pub record Reaches (p : Plan) (es : List Event) (t : ℕ) (ran : Ran) : Type 0 w
 pub record BookReaches (b : List ℕ) (t : ℕ) : Type 0 where
   pub book : List ℕ
   pub plan : planIn book ≡ planIn b
-  pub bytes : ((i : ℕ) → at b i < 256) → (i : ℕ) → at book i < 256
+  pub bytes : Bytes b → Bytes book
   pub replay : (rows : List ℕ) → length (eventsOf book) * 4 ≤ length rows → Reaches (planIn b) (eventsOf book) t (replayOf book rows)
 
 -- what is promised of the replay of a book b with row space `rows`

@@ -11,6 +11,7 @@ use Rattle.rules.specs.Numbers.Refusal.{numberOf}
 use Rattle.rules.specs.Numbers.Answer.{verdictNumber, verdictPlace, answerNumber, answerCalls}
 use Rattle.rules.specs.Books.Event.{eventFault, eventOf}
 use Rattle.rules.specs.Books.Book.{checkedOf}
+use Rattle.rules.specs.Books.Write.{Wrote, writeOf, wroteWith}
 use Rattle.rules.specs.Demands.Bound.{boundOf}
 use Rattle.rules.specs.Replays.Step.{stepOf}
 use Rattle.rules.specs.Replays.Run.{Ran}
@@ -22,13 +23,15 @@ use Rattle.rules.specs.declared.answer.Checked.{Checked}
 use Rattle.rules.specs.declared.answer.Loaded.{Loaded}
 use Rattle.rules.specs.declared.answer.Stepped.{Stepped}
 use Rattle.rules.specs.declared.answer.Replayed.{Replayed}
+use Rattle.rules.specs.declared.answer.Written.{Written}
 use Rattle.rules.specs.declared.refusal.Refusal.the-variants.{WrongEvent}
 use Rattle.rules.proofs.Numbers.Choice.{if-true, if-false}
-use Rattle.device.specs.Device.{checkSpelled, loadSpelled, replaySpelled, stepSpelled, noEvent, notStepped, stepFrom}
+use Rattle.device.specs.Device.{checkSpelled, loadSpelled, writeSpelled, replaySpelled, stepSpelled, noEvent, notStepped, stepFrom}
 use Rattle.device.specs.declared.check.DeviceCheck.{DeviceCheck}
 use Rattle.device.specs.declared.load.DeviceLoad.{DeviceLoad}
 use Rattle.device.specs.declared.replay.DeviceReplay.{DeviceReplay}
 use Rattle.device.specs.declared.step.DeviceStep.{DeviceStep}
+use Rattle.device.specs.declared.write.DeviceWrite.{DeviceWrite}
 
 -- ---- the answers with a number and a place, or calls, that the code has found
 
@@ -37,6 +40,9 @@ checkWith c n i = record { number = n; place = i; plan = c .plan; events = c .ev
 
 abbrev loadWith : Loaded → ℕ → ℕ → DeviceLoad
 loadWith l n i = record { number = n; place = i; plan = l .plan }
+
+abbrev writeWith : ℕ → ℕ → ℕ → DeviceWrite
+writeWith n i k = record { number = n; place = i; length = k }
 
 abbrev replayWith : Plan → State → ℕ → ℕ → DeviceReplay
 replayWith p s n i = record { number = n; place = i; plan = p; state = s }
@@ -54,6 +60,11 @@ module _ (n i : ℕ) where
   pub load-said : (l : Loaded) → n ≡ verdictNumber (l .verdict) → i ≡ verdictPlace (l .verdict) → loadWith l n i ≡ loadSpelled l
   load-said l e f = ap₂ (loadWith l) e f
 
+  -- a write, whose answer and buffer are the definition's
+  pub write-said : (tasks locks uses events buffer out : List ℕ) (w : Written) → wroteWith w out ≡ writeOf tasks locks uses events buffer
+      → n ≡ verdictNumber (w .verdict) → i ≡ verdictPlace (w .verdict) → writeWith n i (w .length) ≡ writeSpelled (writeOf tasks locks uses events buffer)
+  write-said tasks locks uses events buffer out w wrote e f = ap₂ (λ x y. writeWith x y (w .length)) e f ∙ ap writeSpelled wrote
+
   -- a replay, whose verdict and state are the definition's, and whose plan is the check's
   pub replay-said : (b rows out : List ℕ) (l : Replayed) → ranAs l out ≡ replayOf b rows → l .plan ≡ checkedOf b (length rows) .plan
       → n ≡ verdictNumber (l .verdict) → i ≡ verdictPlace (l .verdict)
@@ -61,6 +72,10 @@ module _ (n i : ℕ) where
   replay-said b rows out l ran q e f =
       ap₂ (replayWith (l .plan) (l .state)) e f ∙ ap (λ (k : Ran). replaySpelled (k .verdict) (l .plan) (k .state)) ran
       ∙ ap (λ p. replaySpelled (replayOf b rows .verdict) p (replayOf b rows .state)) q
+
+pub write-bytes : (tasks locks uses events buffer out : List ℕ) (w : Written) → wroteWith w out ≡ writeOf tasks locks uses events buffer
+    → out ≡ writeOf tasks locks uses events buffer .bytes
+write-bytes tasks locks uses events buffer out w wrote = ap (λ (k : Wrote). k .bytes) wrote
 
 pub replay-rows : (b rows out : List ℕ) (l : Replayed) → ranAs l out ≡ replayOf b rows → out ≡ replayOf b rows .rows
 replay-rows b rows out l ran = ap (λ (k : Ran). k .rows) ran

@@ -8,6 +8,7 @@ use Rattle.rules.specs.Numbers.Choice.{if_then_else_}
 use Rattle.rules.specs.Numbers.Refusal.{numberOf}
 use Rattle.rules.specs.Numbers.Answer.{verdictNumber, verdictPlace, answerNumber, answerCalls}
 use Rattle.rules.specs.Books.Event.{eventFault, eventOf}
+use Rattle.rules.specs.Books.Write.{Wrote}
 use Rattle.rules.specs.Replays.Step.{stepOf}
 use Rattle.rules.specs.declared.plan.Plan.{Plan}
 use Rattle.rules.specs.declared.state.State.{State}
@@ -20,6 +21,7 @@ use Rattle.device.specs.declared.check.DeviceCheck.{DeviceCheck}
 use Rattle.device.specs.declared.load.DeviceLoad.{DeviceLoad}
 use Rattle.device.specs.declared.replay.DeviceReplay.{DeviceReplay}
 use Rattle.device.specs.declared.step.DeviceStep.{DeviceStep}
+use Rattle.device.specs.declared.write.DeviceWrite.{DeviceWrite}
 
 -- the row space of a book of the greatest length
 abbrev pub fullRoom : ℕ
@@ -30,6 +32,9 @@ checkSpelled c = record { number = verdictNumber (c .verdict); place = verdictPl
 
 abbrev pub loadSpelled : Loaded → DeviceLoad
 loadSpelled l = record { number = verdictNumber (l .verdict); place = verdictPlace (l .verdict); plan = l .plan }
+
+abbrev pub writeSpelled : Wrote → DeviceWrite
+writeSpelled w = record { number = verdictNumber (w .verdict); place = verdictPlace (w .verdict); length = w .length }
 
 abbrev pub replaySpelled : Verdict → Plan → State → DeviceReplay
 replaySpelled v p s = record { number = verdictNumber v; place = verdictPlace v; plan = p; state = s }

@@ -116,9 +116,9 @@ module _ (tasks locks uses events : List ℕ) where
 
   -- ---- the contents
 
-  counts : (countAt b 0 ≡ length tasks) × (countAt b 1 ≡ length locks) × (countAt b 2 ≡ length uses) × (countAt b 3 ≡ length events)
+  pub counts-back : (countAt b 0 ≡ length tasks) × (countAt b 1 ≡ length locks) × (countAt b 2 ≡ length uses) × (countAt b 3 ≡ length events)
   unfolding bookOf
-  counts = (omega arith, omega arith, omega arith, omega arith)
+  counts-back = (omega arith, omega arith, omega arith, omega arith)
 
   kinds : (kindAt b 0 ≡ 1) × (kindAt b 1 ≡ 2) × (kindAt b 2 ≡ 3) × (kindAt b 3 ≡ 4)
   unfolding bookOf
@@ -133,10 +133,10 @@ module _ (tasks locks uses events : List ℕ) where
   unfolding bodyAt sizeOf if_then_else_
   starts = (
     refl,
-    omega (arith, counts .0, word-size tasks),
-    omega (arith, counts .0, counts .1, word-size tasks, long-size locks),
-    omega (arith, counts .0, counts .1, counts .2, word-size tasks, long-size locks, word-size uses),
-    omega (arith, counts .0, counts .1, counts .2, counts .3, word-size tasks, long-size locks, word-size uses, long-size events),
+    omega (arith, counts-back .0, word-size tasks),
+    omega (arith, counts-back .0, counts-back .1, word-size tasks, long-size locks),
+    omega (arith, counts-back .0, counts-back .1, counts-back .2, word-size tasks, long-size locks, word-size uses),
+    omega (arith, counts-back .0, counts-back .1, counts-back .2, counts-back .3, word-size tasks, long-size locks, word-size uses, long-size events),
   )
 
   -- ---- the bodies
@@ -168,19 +168,19 @@ module _ (tasks locks uses events : List ℕ) where
   )
 
   pub tasks-back : tasksOf b ≡ tasks
-  tasks-back = ap₂ (λ n p. tabulate n (λ i. word b (p + i * 2))) (counts .0) (starts .0) ∙ words-there b tasks _ contents tasks-there
+  tasks-back = ap₂ (λ n p. tabulate n (λ i. word b (p + i * 2))) (counts-back .0) (starts .0) ∙ words-there b tasks _ contents tasks-there
 
   pub locks-back : locksOf b ≡ locks
-  locks-back = ap₂ (λ n p. tabulate n (λ i. long b (p + i * 4))) (counts .1) (starts .1) ∙ longs-there b locks _ locksAt locks-there
+  locks-back = ap₂ (λ n p. tabulate n (λ i. long b (p + i * 4))) (counts-back .1) (starts .1) ∙ longs-there b locks _ locksAt locks-there
 
   pub uses-back : usesOf b ≡ uses
-  uses-back = ap₂ (λ n p. tabulate n (λ i. word b (p + i * 2))) (counts .2) (starts .2) ∙ words-there b uses _ usesAt uses-there
+  uses-back = ap₂ (λ n p. tabulate n (λ i. word b (p + i * 2))) (counts-back .2) (starts .2) ∙ words-there b uses _ usesAt uses-there
 
   body-back : eventBody b ≡ longBytes events
   body-back = ap (λ p. drop p b) (starts .3) ∙ events-there
 
   pub numbers-back : eventNumbersOf b ≡ events
-  numbers-back = ap₂ (λ n p. tabulate n (λ i. long b (p + i * 4))) (counts .3) (starts .3)
+  numbers-back = ap₂ (λ n p. tabulate n (λ i. long b (p + i * 4))) (counts-back .3) (starts .3)
       ∙ longs-there b events [] eventsAt (events-there ∙ sym (append-nil (longBytes events)))
 
   pub plan-back : planIn b ≡ planOf tasks locks uses
@@ -189,7 +189,7 @@ module _ (tasks locks uses events : List ℕ) where
   pub events-back : eventsOf b ≡ map numberEvent events
   unfolding numberEvent
   events-back =
-      ap₂ (λ n body. tabulate n (recordEvent body)) (counts .3) body-back
+      ap₂ (λ n body. tabulate n (recordEvent body)) (counts-back .3) body-back
       ∙ ap (λ n. tabulate n (recordEvent (longBytes events))) (sym (length-map events numberEvent))
       ∙ read-all Tick (map numberEvent events) (recordEvent (longBytes events))
       (λ i h. let q : i < length events = omega (arith, h, length-map events numberEvent) in
@@ -206,22 +206,22 @@ module _ (tasks locks uses events : List ℕ) where
   unfolding layoutFault if_then_else_
   right e h k o = rw (lt-ltb e 4 h) (rw (k, o, eq-eqb (e + 1) (e + 1) refl, eq-eqb (bodyAt b e) (bodyAt b e) refl) refl)
 
-  layout : (e : ℕ) → e < 5 → layoutFault b e ≡ false
+  pub layout-right : (e : ℕ) → e < 5 → layoutFault b e ≡ false
   unfolding layoutFault if_then_else_
-  layout zero h = right 0 (omega arith) (kinds .0) (offsets .0 ∙ sym (starts .0))
-  layout (suc zero) h = right 1 (omega arith) (kinds .1) (offsets .1 ∙ sym (starts .1))
-  layout (suc (suc zero)) h = right 2 (omega arith) (kinds .2) (offsets .2 ∙ sym (starts .2))
-  layout (suc (suc (suc zero))) h = right 3 (omega arith) (kinds .3) (offsets .3 ∙ sym (starts .3))
-  layout (suc (suc (suc (suc zero)))) h =
+  layout-right zero h = right 0 (omega arith) (kinds .0) (offsets .0 ∙ sym (starts .0))
+  layout-right (suc zero) h = right 1 (omega arith) (kinds .1) (offsets .1 ∙ sym (starts .1))
+  layout-right (suc (suc zero)) h = right 2 (omega arith) (kinds .2) (offsets .2 ∙ sym (starts .2))
+  layout-right (suc (suc (suc zero))) h = right 3 (omega arith) (kinds .3) (offsets .3 ∙ sym (starts .3))
+  layout-right (suc (suc (suc (suc zero)))) h =
       ap not (eq-eqb (bodyAt b 4) (length b) (omega (arith, starts .4, book-size, word-size tasks, long-size locks, word-size uses, long-size events)))
-  layout (suc (suc (suc (suc (suc e))))) h = absurd (omega arith)
+  layout-right (suc (suc (suc (suc (suc e))))) h = absurd (omega arith)
 
   same-counts : (e : ℕ) → e < 4 → countFault e (countAt b e) ≡ countFault e (countsOf tasks locks uses events e)
   unfolding if_then_else_
-  same-counts zero h = ap (countFault 0) (counts .0)
-  same-counts (suc zero) h = ap (countFault 1) (counts .1)
-  same-counts (suc (suc zero)) h = ap (countFault 2) (counts .2)
-  same-counts (suc (suc (suc zero))) h = ap (countFault 3) (counts .3)
+  same-counts zero h = ap (countFault 0) (counts-back .0)
+  same-counts (suc zero) h = ap (countFault 1) (counts-back .1)
+  same-counts (suc (suc zero)) h = ap (countFault 2) (counts-back .2)
+  same-counts (suc (suc (suc zero))) h = ap (countFault 3) (counts-back .3)
   same-counts (suc (suc (suc (suc e)))) h = absurd (omega arith)
 
   same-event : (k : ℕ) → k < length events → recordFault (eventBody b) k ≡ numberFault (at events k)
@@ -238,8 +238,8 @@ module _ (tasks locks uses events : List ℕ) where
   check-back room =
       clean-passes _ _ (λ i h. le-ltb (length b) contents (omega (arith, book-size)))
       ∙ same-faults _ _ _ _ _ _ _ same-counts
-      (clean-passes _ _ layout
+      (clean-passes _ _ layout-right
       ∙ rw (tasks-back, locks-back, uses-back, append-assoc (loadChecks tasks locks uses) (eventCheck (length events) (λ k. numberFault (at events k)) ∷ [])
       (rowCheck room ∷ []))
       (same-after (loadChecks tasks locks uses) _ _
-      (rw (counts .3) (same-faults _ _ _ _ _ _ _ same-event refl))))
+      (rw (counts-back .3) (same-faults _ _ _ _ _ _ _ same-event refl))))

@@ -7,22 +7,27 @@ use contract.Lifetimes.{Lfts}
 use denote.Ref.{now}
 use Rattle.rules.specs.Numbers.Choice.{if_then_else_}
 use Rattle.rules.specs.Books.Event.{eventOf}
+use Rattle.rules.specs.Books.Write.{Wrote, wroteWith}
 use Rattle.rules.specs.Replays.Run.{Ran}
 use Rattle.rules.specs.declared.plan.Plan.{Plan}
 use Rattle.rules.specs.declared.state.State.{State}
 use Rattle.rules.specs.declared.answer.Checked.{Checked}
 use Rattle.rules.specs.declared.answer.Stepped.{Stepped}
 use Rattle.rules.specs.declared.answer.Replayed.{Replayed}
-use Rattle.device.specs.Device.{checkSpelled, replaySpelled, stepSpelled, noEvent, notStepped}
+use Rattle.rules.specs.declared.answer.Written.{Written}
+use Rattle.device.specs.Device.{checkSpelled, writeSpelled, replaySpelled, stepSpelled, noEvent, notStepped}
 use Rattle.device.specs.declared.check.DeviceCheck.{DeviceCheck}
 use Rattle.device.specs.declared.replay.DeviceReplay.{DeviceReplay}
 use Rattle.device.specs.declared.step.DeviceStep.{DeviceStep}
+use Rattle.device.specs.declared.write.DeviceWrite.{DeviceWrite}
 use Rattle.book.proofs.check.Reads as check
+use Rattle.book.proofs.writer.write.Reads as write
 use Rattle.scheduler.proofs.step.Reads as step
 use Rattle.scheduler.proofs.replay.Reads as replay
 use Rattle.device.proofs.check.recorder_check.Reads as recorder-check
 use Rattle.device.proofs.replay.recorder_replay.Reads as recorder-replay
 use Rattle.device.proofs.step.recorder_step.Reads as recorder-step
+use Rattle.device.proofs.write.recorder_write.Reads as recorder-write
 
 pub check-for-host : (κs : Lfts 1) (a : _) (b c : _) (r : DeviceCheck) (q : Checked) → recorder-check.Post κs a r b → check.Post κs a q c → r ≡ checkSpelled q
 check-for-host κs a b c r q h k = h ∙ ap checkSpelled (sym k)
@@ -33,6 +38,10 @@ replay-for-host κs a b c r q h k = (
   h .0 ∙ (λ i. let ran : Ran = sym (k .0) i in replaySpelled (ran .verdict) (sym (k .1) i) (ran .state)),
   h .1 ∙ ap (λ (ran : Ran). ran .rows) (sym (k .0)),
 )
+
+pub write-for-host : (κs : Lfts 5) (a : _) (b c : _) (r : DeviceWrite) (q : Written) → recorder-write.Post κs a r b → write.Post κs a q c
+    → (r ≡ writeSpelled (wroteWith q (now (c .1 .1 .1 .1 .0)))) × (now (b .1 .1 .1 .1 .0) ≡ now (c .1 .1 .1 .1 .0))
+write-for-host κs a b c r q h k = (h .0 ∙ ap writeSpelled (sym k), h .1 ∙ ap (λ (w : Wrote). w .bytes) (sym k))
 
 module _ (p : Plan) (s : State) (kind id amount : ℕ) (r : DeviceStep)
     (h : recorder-step.Post tt (p, (s, (kind, (id, (amount, tt))))) r (p, (s, (kind, (id, (amount, tt)))))) where

@@ -8,3 +8,4 @@ pub mod Steps
 pub mod Replays
 pub mod Reading
 pub mod Device
+pub mod Writing

@@ -6,6 +6,7 @@ use mathlib.Core.List.{List}
 use Prim.Native.Nat.{ℕ}
 use contract.Lifetimes.{Lfts}
 use denote.Ref.{now}
+use Rattle.rules.specs.Books.Write.{Wrote, wroteWith}
 use Rattle.rules.specs.Replays.Run.{Ran}
 use Rattle.rules.specs.Replays.Replay.{ranAs}
 use Rattle.rules.specs.declared.plan.Plan.{Plan}
@@ -18,14 +19,18 @@ use Rattle.rules.specs.declared.answer.Found.{Found}
 use Rattle.rules.specs.declared.answer.Loaded.{Loaded}
 use Rattle.rules.specs.declared.answer.Stepped.{Stepped}
 use Rattle.rules.specs.declared.answer.Replayed.{Replayed}
+use Rattle.rules.specs.declared.answer.Written.{Written}
 use Rattle.device.specs.declared.check.DeviceCheck.{DeviceCheck}
 use Rattle.device.specs.declared.load.DeviceLoad.{DeviceLoad}
 use Rattle.device.specs.declared.step.DeviceStep.{DeviceStep}
 use Rattle.device.specs.declared.replay.DeviceReplay.{DeviceReplay}
+use Rattle.device.specs.declared.write.DeviceWrite.{DeviceWrite}
 use Rattle.kernel.specs.Lent.{steppedAs}
 use Rattle.kernel.specs.declared.acted.Acted.{Acted}
 use Rattle.scheduler.proofs.replay.Reads as replay
 use Rattle.report.proofs.report.Reads as report
+use Rattle.book.proofs.writer.write.Reads as write
+use Rattle.device.proofs.write.recorder_write.Reads as recorder-write
 use Rattle.device.proofs.replay.recorder_replay.Reads as recorder-replay
 use Rattle.kernel.proofs.act.act.Reads as act
 use Rattle.rules.proofs.refusal.number.Reads as number
@@ -274,6 +279,19 @@ one-replay κs a b c r q h k = same-ran r q _ _ _ _ (h .0) (k .0) (h .1) (k .1)
 pub one-recorder-replay : (κs : Lfts 2) (a : _) (b c : _) (r q : DeviceReplay) → recorder-replay.Post κs a r b → recorder-replay.Post κs a q c
     → (r ≡ q) × (now (b .1 .0) ≡ now (c .1 .0))
 one-recorder-replay κs a b c r q h k = (h .0 ∙ sym (k .0), h .1 ∙ sym (k .1))
+
+same-written : (r q : Written) (x y : List ℕ) (wrote : Wrote) → wroteWith r x ≡ wrote → wroteWith q y ≡ wrote → (r ≡ q) × (x ≡ y)
+same-written r q x y wrote h k =
+    let e : wroteWith r x ≡ wroteWith q y = h ∙ sym k in
+    ((λ i. record { verdict = e i .verdict; length = e i .length }), ap (λ (w : Wrote). w .bytes) e)
+
+pub one-write : (κs : Lfts 5) (a : _) (b c : _) (r q : Written) → write.Post κs a r b → write.Post κs a q c
+    → (r ≡ q) × (now (b .1 .1 .1 .1 .0) ≡ now (c .1 .1 .1 .1 .0))
+one-write κs a b c r q h k = same-written r q _ _ _ h k
+
+pub one-recorder-write : (κs : Lfts 5) (a : _) (b c : _) (r q : DeviceWrite) → recorder-write.Post κs a r b → recorder-write.Post κs a q c
+    → (r ≡ q) × (now (b .1 .1 .1 .1 .0) ≡ now (c .1 .1 .1 .1 .0))
+one-recorder-write κs a b c r q h k = (h .0 ∙ sym (k .0), h .1 ∙ sym (k .1))
 
 pub one-report : (κs : Lfts 3) (a : _) (b c : _) (r q : ℕ) → report.Post κs a r b → report.Post κs a q c → (r ≡ q) × (now (b .0) ≡ now (c .0))
 one-report κs a b c r q h k = (h .1 ∙ sym (k .1), h .0 ∙ sym (k .0))

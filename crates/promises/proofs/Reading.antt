@@ -29,7 +29,7 @@ use Rattle.promises.proofs.Passed.{number-is, body-is}
 
 -- what stands at place k of the event body of an accepted book
 module _ (b : List ℕ) (room : ℕ) (c : Checked) (h : c ≡ checkedOf b room) (e : verdictNumber (c .verdict) ≡ 0) where
-  found-at : (body : List ℕ) (k : ℕ) (r : Found) → body ≡ drop (c .events) b → r ≡ foundAt body k → ReadAt b k r
+  pub found-at : (body : List ℕ) (k : ℕ) (r : Found) → body ≡ drop (c .events) b → r ≡ foundAt body k → ReadAt b k r
   found-at body k r same f =
       subst (ReadAt b k) (sym (f ∙ ap (λ x. foundAt x k) (same ∙ body-is b room c h e))) (walks b room (check-passes b room (number-is b room c h e)) k)
 

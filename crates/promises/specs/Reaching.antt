@@ -8,6 +8,7 @@ use denote.Ref.{now}
 use Rattle.rules.specs.Numbers.Place.{at}
 use Rattle.rules.specs.Numbers.Answer.{verdictNumber}
 use Rattle.rules.specs.Books.Book.{planIn, eventsOf}
+use Rattle.rules.specs.Books.Bytes.{Bytes}
 use Rattle.rules.specs.Demands.Job.{Job}
 use Rattle.rules.specs.declared.answer.Replayed.{Replayed}
 use Rattle.scheduler.proofs.replay.Reads as replay
@@ -17,7 +18,7 @@ use Rattle.scheduler.proofs.replay.Reads as replay
 pub record Reaching (b : List ℕ) (t n : ℕ) : Type 0 where
   pub book : List ℕ
   pub plan : planIn book ≡ planIn b
-  pub bytes : ((i : ℕ) → at b i < 256) → (i : ℕ) → at book i < 256
+  pub bytes : Bytes b → Bytes book
   pub released : ℕ
   pub job : Job (planIn b) (eventsOf book) t released (length (eventsOf book))
   pub accepts : (κs : Lfts 2) (lent : _) (left : _) (r : Replayed) → replay.Post κs lent r left → now (lent .0) ≡ book

@@ -206,6 +206,9 @@ module _ (tasks locks uses : List ℕ) where
   unfolding loadOf
   load-passed e = sym (verdict-of (firstFault (loadChecks tasks locks uses)) (planOf tasks locks uses)) ∙ e
 
-  pub load-plan : loadOf tasks locks uses .verdict ≡ Verdict.Passed → loadOf tasks locks uses .plan ≡ planOf tasks locks uses
+  pub loads-plan : firstFault (loadChecks tasks locks uses) ≡ Verdict.Passed → loadOf tasks locks uses .plan ≡ planOf tasks locks uses
   unfolding loadOf loadedAs
-  load-plan e = ap (λ v. loadedAs v (planOf tasks locks uses) .plan) (load-passed e)
+  loads-plan e = ap (λ v. loadedAs v (planOf tasks locks uses) .plan) e
+
+  pub load-plan : loadOf tasks locks uses .verdict ≡ Verdict.Passed → loadOf tasks locks uses .plan ≡ planOf tasks locks uses
+  load-plan e = loads-plan (load-passed e)

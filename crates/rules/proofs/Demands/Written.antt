@@ -11,10 +11,10 @@ use Rattle.rules.specs.Numbers.Choice.{if_then_else_}
 use Rattle.rules.specs.Numbers.Place.{at}
 use Rattle.rules.specs.Numbers.Refusal.{numberOf, firstFault, checkFor}
 use Rattle.rules.specs.Numbers.Answer.{verdictNumber, verdictPlace}
-use Rattle.rules.specs.Books.Load.{planOf}
-use Rattle.rules.specs.Books.Book.{tasksOf, locksOf, usesOf, planIn, eventNumbersOf, eventsOf, checkOf, checkedAs, checkedOf}
+use Rattle.rules.specs.Books.Load.{loadChecks}
+use Rattle.rules.specs.Books.Book.{countCheck, tasksOf, locksOf, usesOf, eventNumbersOf, checkOf, checkedAs}
 use Rattle.rules.specs.Books.Bytes.{bookOf, Bytes, Fit}
-use Rattle.rules.specs.Books.Write.{wholeChecks, writeChecks, Wrote, wroteAs, writeOf}
+use Rattle.rules.specs.Books.Write.{countsOf, wholeChecks, writeChecks, Wrote, wroteAs, writeOf}
 use Rattle.rules.specs.Demands.Written.{bookIn, ReadsAs, RefusesAs, WrittenAs, WrittenBack, Writing}
 use Rattle.rules.specs.declared.answer.Verdict.{Verdict}
 use Rattle.rules.specs.declared.refusal.Refusal.{Refusal}
@@ -22,6 +22,7 @@ use Rattle.rules.specs.declared.refusal.Refusal.the-variants.{ShortBuffe
 use Rattle.rules.proofs.Numbers.Refusals.{numbered}
 use Rattle.rules.proofs.Numbers.Checks.{check-none, clean-passes, clean-for, check-finds, check-left, check-right, passed-both}
 use Rattle.rules.proofs.Numbers.Checks.{one-finds, none-refused-at}
+use Rattle.rules.proofs.Books.Loaded.{loads-plan}
 use Rattle.rules.proofs.Books.ReadBack.{plan-back, events-back, check-back}
 use Rattle.rules.proofs.Books.WriteBack.{book-again}
 use Rattle.rules.proofs.Books.OfBytes.{book-bytes}
@@ -77,12 +78,15 @@ module _ (tasks locks uses events : List ℕ) where
   -- ---- the book reads as the records
 
   reads-as : whole ≡ Verdict.Passed → ReadsAs tasks locks uses events b
-  unfolding checkedAs verdictNumber
-  reads-as e = record {
-    accepted = λ room fits. ap (λ v. verdictNumber (checkedAs v b .verdict)) (read-passed room fits e);
-    plan = λ room fits. ap (λ v. checkedAs v b .plan) (read-passed room fits e) ∙ plan-back tasks locks uses events;
-    list = events-back tasks locks uses events;
-  }
+  unfolding checkedAs verdictNumber wholeChecks
+  reads-as e =
+      let loads : firstFault (loadChecks tasks locks uses) ≡ Verdict.Passed = passed-both (loadChecks tasks locks uses) _
+      (passed-both (countCheck (countsOf tasks locks uses events) ∷ []) _ e .1) .0 in
+      record {
+        accepted = λ room fits. ap (λ v. verdictNumber (checkedAs v b .verdict)) (read-passed room fits e);
+        plan = λ room fits. ap (λ v. checkedAs v b .plan) (read-passed room fits e) ∙ plan-back tasks locks uses events ∙ sym (loads-plan tasks locks uses loads);
+        list = events-back tasks locks uses events;
+      }
 
   module _ (buffer : List ℕ) where
     abbrev w : Wrote

@@ -6,7 +6,7 @@ use lib.ListN.{length, take}
 use Rattle.rules.specs.Numbers.Place.{at}
 use Rattle.rules.specs.Numbers.Answer.{verdictNumber, verdictPlace}
 use Rattle.rules.specs.Books.Event.{numberEvent}
-use Rattle.rules.specs.Books.Load.{planOf}
+use Rattle.rules.specs.Books.Load.{loadOf}
 use Rattle.rules.specs.Books.Book.{tasksOf, locksOf, usesOf, eventNumbersOf, eventsOf, checkOf, checkedOf}
 use Rattle.rules.specs.Books.Bytes.{bookOf, Bytes, Fit}
 use Rattle.rules.specs.Books.Write.{Wrote, writeOf}
@@ -15,10 +15,11 @@ use Rattle.rules.specs.Books.Write.{Wrote, writeOf}
 abbrev pub bookIn : Wrote → List ℕ
 bookIn w = take (w .length) (w .bytes)
 
--- reading what was written: a book that gives these records' plan and their events in order, and is refused nothing with row space for them
+-- reading what was written: a book that is refused nothing with row space for its events, gives the plan that a load of these records gives, and has their
+-- events in order
 pub record ReadsAs (tasks locks uses events : List ℕ) (b : List ℕ) : Type 0 where
   pub accepted : (room : ℕ) → length events * 4 ≤ room → verdictNumber (checkedOf b room .verdict) ≡ 0
-  pub plan : (room : ℕ) → length events * 4 ≤ room → checkedOf b room .plan ≡ planOf tasks locks uses
+  pub plan : (room : ℕ) → length events * 4 ≤ room → checkedOf b room .plan ≡ loadOf tasks locks uses .plan
   pub list : eventsOf b ≡ map numberEvent events
 
 -- the writer refuses with the number and the place that a reader with row space enough gives for the records' bytes; where that reader accepts them,

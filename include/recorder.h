@@ -1,7 +1,7 @@
 /* The recorder's library: target/staticlib/libdevice.a, as `rt staticlib device` writes it for x86-64 Linux.
  *
  * A slice is passed as its address and its length in elements. An address is never null, also where the length is 0;
- * the library keeps none of them after it returns. The rows overlap nothing else that is passed.
+ * the library keeps none of them after it returns. Rows and a buffer overlap nothing else that is passed.
  * A plan and a state are passed and returned by value: the library keeps nothing between two calls.
  * No function fails otherwise than by the number that it returns, whatever it is handed. docs/RULES.md has the numbers
  * in its section 5, and what each function takes and answers in its section 16. */
@@ -15,9 +15,10 @@
 extern "C" {
 #endif
 
-/* The greatest numbers of tasks, locks and events, and what a row takes. */
+/* The greatest numbers of tasks, locks, uses and events, and what a row takes. */
 #define RECORDER_MAX_TASKS 96
 #define RECORDER_MAX_LOCKS 32
+#define RECORDER_MAX_USES 3072
 #define RECORDER_MAX_EVENTS 12000
 #define RECORDER_ROW_BYTES 4
 
@@ -84,6 +85,13 @@ struct recorder_load {
     struct recorder_plan plan; /* every figure is 0 beside a refusal */
 };
 
+/* What a write answers. */
+struct recorder_write {
+    uint8_t number; /* the refusal: 2, 4 to 8 or 23; 0 where nothing is refused */
+    size_t place;   /* the place of its first offender */
+    size_t length;  /* the book's; 0 beside a refusal */
+};
+
 /* The kinds of event, and what each is about. */
 #define RECORDER_RELEASE 1 /* id: a task */
 #define RECORDER_ACQUIRE 2 /* id: a lock */
@@ -106,6 +114,14 @@ struct recorder_check recorder_check(const uint8_t *book, size_t length, size_t 
  * task + lock * 256. */
 struct recorder_load recorder_load_table(const struct recorder_task *tasks, size_t task_count, const uint32_t *locks,
                                          size_t lock_count, const uint16_t *uses, size_t use_count);
+
+/* Writes a book into a buffer of `room` bytes, from its records, one number for each: a task's base; a lock's ceiling +
+ * limit * 65536; a use's task + lock * 256; an event's kind + id * 256 + amount * 65536. Where something is refused no byte
+ * of the buffer changes, else none after the book. RECORDER_MAX_BOOK bytes are always enough; with fewer than the book
+ * has it is refused by 23. */
+struct recorder_write recorder_write(const uint16_t *tasks, size_t task_count, const uint32_t *locks, size_t lock_count,
+                                     const uint16_t *uses, size_t use_count, const uint32_t *events, size_t event_count,
+                                     uint8_t *buffer, size_t room);
 
 /* The state before the first event. */
 struct recorder_state recorder_fresh(void);

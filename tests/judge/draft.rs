@@ -34,6 +34,16 @@ impl Draft {
         }
     }
 
+    /// How many records each body has.
+    pub fn counts(&self) -> [usize; 4] {
+        [
+            self.tasks.len(),
+            self.locks.len(),
+            self.uses.len(),
+            self.events.len(),
+        ]
+    }
+
     /// Four entries: kind (two bytes, counted from 1), number of records (two)
     /// and offset in the book (four). The bodies stand behind them in the same
     /// order without a gap.

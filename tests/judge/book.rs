@@ -1,6 +1,7 @@
 //! The reader of books: refusals 1 to 9 one after another, each naming the first
 //! record that breaks it. A test goes over the whole book before the next one
-//! starts, so each is a function of its own.
+//! starts, so each is a function of its own. The writer has 2 and 4 to 8 from
+//! here too.
 
 use crate::draft::Draft;
 use crate::event::Event;
@@ -47,6 +48,13 @@ pub fn read(bytes: &[u8], row_space: usize) -> Result<Book, Refusal> {
         events,
         events_at,
     })
+}
+
+/// The records of a book, right or wrong, in whatever number; nothing where its
+/// contents don't say where they lie.
+pub fn cut(bytes: &[u8]) -> Option<Draft> {
+    test_1_length(bytes).ok()?;
+    test_3_contents(bytes).ok()
 }
 
 /// Where the bodies start that have so many records, and where the last ends.

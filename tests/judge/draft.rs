@@ -3,7 +3,7 @@
 
 use crate::book::CONTENTS_BYTES;
 use crate::event::Event;
-use crate::plan::Plan;
+use crate::plan::{Lock, Plan};
 
 #[derive(Clone, Default)]
 pub struct Draft {
@@ -42,6 +42,31 @@ impl Draft {
             self.uses.len(),
             self.events.len(),
         ]
+    }
+
+    /// The plan that the records stand for. What is wrong in one of them is not
+    /// looked at, and a use of what isn't there is left out.
+    pub fn plan(&self) -> Plan {
+        let [tasks, locks, ..] = self.counts();
+        let is_known =
+            |(task, lock): &(u8, u8)| usize::from(*task) < tasks && usize::from(*lock) < locks;
+        Plan {
+            bases: self.tasks.iter().map(|[base, _]| *base).collect(),
+            locks: self
+                .locks
+                .iter()
+                .map(|[ceiling, _, low, high]| Lock {
+                    ceiling: *ceiling,
+                    limit: u16::from_le_bytes([*low, *high]),
+                })
+                .collect(),
+            uses: self
+                .uses
+                .iter()
+                .map(|[task, lock]| (*task, *lock))
+                .filter(is_known)
+                .collect(),
+        }
     }
 
     /// Four entries: kind (two bytes, counted from 1), number of records (two)

@@ -1,8 +1,8 @@
 //! An independent judge of the scheduler project: a second reading of the rules,
-//! with its own reader of books, its own two schedulers and its own test of
-//! soundness. It makes books and states, has the program under judgement
-//! replay, check and step them, and compares every field and figure of every
-//! answer with its own. It shares no line with what it judges.
+//! with its own reader and writer of books, its own two schedulers and its own
+//! test of soundness. It makes books, records and states, has the program under
+//! judgement replay, check, write and step them, and compares every field and
+//! figure of every answer with its own. It shares no line with what it judges.
 //!
 //!     judge [OPTION..] -- COMMAND ARGS..
 //!     judge --self [OPTION..]
@@ -41,6 +41,7 @@ mod refusals;
 mod replay;
 mod requests;
 mod resume;
+mod rounds;
 mod sound;
 mod state_notation;
 mod states;
@@ -53,6 +54,9 @@ mod verdict;
 mod walk;
 mod whole;
 mod wire;
+mod write_cases;
+mod writer;
+mod writing;
 mod wrong;
 
 use judging::Ending;

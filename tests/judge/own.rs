@@ -76,6 +76,7 @@ impl Own {
                 // The reader is the same as that of the replay.
                 Ask::Check(_) => None,
                 Ask::Step(trial) => self.try_step(trial, goes_wrong),
+                Ask::Write(writing) => writing.write().violation,
             };
             if let Some(words) = violation {
                 self.violations += 1;

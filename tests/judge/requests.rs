@@ -1,11 +1,13 @@
 //! What a program under judgement is asked, and in which order: the hand-made
 //! cases, the set pieces, then generated books and steps in turn, and the long
-//! books last. Every book is both replayed and checked.
+//! books last. Every book is replayed, checked and, where its records
+//! can be taken out of it, written again; what is written is checked before.
 
 use crate::by_hand::ByHand;
 use crate::generate::{self, Case};
 use crate::trials::{self, Trial};
 use crate::wire::{self, Command};
+use crate::writing::Writing;
 use std::borrow::Cow;
 use std::sync::Arc;
 
@@ -13,6 +15,7 @@ pub enum Ask {
     Replay(Arc<Case>),
     Check(Arc<Case>),
     Step(Trial),
+    Write(Writing),
 }
 
 #[derive(Clone, Copy, PartialEq, Eq)]
@@ -33,11 +36,12 @@ impl Request {
             Ask::Replay(case) => (Command::Replay, case.row_space),
             Ask::Check(case) => (Command::Check, case.row_space),
             Ask::Step(_) => (Command::Step, 0),
+            Ask::Write(writing) => (Command::Write, writing.room),
         };
         wire::request(command, &self.payload(), room)
     }
 
-    /// A book, or a plan, a state and an event.
+    /// A book, a plan with a state and an event, or records.
     pub fn payload(&self) -> Cow<'_, [u8]> {
         match &self.ask {
             Ask::Replay(case) | Ask::Check(case) => Cow::from(&case.book),
@@ -45,6 +49,7 @@ impl Request {
                 let record = trial.event.record();
                 Cow::from([trial.given.bytes(), &record[..]].concat())
             }
+            Ask::Write(writing) => Cow::from(writing.payload()),
         }
     }
 
@@ -54,6 +59,7 @@ impl Request {
             Ask::Replay(case) => format!("replay of {}", case.told()),
             Ask::Check(case) => format!("check of {}", case.told()),
             Ask::Step(trial) => format!("{}, {:?}", trial.name, trial.event),
+            Ask::Write(writing) => format!("writing of {}", writing.told()),
         }
     }
 }
@@ -76,7 +82,10 @@ pub fn by_hand(by_hand: ByHand) -> impl Iterator<Item = Request> {
     let steps = by_hand.steps.into_iter().map(|case| Ask::Step(case.trial));
     let books = by_hand.books.into_iter().map(|case| case.case);
     let pieces = by_hand.pieces.into_iter().map(|piece| piece.case);
-    let asks = steps.chain(books.chain(pieces).flat_map(of_book));
+    let writings = by_hand.writings.into_iter().map(|case| case.writing);
+    let asks = steps
+        .chain(books.chain(pieces).flat_map(of_book))
+        .chain(writings.flat_map(of_writing));
     asks.map(|ask| Request {
         ask,
         source: Source::ByHand,
@@ -106,7 +115,15 @@ pub fn generated(amounts: Amounts) -> impl Iterator<Item = Request> {
     })
 }
 
-fn of_book(case: Case) -> [Ask; 2] {
+fn of_book(case: Case) -> Vec<Ask> {
     let case = Arc::new(case);
-    [Ask::Replay(Arc::clone(&case)), Ask::Check(case)]
+    let again = Writing::of_book(&case);
+    let mut asks = vec![Ask::Replay(Arc::clone(&case)), Ask::Check(case)];
+    asks.extend(again.map(Ask::Write));
+    asks
+}
+
+fn of_writing(writing: Writing) -> Vec<Ask> {
+    let check = writing.book.clone().map(Ask::Check);
+    check.into_iter().chain([Ask::Write(writing)]).collect()
 }

@@ -1,7 +1,7 @@
 //! Writing books: a draft holds the records of the four bodies, right or wrong,
 //! and becomes bytes with a right table of contents in front of them.
 
-use crate::book::CONTENTS_BYTES;
+use crate::book::{starts, CONTENTS_BYTES};
 use crate::event::Event;
 use crate::plan::{Lock, Plan};
 
@@ -42,6 +42,11 @@ impl Draft {
             self.uses.len(),
             self.events.len(),
         ]
+    }
+
+    /// The bytes of the book.
+    pub fn size(&self) -> usize {
+        starts(self.counts())[4]
     }
 
     /// The plan that the records stand for. What is wrong in one of them is not

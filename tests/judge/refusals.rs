@@ -1,5 +1,5 @@
-//! The refusal numbers in words, and which of them a whole book and a single
-//! step can be answered with.
+//! The refusal numbers in words, and which of them a whole book, a single step
+//! and a writing can be answered with.
 
 /// `WORDS[n]` says when number n is given; 0 stands for no refusal.
 pub const WORDS: [&str; 24] = [
@@ -39,6 +39,9 @@ pub const FROM_BOOKS: [u8; 19] = [
 
 /// The answers that single steps can get.
 pub const FROM_STEPS: [u8; 14] = [0, 10, 11, 12, 13, 14, 15, 16, 17, 18, 19, 20, 21, 22];
+
+/// The answers that writings can get, in the order of their tests.
+pub const FROM_WRITINGS: [u8; 8] = [0, 2, 4, 5, 6, 7, 8, 23];
 
 /// A number with its words.
 pub fn named(number: u8) -> String {

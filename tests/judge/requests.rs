@@ -1,6 +1,6 @@
 //! What a program under judgement is asked, and in which order: the hand-made
-//! cases, the set pieces, then generated books and steps in turn, and the long
-//! books last. Every book is replayed, checked and, where its records
+//! cases, the set pieces, then generated books, writings and steps in turn, and
+//! the long books last. Every book is replayed, checked and, where its records
 //! can be taken out of it, written again; what is written is checked before.
 
 use crate::by_hand::ByHand;
@@ -8,6 +8,7 @@ use crate::generate::{self, Case};
 use crate::trials::{self, Trial};
 use crate::wire::{self, Command};
 use crate::writing::Writing;
+use crate::writings;
 use std::borrow::Cow;
 use std::sync::Arc;
 
@@ -75,6 +76,7 @@ pub struct Amounts {
     pub short: u64,
     pub long: u64,
     pub steps: u64,
+    pub writings: u64,
 }
 
 /// The hand-made cases and the set pieces.
@@ -92,21 +94,24 @@ pub fn by_hand(by_hand: ByHand) -> impl Iterator<Item = Request> {
     })
 }
 
-/// Generated books and steps in turn, then the long books.
+/// Generated books, writings and steps in turn, then the long books.
 pub fn generated(amounts: Amounts) -> impl Iterator<Item = Request> {
     let Amounts {
         seed,
         short,
         long,
         steps,
+        writings,
     } = amounts;
-    let turns = short.max(steps.div_ceil(STEPS_FOR_A_BOOK));
+    let turns = short.max(writings).max(steps.div_ceil(STEPS_FOR_A_BOOK));
     let in_turn = (0..turns).flat_map(move |turn| {
         let book = (turn < short).then(|| of_book(generate::short(seed, turn)));
+        let writing = (turn < writings).then(|| of_writing(writings::writing(seed, turn)));
         let first = STEPS_FOR_A_BOOK * turn;
         let numbers = first..(first + STEPS_FOR_A_BOOK).min(steps);
         let steps = numbers.map(move |number| Ask::Step(trials::trial(seed, number)));
-        book.into_iter().flatten().chain(steps)
+        let asks = book.into_iter().chain(writing).flatten();
+        asks.chain(steps)
     });
     let long = (0..long).flat_map(move |number| of_book(generate::long(seed, number)));
     in_turn.chain(long).map(|ask| Request {

@@ -12,6 +12,7 @@ use crate::step_tally::StepTally;
 use crate::tally::Tally;
 use crate::trials::Trial;
 use crate::wire;
+use crate::write_tally::WriteTally;
 use crate::wrong::Wrong;
 use crate::Options;
 use std::io::{Read, Result};
@@ -36,6 +37,7 @@ pub struct Verdict<'o> {
     pub violations: usize,
     books: Tally,
     steps: StepTally,
+    writings: WriteTally,
     /// The program's latest answer to a check.
     checked: Option<Checked>,
 }
@@ -50,6 +52,7 @@ impl<'o> Verdict<'o> {
             violations: 0,
             books: Tally::default(),
             steps: StepTally::default(),
+            writings: WriteTally::default(),
             checked: None,
         }
     }
@@ -85,7 +88,10 @@ impl<'o> Verdict<'o> {
             }
             Ask::Write(writing) => {
                 let reply = wire::read_write(replies, writing.room)?;
-                let outcome = writing.write();
+                let outcome = writing.write(wrong);
+                if is_generated {
+                    self.writings.count(writing, &outcome);
+                }
                 let mut found = compare::writings(&outcome.written, &reply);
                 // The check before it was that of the same records.
                 if let Some(checked) = self.checked.take() {
@@ -135,13 +141,16 @@ impl<'o> Verdict<'o> {
     pub fn close(&self) -> bool {
         self.books.print_table();
         self.steps.print_table();
+        self.writings.print_table();
         println!("{}", self.books.summary());
         println!("{}", self.steps.summary());
+        println!("{}", self.writings.summary());
         println!(
             "{} replies, {} of them to hand-made cases and set pieces: {} differ",
             self.heard, self.by_hand, self.differing,
         );
-        self.options.is_covered(&self.books, &self.steps)
+        self.options
+            .is_covered(&self.books, &self.steps, &self.writings)
     }
 }
 

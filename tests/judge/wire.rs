@@ -36,6 +36,10 @@ use std::io::{Read, Result};
 /// whose counts are not far too great.
 pub const MOST_BYTES: usize = 65_536;
 
+/// A writing never has more records of a kind, which are some more than two
+/// bytes can count.
+pub const MOST_RECORDS: usize = 65_600;
+
 /// No payload is greater than this.
 const MOST_PAYLOAD: usize = 524_288;
 

@@ -9,6 +9,7 @@ use crate::notation::{columns, narrow, number, numbers, read_lines, split_word};
 use crate::replay::FILL;
 use crate::writer::Written;
 use crate::writing::Writing;
+use crate::wrong::Wrong;
 
 const TEXT: &str = include_str!("../cases/writes.txt");
 
@@ -181,7 +182,7 @@ impl Expected {
 pub fn test(cases: &[WriteCase]) -> Vec<String> {
     let mut failed = Vec::new();
     for case in cases {
-        let outcome = case.writing.write();
+        let outcome = case.writing.write(Wrong::Nothing);
         let wrong = case.expected.against(&outcome.written);
         let all = wrong.into_iter().chain(outcome.violation);
         failed.extend(all.map(|words| format!("{}: {words}", case.writing.name)));

@@ -8,6 +8,7 @@ use crate::generate::Case;
 use crate::rounds;
 use crate::wire::MOST_BYTES;
 use crate::writer::{self, Written};
+use crate::wrong::Wrong;
 use std::sync::Arc;
 
 pub struct Writing {
@@ -22,6 +23,8 @@ pub struct Writing {
 
 pub struct Outcome {
     pub written: Written,
+    /// The numbers whose tests refuse, each on its own; none in a wrong mode.
+    pub faults: Vec<u8>,
     /// What the judge demands of itself and did not hold, in words.
     pub violation: Option<String>,
 }
@@ -60,14 +63,36 @@ impl Writing {
         })
     }
 
-    pub fn write(&self) -> Outcome {
-        let written = writer::write(&self.records, self.room);
-        let own = self.book.as_ref().map(|case| case.check());
-        let broken = own.map(|checked| self.broken(&checked, &written));
+    pub fn write(&self, wrong: Wrong) -> Outcome {
+        let written = writer::write(&self.records, self.room, wrong);
+        if wrong != Wrong::Nothing {
+            return Outcome {
+                written,
+                faults: Vec::new(),
+                violation: None,
+            };
+        }
+        let faults = writer::faults(&self.records, self.room);
+        let violation = self.violation(&written, &faults);
         Outcome {
             written,
-            violation: broken.into_iter().flatten().next(),
+            faults,
+            violation,
         }
+    }
+
+    /// The first test that refuses gives the answer, and the judge's own reader
+    /// and writer go round.
+    fn violation(&self, written: &Written, faults: &[u8]) -> Option<String> {
+        let first = *faults.first().unwrap_or(&0);
+        if written.number != first {
+            let number = written.number;
+            return Some(format!(
+                "the answer is {number}, and the first fault {first}"
+            ));
+        }
+        let checked = self.book.as_ref()?.check();
+        self.broken(&checked, written).into_iter().next()
     }
 
     /// What does not go round in the answers to a check of the book, if there

@@ -1,7 +1,9 @@
 //! The reader of books: refusals 1 to 9 one after another, each naming the first
 //! record that breaks it. A test goes over the whole book before the next one
-//! starts, so each is a function of its own.
+//! starts, so each is a function of its own. The writer has 2 and 4 to 8 from
+//! here too.
 
+use crate::draft::Draft;
 use crate::event::Event;
 use crate::plan::{Lock, Plan, MOST_EVENTS, MOST_LOCKS, MOST_TASKS, MOST_USES};
 
@@ -33,26 +35,14 @@ pub const LARGEST_BOOK: usize = CONTENTS_BYTES
     + RECORD_BYTES[2] * MOST_USES
     + RECORD_BYTES[3] * MOST_EVENTS;
 
-/// The four bodies, cut out of the book.
-struct Bodies<'b> {
-    tasks: &'b [u8],
-    locks: &'b [u8],
-    uses: &'b [u8],
-    events: &'b [u8],
-}
-
 pub fn read(bytes: &[u8], row_space: usize) -> Result<Book, Refusal> {
     test_1_length(bytes)?;
-    let counts = test_2_counts(bytes)?;
-    let bodies = test_3_contents(bytes, counts)?;
-    let bases = test_4_tasks(bodies.tasks)?;
-    let locks = test_5_locks(bodies.locks)?;
-    let uses = test_6_uses(bodies.uses, bases.len(), locks.len())?;
-    let plan = Plan { bases, locks, uses };
-    test_7_ceilings(&plan)?;
-    let events = test_8_events(bodies.events)?;
+    test_2_counts(counts(bytes))?;
+    let records = test_3_contents(bytes)?;
+    let plan = test_plan(&records)?;
+    let events = test_8_events(&records.events)?;
     test_9_row_space(row_space, events.len())?;
-    let events_at = bytes.len() - bodies.events.len();
+    let events_at = starts(records.counts())[3];
     Ok(Book {
         plan,
         events,
@@ -60,7 +50,23 @@ pub fn read(bytes: &[u8], row_space: usize) -> Result<Book, Refusal> {
     })
 }
 
-fn refuse<T>(number: u8, place: usize) -> Result<T, Refusal> {
+/// The records of a book, right or wrong, in whatever number; nothing where its
+/// contents don't say where they lie.
+pub fn cut(bytes: &[u8]) -> Option<Draft> {
+    test_1_length(bytes).ok()?;
+    test_3_contents(bytes).ok()
+}
+
+/// Where the bodies start that have so many records, and where the last ends.
+pub fn starts(counts: [usize; 4]) -> [usize; 5] {
+    let mut starts = [CONTENTS_BYTES; 5];
+    for entry in 1..=4 {
+        starts[entry] = starts[entry - 1] + counts[entry - 1] * RECORD_BYTES[entry - 1];
+    }
+    starts
+}
+
+pub fn refuse<T>(number: u8, place: usize) -> Result<T, Refusal> {
     Err(Refusal {
         number,
         place: place as u32,
@@ -85,6 +91,11 @@ pub fn entry_at(entry: usize) -> usize {
     ENTRY_BYTES * (entry - 1)
 }
 
+/// The counts of the four entries.
+fn counts(bytes: &[u8]) -> [usize; 4] {
+    [1, 2, 3, 4].map(|entry| two_bytes(bytes, entry_at(entry) + 2))
+}
+
 /// 1: the contents don't fit. The place is 0.
 fn test_1_length(bytes: &[u8]) -> Result<(), Refusal> {
     if bytes.len() < CONTENTS_BYTES {
@@ -95,28 +106,23 @@ fn test_1_length(bytes: &[u8]) -> Result<(), Refusal> {
 
 /// 2: a number of records is out of range. The range goes by the position of
 /// the entry, whatever kind is written there, and the place is the entry.
-fn test_2_counts(bytes: &[u8]) -> Result<[usize; 4], Refusal> {
+pub fn test_2_counts(counts: [usize; 4]) -> Result<(), Refusal> {
     let least = [1, 0, 0, 0];
     let most = [MOST_TASKS, MOST_LOCKS, MOST_USES, MOST_EVENTS];
-    let mut counts = [0; 4];
     for entry in 1..=4 {
-        let count = two_bytes(bytes, entry_at(entry) + 2);
+        let count = counts[entry - 1];
         if count < least[entry - 1] || count > most[entry - 1] {
             return refuse(2, entry);
         }
-        counts[entry - 1] = count;
     }
-    Ok(counts)
+    Ok(())
 }
 
 /// 3: an entry whose kind isn't its position or whose offset isn't the end of
 /// the body before it; the place is the entry. After all four, place 5: the
 /// last body ends elsewhere than the book.
-fn test_3_contents(bytes: &[u8], counts: [usize; 4]) -> Result<Bodies<'_>, Refusal> {
-    let mut starts = [CONTENTS_BYTES; 5];
-    for entry in 1..=4 {
-        starts[entry] = starts[entry - 1] + counts[entry - 1] * RECORD_BYTES[entry - 1];
-    }
+fn test_3_contents(bytes: &[u8]) -> Result<Draft, Refusal> {
+    let starts = starts(counts(bytes));
     for entry in 1..=4 {
         let kind = two_bytes(bytes, entry_at(entry));
         let offset = four_bytes(bytes, entry_at(entry) + 4);
@@ -127,18 +133,34 @@ fn test_3_contents(bytes: &[u8], counts: [usize; 4]) -> Result<Bodies<'_>, Refus
     if starts[4] != bytes.len() {
         return refuse(3, 5);
     }
-    Ok(Bodies {
-        tasks: &bytes[starts[0]..starts[1]],
-        locks: &bytes[starts[1]..starts[2]],
-        uses: &bytes[starts[2]..starts[3]],
-        events: &bytes[starts[3]..starts[4]],
+    Ok(Draft {
+        tasks: records(&bytes[starts[0]..starts[1]]),
+        locks: records(&bytes[starts[1]..starts[2]]),
+        uses: records(&bytes[starts[2]..starts[3]]),
+        events: records(&bytes[starts[3]..starts[4]]),
     })
 }
 
+/// A body as records of so many bytes.
+fn records<const BYTES: usize>(body: &[u8]) -> Vec<[u8; BYTES]> {
+    let whole = |record: &[u8]| record.try_into().expect("a whole record");
+    body.chunks(BYTES).map(whole).collect()
+}
+
+/// 4 to 7: the plan that the records make.
+pub fn test_plan(records: &Draft) -> Result<Plan, Refusal> {
+    let bases = test_4_tasks(&records.tasks)?;
+    let locks = test_5_locks(&records.locks)?;
+    let uses = test_6_uses(&records.uses, bases.len(), locks.len())?;
+    let plan = Plan { bases, locks, uses };
+    test_7_ceilings(&plan)?;
+    Ok(plan)
+}
+
 /// 4: a task's first byte is its base, which isn't 0; the second one is 0.
-fn test_4_tasks(body: &[u8]) -> Result<Vec<u8>, Refusal> {
+pub fn test_4_tasks(records: &[[u8; 2]]) -> Result<Vec<u8>, Refusal> {
     let mut bases = Vec::new();
-    for (place, record) in body.chunks(2).enumerate() {
+    for (place, record) in records.iter().enumerate() {
         if record[0] == 0 || record[1] != 0 {
             return refuse(4, place);
         }
@@ -149,9 +171,9 @@ fn test_4_tasks(body: &[u8]) -> Result<Vec<u8>, Refusal> {
 
 /// 5: a lock's ceiling, a byte that is 0, and its limit in two bytes; neither
 /// ceiling nor limit is 0.
-fn test_5_locks(body: &[u8]) -> Result<Vec<Lock>, Refusal> {
+pub fn test_5_locks(records: &[[u8; 4]]) -> Result<Vec<Lock>, Refusal> {
     let mut locks = Vec::new();
-    for (place, record) in body.chunks(4).enumerate() {
+    for (place, record) in records.iter().enumerate() {
         let lock = Lock {
             ceiling: record[0],
             limit: u16::from_le_bytes([record[2], record[3]]),
@@ -167,10 +189,13 @@ fn test_5_locks(body: &[u8]) -> Result<Vec<Lock>, Refusal> {
 /// 6: a use's task and lock are there, and each use lies after the one before
 /// it, by task and then by lock. Of two uses that don't, and equal ones don't,
 /// the later one is named.
-fn test_6_uses(body: &[u8], tasks: usize, locks: usize) -> Result<Vec<(u8, u8)>, Refusal> {
+pub fn test_6_uses(
+    records: &[[u8; 2]],
+    tasks: usize,
+    locks: usize,
+) -> Result<Vec<(u8, u8)>, Refusal> {
     let mut uses: Vec<(u8, u8)> = Vec::new();
-    for (place, record) in body.chunks(2).enumerate() {
-        let (task, lock) = (record[0], record[1]);
+    for (place, [task, lock]) in records.iter().copied().enumerate() {
         if usize::from(task) >= tasks || usize::from(lock) >= locks {
             return refuse(6, place);
         }
@@ -187,7 +212,7 @@ fn test_6_uses(body: &[u8], tasks: usize, locks: usize) -> Result<Vec<(u8, u8)>,
 
 /// 7: each lock has a user, and the greatest base of its users is its ceiling.
 /// The lock is named.
-fn test_7_ceilings(plan: &Plan) -> Result<(), Refusal> {
+pub fn test_7_ceilings(plan: &Plan) -> Result<(), Refusal> {
     for (place, lock) in plan.locks.iter().enumerate() {
         if plan.greatest_base_of_users(place) != Some(lock.ceiling) {
             return refuse(7, place);
@@ -198,10 +223,10 @@ fn test_7_ceilings(plan: &Plan) -> Result<(), Refusal> {
 
 /// 8: each event is one of the six, as far as its record alone can tell. The
 /// whole event body is tested before any event runs.
-fn test_8_events(body: &[u8]) -> Result<Vec<Event>, Refusal> {
+pub fn test_8_events(records: &[[u8; 4]]) -> Result<Vec<Event>, Refusal> {
     let mut events = Vec::new();
-    for (place, record) in body.chunks(4).enumerate() {
-        match Event::from_record([record[0], record[1], record[2], record[3]]) {
+    for (place, record) in records.iter().enumerate() {
+        match Event::from_record(*record) {
             Some(event) => events.push(event),
             None => return refuse(8, place),
         }

@@ -81,7 +81,7 @@ fn book(text: &str) -> Result<Vec<u8>, String> {
     let mut items = text.split(',').map(str::trim);
     let first = items.next().unwrap_or_default();
     let mut book = match first.strip_prefix("counts ") {
-        Some(counts) => counted(&numbers(counts)?)?,
+        Some(counts) => counted(&numbers(counts)?)?.bytes(),
         None if first == "crane" => crane::book(crane::RUNS[0].1),
         None => return Err(format!("{first} is no book")),
     };
@@ -95,7 +95,7 @@ fn book(text: &str) -> Result<Vec<u8>, String> {
 }
 
 /// `AT=VALUE` for one byte, `FIRST..LAST=VALUE` for several, little-endian.
-fn put(book: &mut [u8], item: &str) -> Result<(), String> {
+pub fn put(book: &mut [u8], item: &str) -> Result<(), String> {
     let (at, value) = item
         .split_once('=')
         .ok_or_else(|| format!("{item} has no `=`"))?;
@@ -114,11 +114,11 @@ fn put(book: &mut [u8], item: &str) -> Result<(), String> {
     Ok(())
 }
 
-/// A book that is right but for its counts, where these are not: task t has
+/// Records that are right but for their counts, where these are not: task t has
 /// base t + 1, limits are 1, use k is by task k / locks of lock k % locks, and
 /// all events are ticks. So each lock has two users from twice as many uses as
 /// locks on.
-fn counted(counts: &[u64]) -> Result<Vec<u8>, String> {
+pub fn counted(counts: &[u64]) -> Result<Draft, String> {
     let [tasks, locks, uses, events] = counts[..] else {
         return Err("a book has four counts".to_string());
     };
@@ -134,7 +134,7 @@ fn counted(counts: &[u64]) -> Result<Vec<u8>, String> {
         let ceiling = &mut draft.locks[usize::from(lock)][0];
         *ceiling = base(u64::from(task)).max(*ceiling);
     }
-    Ok(draft.bytes())
+    Ok(draft)
 }
 
 impl BookCase {

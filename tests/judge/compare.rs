@@ -6,6 +6,7 @@ use crate::refusals::named;
 use crate::replay::{Answer, FILL};
 use crate::step::Stepped;
 use crate::whole::{figure, Whole, FIGURES};
+use crate::writer::Written;
 
 /// What differs between the judge and another one, each in words.
 struct Differences {
@@ -94,6 +95,18 @@ pub fn steps(judge: &Stepped, program: &Stepped) -> Vec<String> {
     differences.found
 }
 
+/// The same for a writing's answer.
+pub fn writings(judge: &Written, program: &Written) -> Vec<String> {
+    let mut differences = Differences::with(PROGRAM);
+    differences.number(judge.number, program.number);
+    differences.field("place", judge.place, program.place);
+    differences.field("length", judge.length, program.length);
+    let place = |at: usize| format!("byte {at}");
+    let buffer = bytes("buffer", &judge.buffer, &program.buffer, place);
+    differences.found.extend(buffer);
+    differences.found
+}
+
 /// Every figure of the judge's that differs from that of another one.
 pub fn figures(ours: &Whole, theirs: &Whole, other: &'static str) -> Vec<String> {
     let mut differences = Differences::with(other);
@@ -112,18 +125,30 @@ pub fn figures(ours: &Whole, theirs: &Whole, other: &'static str) -> Vec<String>
 
 /// The first row byte that differs, and how many do.
 fn rows(judge: &[u8], program: &[u8]) -> Option<String> {
+    let place = |at: usize| {
+        let field = ["running task", "user word", "next word", "lazy call"][at % 4];
+        format!("the {field} in the row of event {} (byte {at})", at / 4)
+    };
+    bytes("rows", judge, program, place)
+}
+
+/// The same for any bytes, with words for a place.
+fn bytes(
+    name: &str,
+    judge: &[u8],
+    program: &[u8],
+    place: impl Fn(usize) -> String,
+) -> Option<String> {
     let differing: Vec<usize> = (0..judge.len())
         .filter(|at| judge[*at] != program[*at])
         .collect();
     let first = *differing.first()?;
-    let row = first / 4;
-    let field = ["running task", "user word", "next word", "lazy call"][first % 4];
     let (ours, theirs) = (judge[first], program[first]);
     let note = |byte: u8| if byte == FILL { " (the fill)" } else { "" };
     Some(format!(
-        "rows: {} bytes differ, first the {field} in the row of event {row} (byte {first}): \
-         the judge says {ours}{}, the program {theirs}{}",
+        "{name}: {} bytes differ, first {}: the judge says {ours}{}, the program {theirs}{}",
         differing.len(),
+        place(first),
         note(ours),
         note(theirs),
     ))

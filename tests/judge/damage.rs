@@ -13,14 +13,9 @@ use crate::wire::MOST_BYTES;
 /// mend another. The bytes and the row space come back.
 pub fn damaged(random: &mut Random, mut draft: Draft, numbers: &[u8]) -> (Vec<u8>, usize) {
     for number in numbers {
-        match number {
-            2 if random.one_in(2) => grow_a_body(random, &mut draft),
-            4 => damage_task(random, &mut draft),
-            5 => damage_lock(random, &mut draft),
-            6 => damage_use(random, &mut draft),
-            7 => damage_ceiling(random, &mut draft),
-            8 => damage_event(random, &mut draft),
-            _ => {}
+        // A count is wrong with its body, or in the contents alone.
+        if *number != 2 || random.one_in(2) {
+            damage_records(random, &mut draft, *number);
         }
     }
     let row_space = if numbers.contains(&9) {
@@ -53,6 +48,19 @@ pub fn damaged(random: &mut Random, mut draft: Draft, numbers: &[u8]) -> (Vec<u8
     (bytes, row_space)
 }
 
+/// Makes records that this number refuses; of the others none is in the records.
+pub fn damage_records(random: &mut Random, draft: &mut Draft, number: u8) {
+    match number {
+        2 => grow_a_body(random, draft),
+        4 => damage_task(random, draft),
+        5 => damage_lock(random, draft),
+        6 => damage_use(random, draft),
+        7 => damage_ceiling(random, draft),
+        8 => damage_event(random, draft),
+        _ => {}
+    }
+}
+
 /// A row space that is enough for rows of `needed` bytes: mostly exactly so.
 pub fn row_space(random: &mut Random, needed: usize) -> usize {
     match random.below(40) {
@@ -64,7 +72,7 @@ pub fn row_space(random: &mut Random, needed: usize) -> usize {
 }
 
 /// A row space under what is needed, where that can be.
-fn too_small(random: &mut Random, needed: usize) -> usize {
+pub fn too_small(random: &mut Random, needed: usize) -> usize {
     match random.below(4) {
         0 => 0,
         1 => needed.saturating_sub(random.between(1, 4)),

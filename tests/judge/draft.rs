@@ -1,9 +1,9 @@
 //! Writing books: a draft holds the records of the four bodies, right or wrong,
 //! and becomes bytes with a right table of contents in front of them.
 
-use crate::book::CONTENTS_BYTES;
+use crate::book::{starts, CONTENTS_BYTES};
 use crate::event::Event;
-use crate::plan::Plan;
+use crate::plan::{Lock, Plan};
 
 #[derive(Clone, Default)]
 pub struct Draft {
@@ -31,6 +31,46 @@ impl Draft {
                 .map(|(task, lock)| [*task, *lock])
                 .collect(),
             events: events.iter().map(|event| event.record()).collect(),
+        }
+    }
+
+    /// How many records each body has.
+    pub fn counts(&self) -> [usize; 4] {
+        [
+            self.tasks.len(),
+            self.locks.len(),
+            self.uses.len(),
+            self.events.len(),
+        ]
+    }
+
+    /// The bytes of the book.
+    pub fn size(&self) -> usize {
+        starts(self.counts())[4]
+    }
+
+    /// The plan that the records stand for. What is wrong in one of them is not
+    /// looked at, and a use of what isn't there is left out.
+    pub fn plan(&self) -> Plan {
+        let [tasks, locks, ..] = self.counts();
+        let is_known =
+            |(task, lock): &(u8, u8)| usize::from(*task) < tasks && usize::from(*lock) < locks;
+        Plan {
+            bases: self.tasks.iter().map(|[base, _]| *base).collect(),
+            locks: self
+                .locks
+                .iter()
+                .map(|[ceiling, _, low, high]| Lock {
+                    ceiling: *ceiling,
+                    limit: u16::from_le_bytes([*low, *high]),
+                })
+                .collect(),
+            uses: self
+                .uses
+                .iter()
+                .map(|[task, lock]| (*task, *lock))
+                .filter(is_known)
+                .collect(),
         }
     }
 

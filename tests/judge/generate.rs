@@ -95,7 +95,7 @@ pub fn short(seed: u64, number: u64) -> Case {
 }
 
 /// A plan and a short list of events, which may end in a wanted refusal.
-fn short_run(random: &mut Random) -> (Plan, Vec<Event>) {
+pub fn short_run(random: &mut Random) -> (Plan, Vec<Event>) {
     let length = if random.one_in(12) {
         random.below(4)
     } else {

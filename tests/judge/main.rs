@@ -1,8 +1,8 @@
 //! An independent judge of the scheduler project: a second reading of the rules,
-//! with its own reader of books, its own two schedulers and its own test of
-//! soundness. It makes books and states, has the program under judgement
-//! replay, check and step them, and compares every field and figure of every
-//! answer with its own. It shares no line with what it judges.
+//! with its own reader and writer of books, its own two schedulers and its own
+//! test of soundness. It makes books, records and states, has the program under
+//! judgement replay, check, write and step them, and compares every field and
+//! figure of every answer with its own. It shares no line with what it judges.
 //!
 //!     judge [OPTION..] -- COMMAND ARGS..
 //!     judge --self [OPTION..]
@@ -41,6 +41,7 @@ mod refusals;
 mod replay;
 mod requests;
 mod resume;
+mod rounds;
 mod sound;
 mod state_notation;
 mod states;
@@ -53,6 +54,11 @@ mod verdict;
 mod walk;
 mod whole;
 mod wire;
+mod write_cases;
+mod write_tally;
+mod writer;
+mod writing;
+mod writings;
 mod wrong;
 
 use judging::Ending;
@@ -60,6 +66,7 @@ use requests::Amounts;
 use std::process::ExitCode;
 use step_tally::StepTally;
 use tally::Tally;
+use write_tally::WriteTally;
 use wrong::Wrong;
 
 const USAGE: &str = "\
@@ -71,6 +78,7 @@ usage: judge [OPTION..] -- COMMAND ARGS..
 --count N   short books (20000)
 --long N    books of the most events (40)
 --steps N   single steps (100000)
+--writes N  books to be written (10000)
 --wrong WAY the judge itself goes wrong, in one of the ways that --ways lists
 --dump FILE where the book or state of the first difference is written";
 
@@ -80,6 +88,7 @@ const DEFAULT: Amounts = Amounts {
     short: 20_000,
     long: 40,
     steps: 100_000,
+    writings: 10_000,
 };
 
 pub struct Options {
@@ -105,13 +114,15 @@ impl Options {
         self.amounts.steps >= DEFAULT.steps
     }
 
-    /// Whether the generated books and steps reached all that they have to. A
-    /// run with fewer than the default number need not.
-    pub fn is_covered(&self, books: &Tally, steps: &StepTally) -> bool {
+    /// Whether the generated books, steps and writings reached all that they
+    /// have to. A run with fewer than the default number need not.
+    pub fn is_covered(&self, books: &Tally, steps: &StepTally, writings: &WriteTally) -> bool {
         let has_all_books = self.amounts.short >= DEFAULT.short;
+        let has_all_writings = self.amounts.writings >= DEFAULT.writings;
         let by_books = is_reached("books", &books.missing(), has_all_books);
         let by_steps = is_reached("steps", &steps.missing(), self.is_full());
-        by_books && by_steps
+        let by_writings = is_reached("writings", &writings.missing(), has_all_writings);
+        by_books && by_steps && by_writings
     }
 }
 
@@ -172,6 +183,7 @@ fn options(words: &[String]) -> Result<Options, String> {
             "--count" => options.amounts.short = number(value()?)?,
             "--long" => options.amounts.long = number(value()?)?,
             "--steps" => options.amounts.steps = number(value()?)?,
+            "--writes" => options.amounts.writings = number(value()?)?,
             "--wrong" => {
                 let name = value()?;
                 let wrong = wrong::from_name(name);

@@ -13,11 +13,14 @@ use crate::step_cases::StepCase;
 use crate::step_tally::StepTally;
 use crate::tally::Tally;
 use crate::trials::Trial;
+use crate::write_cases::WriteCase;
+use crate::write_tally::WriteTally;
+use crate::writing::Writing;
 use crate::wrong::{Wrong, WRONG_WAYS};
 use crate::Options;
 
-/// Of so many generated books and steps one is tried in each wrong way, and its
-/// state written and read back.
+/// Of so many generated books, steps and writings one is tried in each wrong
+/// way, and a step's state written and read back.
 const ONE_WRONG_IN: usize = 6;
 
 pub fn judge_self(options: &Options) -> Ending {
@@ -28,7 +31,7 @@ pub fn judge_self(options: &Options) -> Ending {
     right &= tell("figures that are told apart", compare::test());
     right &= by_hand.test();
     let mut own = Own::default();
-    own.try_by_hand(&by_hand.steps);
+    own.try_by_hand(&by_hand.steps, &by_hand.writings);
     own.try_generated(options);
     right &= own.close(options);
     if !right {
@@ -53,17 +56,24 @@ fn count(changed: &mut Changed, is_other: impl Fn(Wrong) -> bool) {
 struct Own {
     books: Tally,
     steps: StepTally,
+    writings: WriteTally,
     violations: usize,
     changed_by_hand: Changed,
     changed_books: Changed,
     changed_steps: Changed,
+    changed_writings: Changed,
 }
 
 impl Own {
-    fn try_by_hand(&mut self, steps: &[StepCase]) {
+    fn try_by_hand(&mut self, steps: &[StepCase], writings: &[WriteCase]) {
         for case in steps {
             let right = case.trial.step(Wrong::Nothing).stepped;
             let is_other = |wrong| case.trial.step(wrong).stepped != right;
+            count(&mut self.changed_by_hand, is_other);
+        }
+        for case in writings {
+            let right = case.writing.write(Wrong::Nothing).written;
+            let is_other = |wrong| case.writing.write(wrong).written != right;
             count(&mut self.changed_by_hand, is_other);
         }
     }
@@ -76,6 +86,7 @@ impl Own {
                 // The reader is the same as that of the replay.
                 Ask::Check(_) => None,
                 Ask::Step(trial) => self.try_step(trial, goes_wrong),
+                Ask::Write(writing) => self.try_writing(writing, goes_wrong),
             };
             if let Some(words) = violation {
                 self.violations += 1;
@@ -107,28 +118,40 @@ impl Own {
         outcome.violation
     }
 
+    fn try_writing(&mut self, writing: &Writing, goes_wrong: bool) -> Option<String> {
+        let outcome = writing.write(Wrong::Nothing);
+        self.writings.count(writing, &outcome);
+        if goes_wrong {
+            let is_other = |wrong| writing.write(wrong).written != outcome.written;
+            count(&mut self.changed_writings, is_other);
+        }
+        outcome.violation
+    }
+
     /// Tells all; false if something is wrong or was not reached.
     fn close(&self, options: &Options) -> bool {
         self.books.print_table();
         self.steps.print_table();
+        self.writings.print_table();
         println!("{}", self.books.summary());
         println!("{}", self.steps.summary());
+        println!("{}", self.writings.summary());
         println!("{} violations of the judge's own demands", self.violations);
-        let is_covered = options.is_covered(&self.books, &self.steps);
+        let is_covered = options.is_covered(&self.books, &self.steps, &self.writings);
         let are_told = self.tell_wrong_ways(options);
         self.violations == 0 && is_covered && are_told
     }
 
-    /// False if a wrong way changed no hand-made step or, in a full run, no
-    /// generated one. In books only some of them can show.
+    /// False if a wrong way changed nothing that was made by hand or, in a full
+    /// run, no generated step or writing. In books only some of them can show.
     fn tell_wrong_ways(&self, options: &Options) -> bool {
         let mut right = true;
-        println!("gone wrong, another answer to hand-made steps, generated steps and books:");
+        println!("gone wrong, another answer by hand, to generated steps, writings and books:");
         for (at, (name, _)) in WRONG_WAYS.iter().enumerate() {
-            let (by_hand, steps) = (self.changed_by_hand[at], self.changed_steps[at]);
-            let books = self.changed_books[at];
-            println!("  {by_hand:>4} {steps:>6} {books:>6}  {name}");
-            right &= by_hand > 0 && (steps > 0 || !options.is_full());
+            let (by_hand, books) = (self.changed_by_hand[at], self.changed_books[at]);
+            let (steps, writings) = (self.changed_steps[at], self.changed_writings[at]);
+            println!("  {by_hand:>4} {steps:>6} {writings:>6} {books:>6}  {name}");
+            right &= by_hand > 0 && (steps + writings > 0 || !options.is_full());
         }
         right
     }

@@ -1,8 +1,8 @@
-//! The refusal numbers in words, and which of them a whole book and a single
-//! step can be answered with.
+//! The refusal numbers in words, and which of them a whole book, a single step
+//! and a writing can be answered with.
 
 /// `WORDS[n]` says when number n is given; 0 stands for no refusal.
-pub const WORDS: [&str; 23] = [
+pub const WORDS: [&str; 24] = [
     "nothing refused",
     "the book is shorter than its contents",
     "a count is out of its range",
@@ -26,18 +26,22 @@ pub const WORDS: [&str; 23] = [
     "a work of nothing",
     "a work past the limit of an open section",
     "a finish before all locks are closed",
+    "the buffer is shorter than the book",
 ];
 
 /// The answers that whole books can get. The others cannot come up there: a
 /// fresh start leads to neither 10 nor 17, 11 needs more events than a book
-/// holds, and a book that works nothing is refused with 8, so that 20 is left to
-/// the single step.
+/// holds, a book that works nothing is refused with 8, so that 20 is left to the
+/// single step, and 23 is the writer's.
 pub const FROM_BOOKS: [u8; 19] = [
     0, 1, 2, 3, 4, 5, 6, 7, 8, 9, 12, 13, 14, 15, 16, 18, 19, 21, 22,
 ];
 
 /// The answers that single steps can get.
 pub const FROM_STEPS: [u8; 14] = [0, 10, 11, 12, 13, 14, 15, 16, 17, 18, 19, 20, 21, 22];
+
+/// The answers that writings can get, in the order of their tests.
+pub const FROM_WRITINGS: [u8; 8] = [0, 2, 4, 5, 6, 7, 8, 23];
 
 /// A number with its words.
 pub fn named(number: u8) -> String {

@@ -1,11 +1,14 @@
 //! What a program under judgement is asked, and in which order: the hand-made
-//! cases, the set pieces, then generated books and steps in turn, and the long
-//! books last. Every book is both replayed and checked.
+//! cases, the set pieces, then generated books, writings and steps in turn, and
+//! the long books last. Every book is replayed, checked and, where its records
+//! can be taken out of it, written again; what is written is checked before.
 
 use crate::by_hand::ByHand;
 use crate::generate::{self, Case};
 use crate::trials::{self, Trial};
 use crate::wire::{self, Command};
+use crate::writing::Writing;
+use crate::writings;
 use std::borrow::Cow;
 use std::sync::Arc;
 
@@ -13,6 +16,7 @@ pub enum Ask {
     Replay(Arc<Case>),
     Check(Arc<Case>),
     Step(Trial),
+    Write(Writing),
 }
 
 #[derive(Clone, Copy, PartialEq, Eq)]
@@ -33,11 +37,12 @@ impl Request {
             Ask::Replay(case) => (Command::Replay, case.row_space),
             Ask::Check(case) => (Command::Check, case.row_space),
             Ask::Step(_) => (Command::Step, 0),
+            Ask::Write(writing) => (Command::Write, writing.room),
         };
         wire::request(command, &self.payload(), room)
     }
 
-    /// A book, or a plan, a state and an event.
+    /// A book, a plan with a state and an event, or records.
     pub fn payload(&self) -> Cow<'_, [u8]> {
         match &self.ask {
             Ask::Replay(case) | Ask::Check(case) => Cow::from(&case.book),
@@ -45,6 +50,7 @@ impl Request {
                 let record = trial.event.record();
                 Cow::from([trial.given.bytes(), &record[..]].concat())
             }
+            Ask::Write(writing) => Cow::from(writing.payload()),
         }
     }
 
@@ -54,6 +60,7 @@ impl Request {
             Ask::Replay(case) => format!("replay of {}", case.told()),
             Ask::Check(case) => format!("check of {}", case.told()),
             Ask::Step(trial) => format!("{}, {:?}", trial.name, trial.event),
+            Ask::Write(writing) => format!("writing of {}", writing.told()),
         }
     }
 }
@@ -69,6 +76,7 @@ pub struct Amounts {
     pub short: u64,
     pub long: u64,
     pub steps: u64,
+    pub writings: u64,
 }
 
 /// The hand-made cases and the set pieces.
@@ -76,28 +84,34 @@ pub fn by_hand(by_hand: ByHand) -> impl Iterator<Item = Request> {
     let steps = by_hand.steps.into_iter().map(|case| Ask::Step(case.trial));
     let books = by_hand.books.into_iter().map(|case| case.case);
     let pieces = by_hand.pieces.into_iter().map(|piece| piece.case);
-    let asks = steps.chain(books.chain(pieces).flat_map(of_book));
+    let writings = by_hand.writings.into_iter().map(|case| case.writing);
+    let asks = steps
+        .chain(books.chain(pieces).flat_map(of_book))
+        .chain(writings.flat_map(of_writing));
     asks.map(|ask| Request {
         ask,
         source: Source::ByHand,
     })
 }
 
-/// Generated books and steps in turn, then the long books.
+/// Generated books, writings and steps in turn, then the long books.
 pub fn generated(amounts: Amounts) -> impl Iterator<Item = Request> {
     let Amounts {
         seed,
         short,
         long,
         steps,
+        writings,
     } = amounts;
-    let turns = short.max(steps.div_ceil(STEPS_FOR_A_BOOK));
+    let turns = short.max(writings).max(steps.div_ceil(STEPS_FOR_A_BOOK));
     let in_turn = (0..turns).flat_map(move |turn| {
         let book = (turn < short).then(|| of_book(generate::short(seed, turn)));
+        let writing = (turn < writings).then(|| of_writing(writings::writing(seed, turn)));
         let first = STEPS_FOR_A_BOOK * turn;
         let numbers = first..(first + STEPS_FOR_A_BOOK).min(steps);
         let steps = numbers.map(move |number| Ask::Step(trials::trial(seed, number)));
-        book.into_iter().flatten().chain(steps)
+        let asks = book.into_iter().chain(writing).flatten();
+        asks.chain(steps)
     });
     let long = (0..long).flat_map(move |number| of_book(generate::long(seed, number)));
     in_turn.chain(long).map(|ask| Request {
@@ -106,7 +120,15 @@ pub fn generated(amounts: Amounts) -> impl Iterator<Item = Request> {
     })
 }
 
-fn of_book(case: Case) -> [Ask; 2] {
+fn of_book(case: Case) -> Vec<Ask> {
     let case = Arc::new(case);
-    [Ask::Replay(Arc::clone(&case)), Ask::Check(case)]
+    let again = Writing::of_book(&case);
+    let mut asks = vec![Ask::Replay(Arc::clone(&case)), Ask::Check(case)];
+    asks.extend(again.map(Ask::Write));
+    asks
+}
+
+fn of_writing(writing: Writing) -> Vec<Ask> {
+    let check = writing.book.clone().map(Ask::Check);
+    check.into_iter().chain([Ask::Write(writing)]).collect()
 }

@@ -2,6 +2,7 @@
 //! the first ones that differ are told in words, and what was reached is
 //! counted.
 
+use crate::check::Checked;
 use crate::compare;
 use crate::refusals::named;
 use crate::requests::{Ask, Request, Source};
@@ -11,6 +12,7 @@ use crate::step_tally::StepTally;
 use crate::tally::Tally;
 use crate::trials::Trial;
 use crate::wire;
+use crate::write_tally::WriteTally;
 use crate::wrong::Wrong;
 use crate::Options;
 use std::io::{Read, Result};
@@ -21,8 +23,8 @@ const TOLD: usize = 5;
 /// So many fields or figures of one reply are told.
 const TOLD_FIELDS: usize = 6;
 
-/// A book of up to so many bytes is told with its bytes, and a state of up to so
-/// many changes with its figures.
+/// A book or records of up to so many bytes are told with their bytes, and a
+/// state of up to so many changes with its figures.
 const SHORT_BOOK: usize = 1_024;
 const SHORT_STATE: usize = 80;
 
@@ -35,6 +37,9 @@ pub struct Verdict<'o> {
     pub violations: usize,
     books: Tally,
     steps: StepTally,
+    writings: WriteTally,
+    /// The program's latest answer to a check.
+    checked: Option<Checked>,
 }
 
 impl<'o> Verdict<'o> {
@@ -47,6 +52,8 @@ impl<'o> Verdict<'o> {
             violations: 0,
             books: Tally::default(),
             steps: StepTally::default(),
+            writings: WriteTally::default(),
+            checked: None,
         }
     }
 
@@ -66,7 +73,9 @@ impl<'o> Verdict<'o> {
             }
             Ask::Check(case) => {
                 let reply = wire::read_check(replies)?;
-                (compare::checks(&case.check(), &reply), None)
+                let found = compare::checks(&case.check(), &reply);
+                self.checked = Some(reply);
+                (found, None)
             }
             Ask::Step(trial) => {
                 let reply = wire::read_step(replies, &trial.given)?;
@@ -75,6 +84,19 @@ impl<'o> Verdict<'o> {
                     self.steps.count(trial, &outcome);
                 }
                 let found = compare::steps(&outcome.stepped, &reply);
+                (found, outcome.violation)
+            }
+            Ask::Write(writing) => {
+                let reply = wire::read_write(replies, writing.room)?;
+                let outcome = writing.write(wrong);
+                if is_generated {
+                    self.writings.count(writing, &outcome);
+                }
+                let mut found = compare::writings(&outcome.written, &reply);
+                // The check before it was that of the same records.
+                if let Some(checked) = self.checked.take() {
+                    found.extend(writing.broken(&checked, &reply));
+                }
                 (found, outcome.violation)
             }
         };
@@ -119,13 +141,16 @@ impl<'o> Verdict<'o> {
     pub fn close(&self) -> bool {
         self.books.print_table();
         self.steps.print_table();
+        self.writings.print_table();
         println!("{}", self.books.summary());
         println!("{}", self.steps.summary());
+        println!("{}", self.writings.summary());
         println!(
             "{} replies, {} of them to hand-made cases and set pieces: {} differ",
             self.heard, self.by_hand, self.differing,
         );
-        self.options.is_covered(&self.books, &self.steps)
+        self.options
+            .is_covered(&self.books, &self.steps, &self.writings)
     }
 }
 
@@ -142,6 +167,9 @@ fn tell(request: &Request, found: &[String]) {
             print!("{}", hex_dump(&case.book));
         }
         Ask::Step(trial) => tell_state(trial),
+        Ask::Write(writing) if writing.payload().len() <= SHORT_BOOK => {
+            print!("{}", hex_dump(&writing.payload()));
+        }
         _ => {}
     }
 }

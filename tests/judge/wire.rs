@@ -17,16 +17,31 @@
 //! 3, step: the payload is a plan and a state, figure by figure, then the four
 //! bytes of an event; the room is 0. The reply is u8 number, u8 lazy call, then
 //! the state after the event, figure by figure.
+//!
+//! 4, write: the payload is four u32 counts, of tasks, locks, uses and events,
+//! then the tasks as u16, the locks as u32, the uses as u16 and the events as
+//! u32; the room is the buffer's length in bytes. The reply is u8 number, u32
+//! place, u32 length of the book, then the whole buffer, which the program fills
+//! with the byte 0xEE before the writing.
 
 use crate::book::LARGEST_BOOK;
 use crate::check::Checked;
 use crate::replay::Answer;
 use crate::step::Stepped;
 use crate::whole::Whole;
+use crate::writer::Written;
 use std::io::{Read, Result};
 
-/// Neither a payload nor a row space is ever greater than this.
+/// Neither a row space nor a buffer is ever greater than this, nor is a book
+/// whose counts are not far too great.
 pub const MOST_BYTES: usize = 65_536;
+
+/// A writing never has more records of a kind, which are some more than two
+/// bytes can count.
+pub const MOST_RECORDS: usize = 65_600;
+
+/// No payload is greater than this.
+const MOST_PAYLOAD: usize = 524_288;
 
 /// There are longer books than the largest right one.
 const _: () = assert!(LARGEST_BOOK < MOST_BYTES);
@@ -36,9 +51,11 @@ pub enum Command {
     Replay = 1,
     Check = 2,
     Step = 3,
+    Write = 4,
 }
 
 pub fn request(command: Command, payload: &[u8], room: usize) -> Vec<u8> {
+    assert!(payload.len() <= MOST_PAYLOAD && room <= MOST_BYTES);
     let head = [command as u32, payload.len() as u32, room as u32];
     let head = head.map(u32::to_le_bytes).concat();
     [&head[..], payload].concat()
@@ -89,6 +106,20 @@ pub fn read_step(input: &mut impl Read, given: &Whole) -> Result<Stepped> {
         number,
         call,
         after,
+    })
+}
+
+pub fn read_write(input: &mut impl Read, room: usize) -> Result<Written> {
+    let number = read_u8(input)?;
+    let place = read_u32(input)?;
+    let length = read_u32(input)?;
+    let mut buffer = vec![0; room];
+    input.read_exact(&mut buffer)?;
+    Ok(Written {
+        number,
+        place,
+        length,
+        buffer,
     })
 }
 

@@ -1,5 +1,5 @@
-//! Ways to go wrong on purpose: the four mistakes of RULES 18.4, and others that
-//! only single steps can show. The judge can follow one of them; a right
+//! Ways to go wrong on purpose: the four mistakes of RULES 18.4, others that only
+//! single steps can show, and some of the writer of books. The judge can follow one of them; a right
 //! program must then differ from it, which shows that the judge is able to fail
 //! a program.
 
@@ -27,10 +27,18 @@ pub enum Wrong {
     OneMoreOpen,
     /// The word of a task that finishes stays as its kept priority.
     KeptStays,
+    /// The buffer's length is tested before the events.
+    RoomBefore8,
+    /// The byte after a written book is changed.
+    ByteAfter,
+    /// A refused writing changes the buffer.
+    RefusalTouches,
+    /// The offset of the event body is one off.
+    OffsetOff,
 }
 
 /// The wrong ways under the names of the command line.
-pub const WRONG_WAYS: [(&str, Wrong); 10] = [
+pub const WRONG_WAYS: [(&str, Wrong); 14] = [
     ("tail", Wrong::Tail),
     ("at-or-above", Wrong::AtOrAbove),
     ("base", Wrong::Base),
@@ -41,6 +49,10 @@ pub const WRONG_WAYS: [(&str, Wrong); 10] = [
     ("delay-wraps", Wrong::DelayWraps),
     ("one-more-open", Wrong::OneMoreOpen),
     ("kept-stays", Wrong::KeptStays),
+    ("room-before-8", Wrong::RoomBefore8),
+    ("byte-after", Wrong::ByteAfter),
+    ("refusal-touches", Wrong::RefusalTouches),
+    ("offset-off", Wrong::OffsetOff),
 ];
 
 pub fn from_name(name: &str) -> Option<Wrong> {

@@ -39,7 +39,7 @@ fn take8(a: &mut [u8], b: &[u8], at: usize) -> usize {
     place
 }
 
-fn take16(a: &mut [u16], b: &[u8], at: usize) -> usize {
+pub fn take16(a: &mut [u16], b: &[u8], at: usize) -> usize {
     let n = a.len();
     let mut place = at;
     let mut i: usize = 0;
@@ -51,7 +51,7 @@ fn take16(a: &mut [u16], b: &[u8], at: usize) -> usize {
     place
 }
 
-fn take32(a: &mut [u32], b: &[u8], at: usize) -> usize {
+pub fn take32(a: &mut [u32], b: &[u8], at: usize) -> usize {
     let n = a.len();
     let mut place = at;
     let mut i: usize = 0;

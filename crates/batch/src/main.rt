@@ -4,17 +4,23 @@
 //   1  replay a book with so much row space (replay.rt)
 //   2  check a book for so much row space (check.rt)
 //   3  a single step: a plan, a state and an event (step.rt)
-// The input's end, or a command that is none of these or too long, ends the program.
+//   4  write a book from its records, to a buffer of so many bytes (write.rt)
+// The input's end, or a command that is none of these, too long or with counts that do not fit it, ends
+// the program.
 mod check;
 mod figures;
 mod replay;
 mod step;
 mod wire;
+mod write;
 
 use wire::read32;
 
-// More bytes than the largest book and its rows have, and than a plan and a state have.
-const SPACE: usize = 65536;
+// More bytes than a plan and a state have, and than records that two bytes cannot count.
+const INPUT: usize = 524288;
+
+// More bytes than the largest book and its rows have.
+const ROOM: usize = 65536;
 
 // More commands than one run is given.
 const MOST: usize = 4000000000;
@@ -33,6 +39,9 @@ fn answer(command: u32, input: &mut [u8], rows: &mut [u8]) -> bool {
     if command == 3 {
         step::reply(input);
         return true;
+    }
+    if command == 4 {
+        return write::reply(input, rows);
     }
     false
 }
@@ -67,7 +76,7 @@ fn serve(input: &mut [u8], rows: &mut [u8]) {
 }
 
 fn main() {
-    let mut input = [0u8; SPACE];
-    let mut rows = [0u8; SPACE];
+    let mut input = [0u8; INPUT];
+    let mut rows = [0u8; ROOM];
     serve(&mut input, &mut rows);
 }

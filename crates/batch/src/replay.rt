@@ -18,7 +18,7 @@ use rules::state::State;
 // The number, place and calls, the number of tasks, and two numbers for each of them.
 const REPLY: usize = 14 + MAX_TASKS * 4;
 
-fn fill(rows: &mut [u8]) {
+pub fn fill(rows: &mut [u8]) {
     let n = rows.len();
     let mut i: usize = 0;
     while i < n {

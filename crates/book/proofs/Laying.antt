@@ -59,13 +59,19 @@ module _ (from : ℕ) (ws before : List ℕ) where
   module _ (i : ℕ) (out next : List ℕ) (h : i < length ws) where
     pub words-next : WordsSoFar i out → next ≡ stored out (from + i * 2) (two (at ws i)) → WordsSoFar (i + 1) next
     unfolding wordBytes
-    words-next s e = (omega arith, rw (add-one i) (then (stored before from (wordBytes ws)) out next (wordBytes (drop (suc i) ws)) (from + i * 2)
-        (from + suc i * 2) (two (at ws i)) (ap (λ xs. stored out (from + i * 2) (wordBytes xs)) (sym (drop-cons ws i 0 h)) ∙ s .1) e (omega arith)))
+    words-next s e = (
+      omega arith,
+      rw (add-one i) (then (stored before from (wordBytes ws)) out next (wordBytes (drop (suc i) ws)) (from + i * 2)
+          (from + suc i * 2) (two (at ws i)) (ap (λ xs. stored out (from + i * 2) (wordBytes xs)) (sym (drop-cons ws i 0 h)) ∙ s .1) e (omega arith)),
+    )
 
     pub longs-next : LongsSoFar i out → next ≡ stored out (from + i * 4) (four (at ws i)) → LongsSoFar (i + 1) next
     unfolding longBytes
-    longs-next s e = (omega arith, rw (add-one i) (then (stored before from (longBytes ws)) out next (longBytes (drop (suc i) ws)) (from + i * 4)
-        (from + suc i * 4) (four (at ws i)) (ap (λ xs. stored out (from + i * 4) (longBytes xs)) (sym (drop-cons ws i 0 h)) ∙ s .1) e (omega arith)))
+    longs-next s e = (
+      omega arith,
+      rw (add-one i) (then (stored before from (longBytes ws)) out next (longBytes (drop (suc i) ws)) (from + i * 4)
+          (from + suc i * 4) (four (at ws i)) (ap (λ xs. stored out (from + i * 4) (longBytes xs)) (sym (drop-cons ws i 0 h)) ∙ s .1) e (omega arith)),
+    )
 
   module _ (i : ℕ) (out : List ℕ) (h : length ws ≤ i) where
     pub words-end : WordsSoFar i out → out ≡ stored before from (wordBytes ws)
@@ -199,24 +205,24 @@ module _ (t l u e out : List ℕ) (room : Room t l u e out) where
       pub uses-room : (o₁ o₂ : List ℕ) → o₁ ≡ withPart out 0 contents (length t) a → o₂ ≡ withPart o₁ 1 p (length l) b → PartRoom o₂ 2 q (length u) 2
       uses-room o₁ o₂ w₁ w₂ = let h : length o₂ ≡ length out = with-part-length o₁ o₂ b 1 p (length l) w₂ ∙ with-part-length out o₁ a 0 contents (length t) w₁ in
           record {
-        front = omega (arith, sizes .4);
-        entry = omega arith;
-        body = omega (arith, sizes .0, sizes .1, sizes .4, after-tasks, after-locks);
-        count = omega (arith, room .few .uses);
-        offset = omega (arith, sizes .0, sizes .1, room .few .tasks, room .few .locks, after-tasks, after-locks);
-      }
+            front = omega (arith, sizes .4);
+            entry = omega arith;
+            body = omega (arith, sizes .0, sizes .1, sizes .4, after-tasks, after-locks);
+            count = omega (arith, room .few .uses);
+            offset = omega (arith, sizes .0, sizes .1, room .few .tasks, room .few .locks, after-tasks, after-locks);
+          }
 
       module _ (s : ℕ) (after-uses : s ≡ q + length c) where
         pub events-room : (o₁ o₂ o₃ : List ℕ) → o₁ ≡ withPart out 0 contents (length t) a → o₂ ≡ withPart o₁ 1 p (length l) b
             → o₃ ≡ withPart o₂ 2 q (length u) c → PartRoom o₃ 3 s (length e) 4
         events-room o₁ o₂ o₃ w₁ w₂ w₃ = let h : length o₃ ≡ length out = with-part-length o₂ o₃ c 2 q (length u) w₃ ∙ with-part-length o₁ o₂ b 1 p (length l) w₂
             ∙ with-part-length out o₁ a 0 contents (length t) w₁ in record {
-          front = omega (arith, sizes .4);
-          entry = omega arith;
-          body = omega (arith, sizes .0, sizes .1, sizes .2, sizes .4, after-tasks, after-locks, after-uses);
-          count = omega (arith, room .few .events);
-          offset = omega (arith, sizes .0, sizes .1, sizes .2, room .few .tasks, room .few .locks, room .few .uses, after-tasks, after-locks, after-uses);
-        }
+              front = omega (arith, sizes .4);
+              entry = omega arith;
+              body = omega (arith, sizes .0, sizes .1, sizes .2, sizes .4, after-tasks, after-locks, after-uses);
+              count = omega (arith, room .few .events);
+              offset = omega (arith, sizes .0, sizes .1, sizes .2, room .few .tasks, room .few .locks, room .few .uses, after-tasks, after-locks, after-uses);
+            }
 
         module _ (r : ℕ) (after-events : r ≡ s + length d) where
           pub length-laid : r ≡ length (bookOf t l u e)

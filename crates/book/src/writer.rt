@@ -114,13 +114,7 @@ fn first_fault(tasks: &[u16], locks: &[u32], uses: &[u16], events: &[u32], room:
 // Records are numbers, low byte first: a task's two bytes, a lock's four, a use's two, an event's
 // four. The answer is the book's length, with the book at the start of the buffer; or a refusal, and the
 // buffer as it was.
-pub fn write(
-    tasks: &[u16],
-    locks: &[u32],
-    uses: &[u16],
-    events: &[u32],
-    out: &mut [u8],
-) -> Written
+pub fn write(tasks: &[u16], locks: &[u32], uses: &[u16], events: &[u32], out: &mut [u8]) -> Written
     ensures { λ r. ⌜ wroteWith r (now (out .exit)) ≡ writeOf (now (tasks .entry)) (now (locks .entry)) (now (uses .entry)) (now (events .entry))
         (now (out .entry)) ⌝ }
 {

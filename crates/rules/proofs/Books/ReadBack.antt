@@ -80,8 +80,7 @@ read-parts (w ∷ ws) (suc i) h =
     let (a, b, c) = read-parts ws i (le-of-suc-le-suc h) in
     let here : (p j : ℕ) → p ≡ 4 + j → at (longBytes (w ∷ ws)) p ≡ at (longBytes ws) j = λ p j e. ap (at (longBytes (w ∷ ws))) e
     ∙ sym (getD-drop 4 (longBytes (w ∷ ws)) j 0) in
-    let e : suc i * 4 + 2 ≡ 4 + (i * 4 + 2) = omega arith in
-    (
+    let e : suc i * 4 + 2 ≡ 4 + (i * 4 + 2) = omega arith in (
       here (suc i * 4) (i * 4) (omega arith) ∙ a,
       here (suc i * 4 + 1) (i * 4 + 1) (omega arith) ∙ b,
       ap (word (longBytes (w ∷ ws))) e ∙ word-past (longBytes (w ∷ ws)) 4 (i * 4 + 2) ∙ c,
@@ -239,7 +238,12 @@ module _ (tasks locks uses events : List ℕ) where
       clean-passes _ _ (λ i h. le-ltb (length b) contents (omega (arith, book-size)))
       ∙ same-faults _ _ _ _ _ _ _ same-counts
       (clean-passes _ _ layout-right
-      ∙ rw (tasks-back, locks-back, uses-back, append-assoc (loadChecks tasks locks uses) (eventCheck (length events) (λ k. numberFault (at events k)) ∷ [])
-      (rowCheck room ∷ []))
+      ∙ rw (
+        tasks-back,
+        locks-back,
+        uses-back,
+        append-assoc (loadChecks tasks locks uses) (eventCheck (length events) (λ k. numberFault (at events k)) ∷ [])
+            (rowCheck room ∷ []),
+      )
       (same-after (loadChecks tasks locks uses) _ _
       (rw (counts-back .3) (same-faults _ _ _ _ _ _ _ same-event refl))))

@@ -2,6 +2,7 @@
 //! of ordinary Rust as it wants them.
 
 use crate::ordinary::{self, Record, MOST_LOCKS, MOST_OPEN, MOST_TASKS};
+use crate::ordinary_write::Records;
 
 #[repr(C)]
 #[derive(Clone, Copy, PartialEq)]
@@ -57,8 +58,28 @@ pub struct Step {
     pub state: State,
 }
 
+#[repr(C)]
+#[derive(Clone, Copy)]
+pub struct Write {
+    pub number: u8,
+    pub place: usize,
+    pub length: usize,
+}
+
 extern "C" {
     fn recorder_check(book: *const u8, length: usize, room: usize) -> Check;
+    fn recorder_write(
+        tasks: *const u16,
+        task_count: usize,
+        locks: *const u32,
+        lock_count: usize,
+        uses: *const u16,
+        use_count: usize,
+        events: *const u32,
+        event_count: usize,
+        buffer: *mut u8,
+        room: usize,
+    ) -> Write;
     fn recorder_fresh() -> State;
     fn recorder_step(plan: Plan, state: State, kind: u8, id: u8, amount: u16) -> Step;
     fn recorder_replay(book: *const u8, length: usize, rows: *mut u8, room: usize) -> Replay;
@@ -72,6 +93,30 @@ pub fn check(book: &[u8], room: usize) -> Check {
 pub fn replay(book: &[u8], rows: &mut [u8]) -> Replay {
     // It reads the book, and writes no byte outside of the rows.
     unsafe { recorder_replay(book.as_ptr(), book.len(), rows.as_mut_ptr(), rows.len()) }
+}
+
+pub fn write(records: &Records, buffer: &mut [u8]) -> Write {
+    let Records {
+        tasks,
+        locks,
+        uses,
+        events,
+    } = records;
+    // It reads the records, and writes no byte outside of the buffer.
+    unsafe {
+        recorder_write(
+            tasks.as_ptr(),
+            tasks.len(),
+            locks.as_ptr(),
+            locks.len(),
+            uses.as_ptr(),
+            uses.len(),
+            events.as_ptr(),
+            events.len(),
+            buffer.as_mut_ptr(),
+            buffer.len(),
+        )
+    }
 }
 
 pub fn fresh() -> State {

@@ -1,19 +1,22 @@
 //! The proved replay against the same one in ordinary Rust, over books of full
 //! length: both must give the same rows and figures; then each is timed. Then
-//! the same of single steps, from states of these books and from full states.
+//! the same of these books written from their records, and of single steps, from
+//! states of the books and from full states.
 //!
 //!     bench [--rounds N] BOOK..
 //!
 //! Before the named books it takes one of its own, of the crane plan: there the
-//! scans over the tasks are short. It ends with 0 if both agree on every book
-//! and every step, else with 1. Times only inform.
+//! scans over the tasks are short. It ends with 0 if both agree on every book,
+//! every writing and every step, else with 1. Times only inform.
 
 mod crane;
 mod device;
 mod ordinary;
 mod ordinary_step;
+mod ordinary_write;
 mod scenes;
 mod steps;
+mod writes;
 
 use ordinary::{MOST_TASKS, ROW_SPACE};
 use scenes::Scene;
@@ -46,8 +49,9 @@ fn main() -> ExitCode {
         }
     }
     let replays_agree = replays(&books, rounds);
+    let writes_agree = writes(&books, rounds);
     let steps_agree = steps(&books, rounds);
-    ExitCode::from(u8::from(!replays_agree || !steps_agree))
+    ExitCode::from(u8::from(!(replays_agree && writes_agree && steps_agree)))
 }
 
 fn head(what: &str, of: &str, rounds: usize) {
@@ -67,6 +71,23 @@ fn replays(books: &[(String, Vec<u8>)], rounds: usize) -> bool {
             None => measure(name, book, rounds),
             Some(what) => {
                 println!("{name}: the two differ in {what}");
+                agree = false;
+            }
+        }
+    }
+    agree
+}
+
+/// Whether both agree on every book that is written.
+fn writes(books: &[(String, Vec<u8>)], rounds: usize) -> bool {
+    println!();
+    head("ns an event", "book", rounds);
+    let mut agree = true;
+    for (name, book) in books {
+        match writes::compare(book) {
+            Ok(()) => writes::measure(name, book, rounds),
+            Err(what) => {
+                println!("{name}: the two writers differ in {what}");
                 agree = false;
             }
         }

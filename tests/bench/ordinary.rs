@@ -55,18 +55,25 @@ fn word(bytes: &[u8], at: usize) -> usize {
     usize::from(u16::from_le_bytes([bytes[at], bytes[at + 1]]))
 }
 
-/// 1 to 9, each over the whole book before the next.
-pub fn check(book: &[u8], room: usize) -> Result<Checked<'_>, Refused> {
+/// The bytes of a record of each entry.
+pub const SIZE: [usize; 4] = [2, 4, 2, 4];
+
+/// 2, of an entry from 0.
+pub fn is_miscounted(entry: usize, count: usize) -> bool {
     const LEAST: [usize; 4] = [1, 0, 0, 0];
     const MOST: [usize; 4] = [MOST_TASKS, MOST_LOCKS, MOST_USES, MOST_EVENTS];
-    const SIZE: [usize; 4] = [2, 4, 2, 4];
+    count < LEAST[entry] || count > MOST[entry]
+}
+
+/// 1 to 9, each over the whole book before the next.
+pub fn check(book: &[u8], room: usize) -> Result<Checked<'_>, Refused> {
     if book.len() < 32 {
         return Err(Refused(1, 0));
     }
     let mut starts = [32; 5];
     for entry in 0..4 {
         let count = word(book, 8 * entry + 2);
-        if count < LEAST[entry] || count > MOST[entry] {
+        if is_miscounted(entry, count) {
             return Err(Refused(2, entry + 1));
         }
         starts[entry + 1] = starts[entry] + count * SIZE[entry];
@@ -81,9 +88,11 @@ pub fn check(book: &[u8], room: usize) -> Result<Checked<'_>, Refused> {
         return Err(Refused(3, 5));
     }
     let plan = load(
-        &book[starts[0]..starts[1]],
-        &book[starts[1]..starts[2]],
-        &book[starts[2]..starts[3]],
+        twos(&book[starts[0]..starts[1]]),
+        book[starts[1]..starts[2]]
+            .chunks_exact(4)
+            .map(|record| [record[0], record[1], record[2], record[3]]),
+        twos(&book[starts[2]..starts[3]]),
     )?;
     let events = &book[starts[3]..];
     if let Some(place) = events.chunks_exact(4).position(is_wrong) {
@@ -106,20 +115,28 @@ pub fn is_wrong(record: &[u8]) -> bool {
     }
 }
 
-/// 4 to 7.
-fn load(tasks: &[u8], locks: &[u8], uses: &[u8]) -> Result<Plan, Refused> {
+fn twos(body: &[u8]) -> impl ExactSizeIterator<Item = [u8; 2]> + '_ {
+    body.chunks_exact(2).map(|record| [record[0], record[1]])
+}
+
+/// 4 to 7, of records whose counts are right.
+pub fn load(
+    tasks: impl ExactSizeIterator<Item = [u8; 2]>,
+    locks: impl ExactSizeIterator<Item = [u8; 4]>,
+    uses: impl Iterator<Item = [u8; 2]>,
+) -> Result<Plan, Refused> {
     let mut plan = Plan {
-        tasks: tasks.len() / 2,
-        locks: locks.len() / 4,
+        tasks: tasks.len(),
+        locks: locks.len(),
         ..Plan::blank()
     };
-    for (task, record) in tasks.chunks_exact(2).enumerate() {
+    for (task, record) in tasks.enumerate() {
         if record[0] == 0 || record[1] != 0 {
             return Err(Refused(4, task));
         }
         plan.base[task] = record[0];
     }
-    for (lock, record) in locks.chunks_exact(4).enumerate() {
+    for (lock, record) in locks.enumerate() {
         let limit = u16::from_le_bytes([record[2], record[3]]);
         if record[0] == 0 || record[1] != 0 || limit == 0 {
             return Err(Refused(5, lock));
@@ -129,7 +146,7 @@ fn load(tasks: &[u8], locks: &[u8], uses: &[u8]) -> Result<Plan, Refused> {
     }
     let mut before = None;
     let mut greatest = [0; MOST_LOCKS];
-    for (place, record) in uses.chunks_exact(2).enumerate() {
+    for (place, record) in uses.enumerate() {
         let (task, lock) = (usize::from(record[0]), usize::from(record[1]));
         if task >= plan.tasks || lock >= plan.locks || before >= Some((task, lock)) {
             return Err(Refused(6, place));

@@ -1,6 +1,6 @@
 -- The ways through the code that lays a book: numbers, bodies, entries, and the whole. Assumes nothing.
 use mathlib.Core.Path.{_≡_, refl, sym, _∙_, ap, ap₂}
-use mathlib.Core.List.{List, [], _∷_, _++_, append-assoc}
+use mathlib.Core.List.{List, [], _++_, append-assoc}
 use Prim.Native.Nat.{ℕ, suc, _+_, _*_, _-_, _/_, _%_, _≤_, _<_}
 use native.Mathlib.Numerals.{add-one}
 use native.Mathlib.Omega.{arith}
@@ -8,7 +8,7 @@ use lib.ListN.{length, set, take, drop, length-append, length-set, length-drop, 
 use lib.Seq.{drop-cons, drop-drop, drop-append-le, length-take-le}
 use Rattle.rules.specs.Numbers.Place.{at, stored}
 use Rattle.rules.specs.Books.Book.{contents}
-use Rattle.rules.specs.Books.Bytes.{two, four, wordBytes, longBytes, entryOf, contentsOf, bodiesOf, bookOf}
+use Rattle.rules.specs.Books.Bytes.{two, four, wordBytes, longBytes, entryOf, bodiesOf, bookOf}
 use Rattle.rules.proofs.Numbers.Stored.{length-stored, stored-on, stored-past, stored-front}
 use Rattle.rules.proofs.Books.ReadBack.{word-size, long-size, book-size}
 use Rattle.book.specs.Room.{Room, PartRoom, withPart}

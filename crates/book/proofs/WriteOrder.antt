@@ -1,5 +1,5 @@
 -- The ways through the writer's tests, and through the writer. Assumes nothing.
-use mathlib.Core.Path.{_≡_, refl, sym, _∙_, ap, ap₂}
+use mathlib.Core.Path.{_≡_, sym, _∙_, ap, ap₂}
 use mathlib.Core.Bool.{Bool, false}
 use mathlib.Core.List.{List, [], _∷_, _++_, append-assoc}
 use Prim.Native.Nat.{ℕ, _+_, _*_, _≤_, _<_}
@@ -10,15 +10,14 @@ use borrow.Author.Tests.{lt-ltb, le-ltb, ltb-false}
 use Rattle.rules.specs.Numbers.Capacity.{maxTasks, maxLocks, maxUses, maxEvents}
 use Rattle.rules.specs.Numbers.Choice.{if_then_else_}
 use Rattle.rules.specs.Numbers.Place.{at, firstFrom}
-use Rattle.rules.specs.Numbers.Refusal.{Check, numberOf, firstFault, checkFor}
+use Rattle.rules.specs.Numbers.Refusal.{numberOf, firstFault, checkFor}
 use Rattle.rules.specs.Books.Event.{eventFault, recordKind, recordId, recordAmount, numberFault}
 use Rattle.rules.specs.Books.Plan.{most, countFault}
 use Rattle.rules.specs.Books.Load.{loadChecks, loadOf}
 use Rattle.rules.specs.Books.Bytes.{bookOf}
-use Rattle.rules.specs.Books.Write.{countOf, countsOf, wholeChecks, writeChecks, wroteAs, writeOf, Wrote, wroteWith}
+use Rattle.rules.specs.Books.Write.{countOf, countsOf, wholeChecks, writeChecks, wroteAs, writeOf, wroteWith}
 use Rattle.rules.specs.declared.answer.Verdict.{Verdict}
 use Rattle.rules.specs.declared.answer.Loaded.{Loaded}
-use Rattle.rules.specs.declared.answer.Written.{Written}
 use Rattle.rules.specs.declared.refusal.Refusal.{Refusal}
 use Rattle.rules.specs.declared.refusal.Refusal.the-variants.{WrongCount, WrongEvent, ShortBuffer}
 use Rattle.rules.proofs.Numbers.Choice.{or-false}

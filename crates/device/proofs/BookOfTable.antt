@@ -15,7 +15,7 @@ use Rattle.rules.proofs.Numbers.Checks.{check-none, clean-passes}
 use Rattle.rules.proofs.Books.ReadBack.{book-size, counts-back, layout-right, tasks-back, locks-back, uses-back}
 use Rattle.rules.proofs.Books.OfBytes.{book-bytes}
 use Rattle.device.specs.Table.{wordOf, numbersOf}
-use Rattle.device.specs.BookForm.{recordsOf, answerOf, OnlyPlan, tableBook}
+use Rattle.device.specs.BookForm.{answerOf, OnlyPlan, tableBook}
 use Rattle.device.specs.declared.table.TaskRecord.{TaskRecord}
 use Rattle.device.proofs.Kept.{noRecord}
 use Rattle.device.proofs.SameAsBook.{same-numbers, same-as-book}

@@ -21,7 +21,6 @@ use Rattle.rules.specs.declared.answer.Stepped.{Stepped}
 use Rattle.rules.specs.declared.answer.Replayed.{Replayed}
 use Rattle.rules.specs.declared.answer.Written.{Written}
 use Rattle.device.specs.declared.check.DeviceCheck.{DeviceCheck}
-use Rattle.device.specs.declared.load.DeviceLoad.{DeviceLoad}
 use Rattle.device.specs.declared.step.DeviceStep.{DeviceStep}
 use Rattle.device.specs.declared.replay.DeviceReplay.{DeviceReplay}
 use Rattle.device.specs.declared.write.DeviceWrite.{DeviceWrite}

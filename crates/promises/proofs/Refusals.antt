@@ -1,6 +1,5 @@
 -- Demand 1, said of what the code answers, by the contracts that its callers read. Assumes nothing.
-use mathlib.Core.Path.{_≡_, sym, subst}
-use Prim.Native.Nat.{ℕ, _<_}
+use mathlib.Core.Path.{sym, subst}
 use contract.Lifetimes.{Lfts}
 use denote.Ref.{now}
 use Rattle.rules.specs.Books.Write.{Wrote, wroteWith}

@@ -1,9 +1,8 @@
 -- What is promised of the writer, said of the code. Assumes nothing.
-use mathlib.Core.Path.{_≡_, refl, sym, _∙_, ap, ap₂, subst}
+use mathlib.Core.Path.{_≡_, refl, sym, _∙_, ap, subst}
 use mathlib.Core.List.{List, [], _∷_, map}
 use Prim.Native.Nat.{ℕ, zero, suc, _*_, _≤_, _<_}
 use native.Mathlib.Nat.{le-of-suc-le-suc, not-suc-le-zero}
-use native.Mathlib.Omega.{arith}
 use contract.Lifetimes.{Lfts}
 use lib.ListN.{length, take, drop, length-map}
 use denote.Ref.{now}
@@ -23,9 +22,7 @@ use Rattle.rules.specs.declared.answer.Written.{Written}
 use Rattle.rules.proofs.Books.Passes.{verdict-held}
 use Rattle.rules.proofs.Demands.Written.{writing}
 use Rattle.book.specs.Reader.{ReadAt}
-use Rattle.plan.proofs.load.Reads as load
 use Rattle.book.proofs.check.Reads as check
-use Rattle.book.proofs.reader.read_in.Reads as read-in
 use Rattle.book.proofs.writer.write.Reads as write
 use Rattle.promises.specs.Writing.{ReadsBack, WritesAgain, RefusesAlike}
 use Rattle.promises.proofs.Passed.{number-is}

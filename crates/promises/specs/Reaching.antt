@@ -1,7 +1,7 @@
 -- RULES 14.3: that the bound is reached, as the code counts it. Assumes nothing.
 use mathlib.Core.Path.{_≡_}
 use mathlib.Core.List.{List}
-use Prim.Native.Nat.{ℕ, _*_, _≤_, _<_}
+use Prim.Native.Nat.{ℕ, _*_, _≤_}
 use contract.Lifetimes.{Lfts}
 use lib.ListN.{length}
 use denote.Ref.{now}

@@ -10,7 +10,7 @@ use Rattle.rules.specs.Numbers.Place.{at}
 use Rattle.rules.specs.Numbers.Answer.{verdictNumber, verdictPlace, foundSome, foundEvent}
 use Rattle.rules.specs.Books.Event.{numberEvent}
 use Rattle.rules.specs.Books.Book.{tasksOf, locksOf, usesOf, eventNumbersOf}
-use Rattle.rules.specs.Books.Bytes.{bookOf, Bytes}
+use Rattle.rules.specs.Books.Bytes.{bookOf}
 use Rattle.rules.specs.Books.Write.{wroteWith}
 use Rattle.rules.specs.Demands.Written.{WrittenBack}
 use Rattle.rules.specs.declared.answer.Checked.{Checked}

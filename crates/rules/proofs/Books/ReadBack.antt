@@ -1,8 +1,8 @@
 -- The book of records, read back: its contents are right, its bodies are the records, and what is asked of it is asked of them. Assumes nothing.
 use mathlib.Core.Path.{_≡_, refl, sym, _∙_, ap, ap₂}
-use mathlib.Core.Bool.{Bool, false, not}
+use mathlib.Core.Bool.{false, not}
 use mathlib.Core.List.{List, [], _∷_, _++_, map, append-assoc, append-nil}
-use Prim.Native.Nat.{ℕ, zero, suc, _+_, _*_, _≤_, _<_}
+use Prim.Native.Nat.{ℕ, zero, suc, _+_, _*_, _<_}
 use native.Mathlib.Nat.{le-of-suc-le-suc, not-suc-le-zero}
 use native.Mathlib.Omega.{arith}
 use lib.Dec.{ltb}
@@ -12,18 +12,16 @@ use borrow.Author.Tests.{lt-ltb, le-ltb, eq-eqb}
 use Rattle.rules.specs.Numbers.Choice.{if_then_else_}
 use Rattle.rules.specs.Numbers.Place.{at, tabulate}
 use Rattle.rules.specs.Numbers.Refusal.{Check, firstFault}
-use Rattle.rules.specs.Books.Event.{eventFault, eventOf, recordKind, recordId, recordAmount, numberFault, numberEvent}
+use Rattle.rules.specs.Books.Event.{recordKind, recordId, recordAmount, numberFault, numberEvent}
 use Rattle.rules.specs.Books.Plan.{countFault}
 use Rattle.rules.specs.Books.Load.{planOf, loadChecks}
 use Rattle.rules.specs.Books.Book.{word, long, contents, kindAt, countAt, offsetAt, sizeOf, bodyAt, layoutFault, tasksOf, locksOf, usesOf}
 use Rattle.rules.specs.Books.Book.{eventNumbersOf, eventBody, recordFault, recordEvent, eventsOf, planIn, contentsChecks, eventCheck, eventChecks, checkOf}
-use Rattle.rules.specs.Books.Bytes.{two, four, wordBytes, longBytes, entryOf, contentsOf, bodiesOf, bookOf}
+use Rattle.rules.specs.Books.Bytes.{wordBytes, longBytes, bookOf}
 use Rattle.rules.specs.Books.Write.{countsOf, wholeChecks}
-use Rattle.rules.specs.declared.event.Event.{Event}
 use Rattle.rules.specs.declared.event.Event.the-variants.{Tick}
 use Rattle.rules.specs.declared.refusal.Refusal.the-variants.{ShortRows}
-use Rattle.rules.proofs.Numbers.Choice.{lt-or-le}
-use Rattle.rules.proofs.Numbers.Place.{below, length-from, getD-tabulate}
+use Rattle.rules.proofs.Numbers.Place.{length-from, getD-tabulate}
 use Rattle.rules.proofs.Numbers.Checks.{clean-passes, same-faults, same-after}
 
 -- ---- a list that is read place by place

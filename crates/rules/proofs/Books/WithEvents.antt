@@ -1,9 +1,9 @@
 -- Every list of events has its book: one with the plan of an accepted book, and these events. Assumes nothing.
-use mathlib.Core.Path.{_≡_, refl, sym, _∙_, ap, ap₂}
+use mathlib.Core.Path.{_≡_, refl, _∙_, ap, ap₂}
 use mathlib.Core.Logic.{⊎-elim}
 use mathlib.Core.Bool.{false}
-use mathlib.Core.List.{List, [], _∷_, _++_, map, append-assoc}
-use Prim.Native.Nat.{ℕ, zero, suc, _+_, _*_, _/_, _%_, _^_, _≤_, _<_}
+use mathlib.Core.List.{List, [], _∷_, map, append-assoc}
+use Prim.Native.Nat.{ℕ, zero, suc, _+_, _*_, _/_, _^_, _≤_, _<_}
 use native.Mathlib.Nat.{le-of-suc-le-suc, not-suc-le-zero, zero-lt-suc}
 use native.Mathlib.Omega.{arith}
 use lib.ListN.{length, length-map}
@@ -16,7 +16,7 @@ use Rattle.rules.specs.Books.Event.{kindOf, idOf, amountOf, eventFault, 
 use Rattle.rules.specs.Books.Plan.{most, countFault}
 use Rattle.rules.specs.Books.Load.{countFaultOf, loadChecks}
 use Rattle.rules.specs.Books.Book.{word, long, countAt, bodyAt, tasksOf, locksOf, usesOf, planIn, eventsOf, checkOf}
-use Rattle.rules.specs.Books.Bytes.{bookOf, Bytes, Fit}
+use Rattle.rules.specs.Books.Bytes.{bookOf, Bytes}
 use Rattle.rules.specs.Books.Write.{countsOf, wholeChecks}
 use Rattle.rules.specs.Demands.History.{eventAt}
 use Rattle.rules.specs.declared.answer.Verdict.{Verdict}

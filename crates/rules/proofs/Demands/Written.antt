@@ -1,6 +1,6 @@
 -- What is promised of the writer holds. Assumes nothing.
-use mathlib.Core.Path.{_≡_, refl, sym, _∙_, ap, ap₂, subst}
-use mathlib.Core.List.{List, [], _∷_, _++_, map}
+use mathlib.Core.Path.{_≡_, refl, sym, _∙_, ap, subst}
+use mathlib.Core.List.{List, [], _∷_, _++_}
 use Prim.Native.Nat.{ℕ, _+_, _*_, _-_, _≤_, _<_}
 use native.Mathlib.Omega.{arith}
 use lib.Dec.{ltb}
@@ -13,13 +13,12 @@ use Rattle.rules.specs.Numbers.Refusal.{numberOf, firstFault, checkFor}
 use Rattle.rules.specs.Numbers.Answer.{verdictNumber, verdictPlace}
 use Rattle.rules.specs.Books.Load.{loadChecks}
 use Rattle.rules.specs.Books.Book.{countCheck, tasksOf, locksOf, usesOf, eventNumbersOf, checkOf, checkedAs}
-use Rattle.rules.specs.Books.Bytes.{bookOf, Bytes, Fit}
+use Rattle.rules.specs.Books.Bytes.{bookOf, Bytes}
 use Rattle.rules.specs.Books.Write.{countsOf, wholeChecks, writeChecks, Wrote, wroteAs, writeOf}
 use Rattle.rules.specs.Demands.Written.{bookIn, ReadsAs, RefusesAs, WrittenAs, WrittenBack, Writing}
 use Rattle.rules.specs.declared.answer.Verdict.{Verdict}
 use Rattle.rules.specs.declared.refusal.Refusal.{Refusal}
 use Rattle.rules.specs.declared.refusal.Refusal.the-variants.{ShortBuffer}
-use Rattle.rules.proofs.Numbers.Refusals.{numbered}
 use Rattle.rules.proofs.Numbers.Checks.{check-none, clean-passes, clean-for, check-finds, check-left, check-right, passed-both}
 use Rattle.rules.proofs.Numbers.Checks.{one-finds, none-refused-at}
 use Rattle.rules.proofs.Books.Loaded.{loads-plan}

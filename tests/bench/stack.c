@@ -62,20 +62,16 @@ static size_t most(size_t so_far, void (*caller)(void), void (*function)(void)) 
 
 /* ---- the largest inputs */
 
-#define USES (RECORDER_MAX_TASKS * RECORDER_MAX_LOCKS)
 #define OPEN sizeof(uint64_t) /* a row has a byte for each open lock */
 
 static uint8_t book[RECORDER_MAX_BOOK];
 static size_t length;
 static uint8_t rows[RECORDER_MAX_EVENTS * RECORDER_ROW_BYTES];
 static struct recorder_task tasks[RECORDER_MAX_TASKS];
+static uint16_t bases[RECORDER_MAX_TASKS];
 static uint32_t locks[RECORDER_MAX_LOCKS];
-static uint16_t uses[USES];
-
-static uint8_t *put(uint8_t *at, size_t number, int bytes) {
-    for (; bytes > 0; bytes--, number >>= 8) *at++ = (uint8_t)number;
-    return at;
-}
+static uint16_t uses[RECORDER_MAX_USES];
+static uint32_t events[RECORDER_MAX_EVENTS];
 
 /* The events of the book: task 0 takes as many locks as it may; all others are released, and wait; it works and gives
  * its locks back; and all finish. Then again. */
@@ -94,44 +90,29 @@ static const struct {
     {RECORDER_FINISH, 0, 0, 0, RECORDER_MAX_TASKS},
 };
 
-/* Writes event k of the book. */
-static void put_event(uint8_t *at, size_t k) {
+/* An event's record as a number. */
+static uint32_t number(size_t kind, size_t id, size_t amount) { return (uint32_t)(kind + id * 256 + amount * 65536); }
+
+/* Event k of the book. */
+static uint32_t event_at(size_t k) {
     size_t p = 0;
     for (; k >= parts[p].count; p = (p + 1) % COUNT(parts)) k -= parts[p].count;
-    put(put(put(at, parts[p].kind, 1), parts[p].first + k * (size_t)parts[p].by, 1), parts[p].amount, 2);
+    return number(parts[p].kind, parts[p].first + k * (size_t)parts[p].by, parts[p].amount);
 }
 
 /* As many tasks, locks, uses and events as there can be, in a table and in a book: every task may take every lock. */
 static void fill(void) {
-    const size_t counts[] = {RECORDER_MAX_TASKS, RECORDER_MAX_LOCKS, USES, RECORDER_MAX_EVENTS};
-    const size_t sizes[] = {2, 4, 2, 4};
-    uint8_t *at = book;
-    size_t start = 32;
-    for (size_t k = 0; k < 4; k++) {
-        at = put(put(put(at, k + 1, 2), counts[k], 2), start, 4);
-        start += counts[k] * sizes[k];
-    }
-    for (size_t t = 0; t < RECORDER_MAX_TASKS; t++) {
-        tasks[t].base = (uint8_t)(t + 1);
-        at = put(at, t + 1, 2);
-    }
-    for (size_t l = 0; l < RECORDER_MAX_LOCKS; l++) {
-        locks[l] = RECORDER_MAX_TASKS + 65535u * 65536u;
-        at = put(at, locks[l], 4);
-    }
-    for (size_t u = 0; u < USES; u++) {
-        uses[u] = (uint16_t)(u / RECORDER_MAX_LOCKS + u % RECORDER_MAX_LOCKS * 256);
-        at = put(at, uses[u], 2);
-    }
-    for (size_t k = 0; k < RECORDER_MAX_EVENTS; k++) put_event(at + 4 * k, k);
-    length = start;
+    for (size_t t = 0; t < COUNT(tasks); t++) tasks[t].base = (uint8_t)(bases[t] = (uint16_t)(t + 1));
+    for (size_t l = 0; l < COUNT(locks); l++) locks[l] = RECORDER_MAX_TASKS + 65535u * 65536u;
+    for (size_t u = 0; u < COUNT(uses); u++) uses[u] = (uint16_t)(u / COUNT(locks) + u % COUNT(locks) * 256);
+    for (size_t k = 0; k < COUNT(events); k++) events[k] = event_at(k);
 }
 
 /* ---- a call of each function */
 
 static struct recorder_plan plan;
 static struct recorder_state state;
-static uint8_t event[4];
+static uint32_t event;
 static size_t task;
 
 /* The answer stays on the stack of the measure, above the call. */
@@ -149,6 +130,15 @@ static void call_load(void) {
     WANTED(answer);
 }
 
+static struct recorder_write write_book(__typeof__(&recorder_write) f) {
+    return f(bases, COUNT(bases), locks, COUNT(locks), uses, COUNT(uses), events, COUNT(events), book, sizeof book);
+}
+
+static void call_write(void) {
+    struct recorder_write answer = write_book((void *)noted);
+    WANTED(answer);
+}
+
 static void call_fresh(void) {
     __typeof__(&recorder_fresh) f = (void *)noted;
     struct recorder_state answer = f();
@@ -157,7 +147,7 @@ static void call_fresh(void) {
 
 static void call_step(void) {
     __typeof__(&recorder_step) f = (void *)noted;
-    struct recorder_step answer = f(plan, state, event[0], event[1], event[2]);
+    struct recorder_step answer = f(plan, state, event % 256, event / 256 % 256, event / 65536);
     WANTED(answer);
 }
 
@@ -179,6 +169,7 @@ static void say(const char *name, size_t bytes, size_t arguments, size_t answer)
 
 int main(void) {
     fill();
+    length = write_book(recorder_write).length;
     plan = recorder_load_table(tasks, COUNT(tasks), locks, COUNT(locks), uses, COUNT(uses)).plan;
     state = recorder_fresh();
     struct recorder_replay whole = recorder_replay(book, length, rows, sizeof rows);
@@ -199,6 +190,7 @@ int main(void) {
         }
     }
     size_t load = most(0, call_load, (void (*)(void))recorder_load_table);
+    size_t write = most(0, call_write, (void (*)(void))recorder_write);
     size_t fresh = most(0, call_fresh, (void (*)(void))recorder_fresh);
 
     /* the largest book's events until nobody runs again, each as a step; and from each state one event of every kind,
@@ -206,12 +198,12 @@ int main(void) {
     size_t step = 0, k = 0;
     do {
         for (uint8_t kind = 0; kind <= RECORDER_TICK; kind++) {
-            put(put(put(event, kind, 1), 0, 1), kind == RECORDER_WORK, 2);
+            event = number(kind, 0, kind == RECORDER_WORK);
             step = most(step, call_step, (void (*)(void))recorder_step);
         }
-        put_event(event, k++);
+        event = event_at(k++);
         step = most(step, call_step, (void (*)(void))recorder_step);
-        struct recorder_step s = recorder_step(plan, state, event[0], event[1], event[2]);
+        struct recorder_step s = recorder_step(plan, state, event % 256, event / 256 % 256, event / 65536);
         if (s.number != 0) {
             printf("the library refuses an event of the largest book\n");
             return 1;
@@ -227,6 +219,7 @@ int main(void) {
     printf("%-20s %7s %9s %7s\n", "", "stack", "by value", "answer");
     say("recorder_check", check, 0, sizeof(struct recorder_check));
     say("recorder_load_table", load, 0, sizeof(struct recorder_load));
+    say("recorder_write", write, 0, sizeof(struct recorder_write));
     say("recorder_fresh", fresh, 0, sizeof(struct recorder_state));
     say("recorder_step", any_step, sizeof plan + sizeof state, sizeof(struct recorder_step));
     say("  of a sound state", step, sizeof plan + sizeof state, sizeof(struct recorder_step));

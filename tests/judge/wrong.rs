@@ -1,7 +1,7 @@
 //! Ways to go wrong on purpose: the four mistakes of RULES 18.4, others that only
-//! single steps can show, and some of the writer of books. The judge can follow one of them; a right
-//! program must then differ from it, which shows that the judge is able to fail
-//! a program.
+//! single steps can show, and some of the writer of books. The judge can follow
+//! one of them; a right program must then differ from it, which shows that the
+//! judge is able to fail a program.
 
 #[derive(Clone, Copy, Debug, PartialEq, Eq)]
 pub enum Wrong {

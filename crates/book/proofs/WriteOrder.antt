@@ -1,6 +1,6 @@
 -- The ways through the writer's tests, and through the writer. Assumes nothing.
 use mathlib.Core.Path.{_≡_, sym, _∙_, ap, ap₂}
-use mathlib.Core.Bool.{Bool, false}
+use mathlib.Core.Bool.{Bool, true, false}
 use mathlib.Core.List.{List, [], _∷_, _++_, append-assoc}
 use Prim.Native.Nat.{ℕ, _+_, _*_, _≤_, _<_}
 use native.Mathlib.Omega.{arith}
@@ -9,7 +9,7 @@ use lib.ListN.{length, drop}
 use borrow.Author.Tests.{lt-ltb, le-ltb, ltb-false}
 use Rattle.rules.specs.Numbers.Capacity.{maxTasks, maxLocks, maxUses, maxEvents}
 use Rattle.rules.specs.Numbers.Choice.{if_then_else_}
-use Rattle.rules.specs.Numbers.Place.{at, firstFrom}
+use Rattle.rules.specs.Numbers.Place.{at, any, firstFrom}
 use Rattle.rules.specs.Numbers.Refusal.{numberOf, firstFault, checkFor}
 use Rattle.rules.specs.Books.Event.{eventFault, recordKind, recordId, recordAmount, numberFault}
 use Rattle.rules.specs.Books.Plan.{most, countFault}
@@ -21,8 +21,8 @@ use Rattle.rules.specs.declared.answer.Loaded.{Loaded}
 use Rattle.rules.specs.declared.refusal.Refusal.{Refusal}
 use Rattle.rules.specs.declared.refusal.Refusal.the-variants.{WrongCount, WrongEvent, ShortBuffer}
 use Rattle.rules.proofs.Numbers.Choice.{or-false}
-use Rattle.rules.proofs.Numbers.Place.{first-none}
-use Rattle.rules.proofs.Numbers.Checks.{clean-for, check-left, check-right, check-none, check-finds, check-passes, one-finds, one-passes, passed-both}
+use Rattle.rules.proofs.Numbers.Place.{any-some, any-false, first-none, first-some}
+use Rattle.rules.proofs.Numbers.Checks.{clean-passes, clean-for, check-left, check-right, check-none, check-finds, check-passes, one-finds, one-passes, passed-both}
 use Rattle.rules.proofs.Books.Loaded.{load-refused, load-passed}
 use Rattle.rules.proofs.Books.ReadBack.{book-size}
 use Rattle.book.specs.Room.{Few, Room, lastChecks}
@@ -39,15 +39,24 @@ count-told n m u k e c r g h = rw (← g) h
 
 -- ---- 8 and 23
 
-module _ (events : List ℕ) (size room k : ℕ) (first : k ≡ firstFrom (λ i. numberFault (at events i)) 0 (length events)) where
-  pub event-refused : k < length events → Verdict.Refused WrongEvent k ≡ firstFault (lastChecks events size room)
-  event-refused h = sym (check-finds _ _ k first h ∙ ap (Verdict.Refused WrongEvent) (omega arith))
+-- r says whether 8 refuses one of the events
+module _ (events : List ℕ) (size room : ℕ) (r : Bool) (said : r ≡ any (λ i. numberFault (at events i)) (length events)) where
+  pub event-refused : (k : ℕ) → r ≡ true → k ≡ firstFrom (λ i. numberFault (at events i)) 0 (length events)
+      → Verdict.Refused WrongEvent k ≡ firstFault (lastChecks events size room)
+  event-refused k e first =
+      let (x, l, h) = any-some (λ i. numberFault (at events i)) (length events) (sym said ∙ e) in
+      let within : k < length events = rw first (first-some (λ i. numberFault (at events i)) (length events) x l h .0) in
+      sym (check-finds _ _ k first within ∙ ap (Verdict.Refused WrongEvent) (omega arith))
 
-  pub buffer-short : length events ≤ k → room < size → Verdict.Refused ShortBuffer 0 ≡ firstFault (lastChecks events size room)
-  buffer-short h l = sym (check-passes _ _ k first h ∙ check-finds _ _ 0 (one-finds (ltb room size) (lt-ltb room size l)) (omega arith))
+  module _ (e : r ≡ false) where
+    right : firstFault (lastChecks events size room) ≡ firstFault (drop 1 (lastChecks events size room))
+    right = clean-passes _ _ (any-false (λ i. numberFault (at events i)) (length events) (sym said ∙ e))
 
-  pub last-passes : length events ≤ k → size ≤ room → Verdict.Passed ≡ firstFault (lastChecks events size room)
-  last-passes h l = sym (check-passes _ _ k first h ∙ check-passes _ _ 1 (one-passes (ltb room size) (le-ltb room size l)) (omega arith) ∙ check-none)
+    pub buffer-short : room < size → Verdict.Refused ShortBuffer 0 ≡ firstFault (lastChecks events size room)
+    buffer-short l = sym (right ∙ check-finds _ _ 0 (one-finds (ltb room size) (lt-ltb room size l)) (omega arith))
+
+    pub last-passes : size ≤ room → Verdict.Passed ≡ firstFault (lastChecks events size room)
+    last-passes l = sym (right ∙ check-passes _ _ 1 (one-passes (ltb room size) (le-ltb room size l)) (omega arith) ∙ check-none)
 
 -- ---- all of them
 

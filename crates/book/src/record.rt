@@ -3,29 +3,16 @@ use rules::event::Event;
 ghost use mathlib.Core.Path.{_≡_};
 ghost use Rattle.rules.specs.Books.Event.{eventFault, eventOf};
 
-// 8: no event's kind, something in a field without use, or work of no units.
+// 8: no event's kind, something in a field without use, or work of no units. All is asked of every
+// record, without a branch, since kinds come in no order that a processor could foresee.
 pub fn event_fault(kind: u8, id: u8, amount: u16) -> bool
     ensures { λ r. ⌜ r ≡ eventFault kind id amount ⌝ }
 {
-    if kind == 0 {
-        return true;
-    }
-    if kind <= 3 {
-        return amount != 0;
-    }
-    if kind == 4 {
-        if id == 0 {
-            return amount == 0;
-        }
-        return true;
-    }
-    if kind <= 6 {
-        if id == 0 {
-            return amount != 0;
-        }
-        return true;
-    }
-    true
+    let work = kind == 4;
+    let none = amount == 0;
+    let other = (kind == 0) | (kind > 6);
+    let named = (kind > 3) & (id != 0);
+    (work == none) | other | named
 }
 
 // The event of a record that 8 lets pass.

@@ -10,7 +10,7 @@ use rules::refusal::Refusal;
 ghost use mathlib.Core.Path.{_≡_};
 ghost use Prim.Native.Nat.{_+_, _*_};
 ghost use lib.ListN.{length};
-ghost use Rattle.rules.specs.Numbers.Place.{at, firstFrom};
+ghost use Rattle.rules.specs.Numbers.Place.{at, any, firstFrom};
 ghost use Rattle.rules.specs.Numbers.Refusal.{firstFault};
 ghost use Rattle.rules.specs.Books.Event.{numberFault};
 ghost use Rattle.rules.specs.Books.Plan.{countFault};
@@ -55,6 +55,20 @@ fn number_fault(w: u32) -> bool
     event_fault((w % 256) as u8, (w / 256 % 256) as u8, (w / 65536) as u16)
 }
 
+// Whether 8 refuses one of the events. The loop has no other end, so that several are asked at a time.
+fn any_event(events: &[u32]) -> bool
+    ensures { λ r. ⌜ r ≡ any (λ k. numberFault (at (now (events .entry)) k)) (length (now (events .entry))) ⌝ }
+{
+    let n = events.len();
+    let mut found = false;
+    let mut k: usize = 0;
+    while k < n {
+        found = found | number_fault(events[k]);
+        k += 1;
+    }
+    found
+}
+
 // The first event that 8 refuses; the number of events where there is none.
 fn first_event(events: &[u32]) -> usize
     ensures { λ r. ⌜ r ≡ firstFrom (λ k. numberFault (at (now (events .entry)) k)) 0 (length (now (events .entry))) ⌝ }
@@ -82,8 +96,9 @@ fn book_size(n: usize, m: usize, u: usize, k: usize) -> usize
 fn first_last(events: &[u32], size: usize, room: usize) -> Verdict
     ensures { λ r. ⌜ r ≡ firstFault (lastChecks (now (events .entry)) size room) ⌝ }
 {
-    let k = first_event(events);
-    if k < events.len() {
+    let wrong = any_event(events);
+    if wrong {
+        let k = first_event(events);
         return Verdict::Refused(Refusal::WrongEvent, k);
     }
     if room < size {

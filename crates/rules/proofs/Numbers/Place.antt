@@ -1,7 +1,7 @@
 -- Laws of what is asked of the places below n: what each means, and the turns of a loop that works it out from place 0 up. Assumes nothing.
 use mathlib.Core.Path.{_≡_, refl, sym, _∙_, ap, ap₂, subst}
 use mathlib.Core.Logic.{⊎-elim}
-use mathlib.Core.Bool.{Bool, true, false, _&&_}
+use mathlib.Core.Bool.{Bool, true, false, _&&_, _||_}
 use mathlib.Core.List.{List, [], _∷_}
 use Prim.Native.Nat.{ℕ, zero, suc, _+_, _-_, _≤_, _<_, min, max}
 use native.Mathlib.Numerals.{add-one}
@@ -88,6 +88,21 @@ module _ (f : ℕ → Bool) where
 
   pub any-ends : (n i : ℕ) → NoneSoFar n i → n ≤ i → false ≡ any f n
   any-ends n i e b = let q : i ≡ n = omega arith in sym (e .1) ∙ ap (any f) q
+
+  -- a loop that asks at every place: what it has found among the first i of n
+  abbrev pub AskedSoFar : ℕ → ℕ → Bool → Type 0
+  AskedSoFar n i found = (i ≤ n) × (found ≡ any f i)
+
+  pub asked-start : (n : ℕ) → AskedSoFar n 0 false
+  unfolding any
+  asked-start n = (omega arith, refl)
+
+  pub asked-next : (n i : ℕ) (found v : Bool) → AskedSoFar n i found → i < n → v ≡ f i → AskedSoFar n (i + 1) (found || v)
+  unfolding any
+  asked-next n i found v e l h = (omega arith, rw (add-one i) (ap₂ _||_ (e .1) h))
+
+  pub asked-ends : (n i : ℕ) (found : Bool) → AskedSoFar n i found → n ≤ i → found ≡ any f n
+  asked-ends n i found e b = let q : i ≡ n = omega arith in e .1 ∙ ap (any f) q
 
   -- where f holds at no place from k on, the places below k are enough
   pub any-clamped : (n k : ℕ) → ((x : ℕ) → k ≤ x → f x ≡ false) → any f (min n k) ≡ any f n

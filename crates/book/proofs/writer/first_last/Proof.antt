@@ -8,4 +8,4 @@ pub first-last-spec : {M : Type 1} → statement M
 first-last-spec =
     tie.close
     (tie.spec
-    (λ c κs. search needs) (λ c. search event-refused) (λ c. search buffer-short) (λ c. search last-passes))
+    (λ c κs. search needs) (λ c κs. search needs) (λ c. search event-refused) (λ c. search buffer-short) (λ c. search last-passes))

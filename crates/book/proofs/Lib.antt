@@ -2,6 +2,7 @@
 mod Records
 mod LaidOut
 mod Parts
+mod LastTests
 mod Order
 mod Where
 pub mod Accepted

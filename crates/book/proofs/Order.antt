@@ -1,5 +1,6 @@
 -- The order of 1 to 9: each check is asked where those before it found no offender. Assumes nothing.
 use mathlib.Core.Path.{_≡_, sym, _∙_, ap, ap₂}
+use mathlib.Core.Bool.{Bool, true, false}
 use mathlib.Core.List.{List, _++_}
 use Prim.Native.Nat.{ℕ, _+_, _*_, _-_, _/_, _≤_, _<_}
 use native.Mathlib.Omega.{arith}
@@ -9,7 +10,7 @@ use lib.Seq.{take-all}
 use borrow.Author.Tests.{lt-ltb, le-ltb, ltb-false, eqb-true, not-false}
 use Rattle.rules.specs.Numbers.Capacity.{maxTasks, maxLocks, maxUses}
 use Rattle.rules.specs.Numbers.Choice.{if_then_else_}
-use Rattle.rules.specs.Numbers.Place.{firstFrom}
+use Rattle.rules.specs.Numbers.Place.{any, firstFrom}
 use Rattle.rules.specs.Numbers.Refusal.{numberOf, firstFault, checkFor}
 use Rattle.rules.specs.Books.Plan.{most, countFault}
 use Rattle.rules.specs.Books.Load.{loadOf, loadChecks}
@@ -26,6 +27,7 @@ use Rattle.rules.proofs.Numbers.Checks.{clean-for, check-left, check-right, che
 use Rattle.rules.proofs.Books.Loaded.{load-refused, load-passed, load-plan}
 use Rattle.book.specs.Laid.{Laid}
 use Rattle.book.proofs.Parts.{event-size}
+use Rattle.book.proofs.LastTests.{wrong-one, no-room, both-pass}
 
 -- ---- 1 to 3
 
@@ -102,35 +104,34 @@ module _ (b : List ℕ) where
 
   -- ---- 8 and 9
 
-  -- the events lie from `events` on, `body` is that part of the book, and k is the first offender of 8
-  module _ (laid : Laid b) (room events : ℕ) (starts : events ≡ bodyAt b 3) (body : List ℕ) (k : ℕ)
-      (event : k ≡ firstFrom (recordFault body) 0 (length body / 4)) (part : body ≡ take (length b - events) (drop events b)) where
+  -- the events lie from `events` on, `body` is that part of the book, and r says whether 8 refuses one of them
+  module _ (laid : Laid b) (room events : ℕ) (starts : events ≡ bodyAt b 3) (body : List ℕ) (r : Bool)
+      (asked : r ≡ any (recordFault body) (length body / 4)) (part : body ≡ take (length b - events) (drop events b)) where
     whole-part : body ≡ eventBody b
     whole-part = part ∙ take-all (length b - events) (drop events b) (omega (arith, length-drop events b)) ∙ ap (λ i. drop i b) starts
 
     size : length body ≡ countAt b 3 * 4
     size = ap length whole-part ∙ event-size b laid
 
-    first : k ≡ firstFrom (recordFault (eventBody b)) 0 (countAt b 3)
-    first = let q : length body / 4 ≡ countAt b 3 = omega (arith, size) in event ∙ rw (q, whole-part)
+    records : length body / 4 ≡ countAt b 3
+    records = omega (arith, size)
 
-    pub wrong-event : (r : Checked) → k < length body / 4 → r ≡ refusedCheck WrongEvent k → r ≡ checkedAs (firstFault (eventChecks b room)) b
+    said : r ≡ any (recordFault (eventBody b)) (countAt b 3)
+    said = asked ∙ rw (records, whole-part)
+
+    pub wrong-event : (k : ℕ) (c : Checked) → r ≡ true → k ≡ firstFrom (recordFault body) 0 (length body / 4) → c ≡ refusedCheck WrongEvent k
+        → c ≡ checkedAs (firstFault (eventChecks b room)) b
     unfolding eventChecks checkedAs
-    wrong-event r h g = g ∙ ap (λ w. checkedAs w b) (sym (check-finds _ _ k first (omega (arith, size)) ∙ ap (Verdict.Refused WrongEvent) (omega arith)))
+    wrong-event k c e first g = g
+        ∙ ap (λ w. checkedAs w b) (wrong-one (countAt b 3) (recordFault (eventBody b)) ShortRows (countAt b 3 * 4) room r said k e (first ∙ rw (records, whole-part)))
 
-    module _ (evented : length body / 4 ≤ k) where
-      pub short-rows : (r : Checked) → room < length body → r ≡ refusedCheck ShortRows 0 → r ≡ checkedAs (firstFault (eventChecks b room)) b
+    module _ (e : r ≡ false) where
+      pub short-rows : (c : Checked) → room < length body → c ≡ refusedCheck ShortRows 0 → c ≡ checkedAs (firstFault (eventChecks b room)) b
       unfolding eventChecks checkedAs
-      short-rows r h g =
-          g
-          ∙ ap (λ w. checkedAs w b)
-          (sym (check-passes _ _ k first (omega (arith, size)) ∙ check-finds _ _ 0
-          (one-finds (ltb room (countAt b 3 * 4)) (lt-ltb room (countAt b 3 * 4) (omega (arith, size)))) (omega arith)))
+      short-rows c h g = g
+          ∙ ap (λ w. checkedAs w b) (no-room (countAt b 3) (recordFault (eventBody b)) ShortRows (countAt b 3 * 4) room r said e (omega (arith, size, h)))
 
       pub all-right : (p : Plan) → p ≡ planIn b → length body ≤ room → passedCheck p events ≡ checkedAs (firstFault (eventChecks b room)) b
       unfolding eventChecks checkedAs
-      all-right p q h =
-          ap₂ passedCheck q starts
-          ∙ ap (λ w. checkedAs w b)
-          (sym (check-passes _ _ k first (omega (arith, size)) ∙ check-passes _ _ 1
-          (one-passes (ltb room (countAt b 3 * 4)) (le-ltb room (countAt b 3 * 4) (omega (arith, size)))) (omega arith) ∙ check-none))
+      all-right p q h = ap₂ passedCheck q starts
+          ∙ ap (λ w. checkedAs w b) (both-pass (countAt b 3) (recordFault (eventBody b)) ShortRows (countAt b 3 * 4) room r said e (omega (arith, size, h)))

@@ -4,9 +4,9 @@ use mathlib.Core.Bool.{Bool, true, false}
 use mathlib.Core.List.{List, [], _∷_, _++_, append-assoc}
 use Prim.Native.Nat.{ℕ, _+_, _*_, _≤_, _<_}
 use native.Mathlib.Omega.{arith}
-use lib.Dec.{eqb, ltb}
+use lib.Dec.{eqb}
 use lib.ListN.{length, drop}
-use borrow.Author.Tests.{lt-ltb, le-ltb, ltb-false}
+use borrow.Author.Tests.{ltb-false}
 use Rattle.rules.specs.Numbers.Capacity.{maxTasks, maxLocks, maxUses, maxEvents}
 use Rattle.rules.specs.Numbers.Choice.{if_then_else_}
 use Rattle.rules.specs.Numbers.Place.{at, any, firstFrom}
@@ -21,10 +21,11 @@ use Rattle.rules.specs.declared.answer.Loaded.{Loaded}
 use Rattle.rules.specs.declared.refusal.Refusal.{Refusal}
 use Rattle.rules.specs.declared.refusal.Refusal.the-variants.{WrongCount, WrongEvent, ShortBuffer}
 use Rattle.rules.proofs.Numbers.Choice.{or-false}
-use Rattle.rules.proofs.Numbers.Place.{any-some, any-false, first-none, first-some}
-use Rattle.rules.proofs.Numbers.Checks.{clean-passes, clean-for, check-left, check-right, check-none, check-finds, check-passes, one-finds, one-passes, passed-both}
+use Rattle.rules.proofs.Numbers.Place.{first-none}
+use Rattle.rules.proofs.Numbers.Checks.{clean-for, check-left, check-right, check-finds, check-passes, passed-both}
 use Rattle.rules.proofs.Books.Loaded.{load-refused, load-passed}
 use Rattle.rules.proofs.Books.ReadBack.{book-size}
+use Rattle.book.proofs.LastTests.{wrong-one, no-room, both-pass}
 use Rattle.book.specs.Room.{Few, Room, lastChecks}
 
 -- an event's record, by the parts that the code takes out of it
@@ -43,20 +44,13 @@ count-told n m u k e c r g h = rw (← g) h
 module _ (events : List ℕ) (size room : ℕ) (r : Bool) (said : r ≡ any (λ i. numberFault (at events i)) (length events)) where
   pub event-refused : (k : ℕ) → r ≡ true → k ≡ firstFrom (λ i. numberFault (at events i)) 0 (length events)
       → Verdict.Refused WrongEvent k ≡ firstFault (lastChecks events size room)
-  event-refused k e first =
-      let (x, l, h) = any-some (λ i. numberFault (at events i)) (length events) (sym said ∙ e) in
-      let within : k < length events = rw first (first-some (λ i. numberFault (at events i)) (length events) x l h .0) in
-      sym (check-finds _ _ k first within ∙ ap (Verdict.Refused WrongEvent) (omega arith))
+  event-refused = wrong-one (length events) (λ i. numberFault (at events i)) ShortBuffer size room r said
 
-  module _ (e : r ≡ false) where
-    right : firstFault (lastChecks events size room) ≡ firstFault (drop 1 (lastChecks events size room))
-    right = clean-passes _ _ (any-false (λ i. numberFault (at events i)) (length events) (sym said ∙ e))
+  pub buffer-short : r ≡ false → room < size → Verdict.Refused ShortBuffer 0 ≡ firstFault (lastChecks events size room)
+  buffer-short = no-room (length events) (λ i. numberFault (at events i)) ShortBuffer size room r said
 
-    pub buffer-short : room < size → Verdict.Refused ShortBuffer 0 ≡ firstFault (lastChecks events size room)
-    buffer-short l = sym (right ∙ check-finds _ _ 0 (one-finds (ltb room size) (lt-ltb room size l)) (omega arith))
-
-    pub last-passes : size ≤ room → Verdict.Passed ≡ firstFault (lastChecks events size room)
-    last-passes l = sym (right ∙ check-passes _ _ 1 (one-passes (ltb room size) (le-ltb room size l)) (omega arith) ∙ check-none)
+  pub last-passes : r ≡ false → size ≤ room → Verdict.Passed ≡ firstFault (lastChecks events size room)
+  last-passes = both-pass (length events) (λ i. numberFault (at events i)) ShortBuffer size room r said
 
 -- ---- all of them
 

@@ -1,8 +1,8 @@
 // 8 and 9: the events where they lie, and the row space for them.
-use crate::cursor::cursor;
 use crate::entry::body_at;
+use crate::number::word_at;
+use crate::record::event_fault;
 use rules::answer::Checked;
-use rules::answer::Found;
 use rules::answer::Verdict;
 use rules::plan::Plan;
 use rules::plan::blank;
@@ -10,7 +10,7 @@ use rules::refusal::Refusal;
 ghost use mathlib.Core.Path.{_≡_};
 ghost use Prim.Native.Nat.{_<_, _/_};
 ghost use lib.ListN.{length};
-ghost use Rattle.rules.specs.Numbers.Place.{firstFrom};
+ghost use Rattle.rules.specs.Numbers.Place.{any, firstFrom};
 ghost use Rattle.rules.specs.Numbers.Refusal.{firstFault};
 ghost use Rattle.rules.specs.Books.Book.{recordFault, planIn, eventChecks, refusedCheck, checkedAs};
 ghost use Rattle.book.specs.Laid.{Laid};
@@ -31,12 +31,23 @@ fn fault_at(body: &[u8], k: usize) -> bool
     requires { ⌜ k < length (now body) / 4 ⌝ }
     ensures { λ r. ⌜ r ≡ recordFault (now (body .entry)) k ⌝ }
 {
-    let found = cursor(body, k);
-    match found {
-        Found::Got(_, _) => false,
-        Found::Refused(_, _) => true,
-        Found::End => false,
+    let i = k * 4;
+    let amount = word_at(body, i + 2);
+    event_fault(body[i], body[i + 1], amount)
+}
+
+// Whether 8 refuses one of the records. The loop has no other end, so that several are asked at a time.
+fn any_fault(body: &[u8]) -> bool
+    ensures { λ r. ⌜ r ≡ any (recordFault (now (body .entry))) (length (now (body .entry)) / 4) ⌝ }
+{
+    let n = body.len() / 4;
+    let mut found = false;
+    let mut k: usize = 0;
+    while k < n {
+        found = found | fault_at(body, k);
+        k += 1;
     }
+    found
 }
 
 // The first record of a body that 8 refuses; the number of records where there is none.
@@ -61,8 +72,9 @@ pub fn check(b: &[u8], room: usize, plan: Plan) -> Checked
 {
     let events = body_at(b, 3);
     let body = &b[events..];
-    let k = first_fault(body);
-    if k < body.len() / 4 {
+    let wrong = any_fault(body);
+    if wrong {
+        let k = first_fault(body);
         return refused(Refusal::WrongEvent, k);
     }
     if room < body.len() {

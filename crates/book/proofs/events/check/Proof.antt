@@ -10,5 +10,5 @@ check-spec =
     tie.close
     (tie.spec
     (λ c κs. search needs) (λ c. search (event-body, needs)) (λ c. search (event-body, needs))
-    (λ c. search needs) (λ c κs. search needs) (λ c κs. search needs) (λ c. search wrong-event)
+    (λ c. search needs) (λ c κs. search needs) (λ c κs. search needs) (λ c κs. search needs) (λ c. search wrong-event)
     (λ c κs. search needs) (λ c. search short-rows) (λ c. search all-right))

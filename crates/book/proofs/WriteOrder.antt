@@ -14,6 +14,7 @@ use Rattle.rules.specs.Numbers.Refusal.{numberOf, firstFault, checkFor}
 use Rattle.rules.specs.Books.Event.{eventFault, recordKind, recordId, recordAmount, numberFault}
 use Rattle.rules.specs.Books.Plan.{most, countFault}
 use Rattle.rules.specs.Books.Load.{loadChecks, loadOf}
+use Rattle.rules.specs.Books.Book.{contents}
 use Rattle.rules.specs.Books.Bytes.{bookOf}
 use Rattle.rules.specs.Books.Write.{countOf, countsOf, wholeChecks, writeChecks, wroteAs, writeOf, wroteWith}
 use Rattle.rules.specs.declared.answer.Verdict.{Verdict}
@@ -91,7 +92,7 @@ module _ (tasks locks uses events : List ℕ) (room e : ℕ) (counted : e ≡ fi
           (load-refused tasks locks uses why place (ap (λ x. x .verdict) (sym loaded) ∙ v)))
 
       pub plan-passed : (size : ℕ) (r : Verdict) → l .verdict ≡ Verdict.Passed
-          → size ≡ 32 + length tasks * 2 + length locks * 4 + length uses * 2 + length events * 4
+          → size ≡ contents + length tasks * 2 + length locks * 4 + length uses * 2 + length events * 4
           → r ≡ firstFault (lastChecks events size room) → r ≡ firstFault (writeChecks tasks locks uses events room)
       plan-passed size r v s h =
           h

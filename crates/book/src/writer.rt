@@ -14,6 +14,7 @@ ghost use Rattle.rules.specs.Numbers.Place.{at, any, firstFrom};
 ghost use Rattle.rules.specs.Numbers.Refusal.{firstFault};
 ghost use Rattle.rules.specs.Books.Event.{numberFault};
 ghost use Rattle.rules.specs.Books.Plan.{countFault};
+ghost use Rattle.rules.specs.Books.Book.{contents};
 ghost use Rattle.rules.specs.Books.Write.{countOf, writeChecks, writeOf, wroteWith};
 ghost use Rattle.book.specs.Room.{Few, lastChecks};
 
@@ -87,7 +88,7 @@ fn first_event(events: &[u32]) -> usize
 // The bytes of a book of so many records.
 fn book_size(n: usize, m: usize, u: usize, k: usize) -> usize
     requires { ⌜ Few n m u k ⌝ }
-    ensures { λ r. ⌜ r ≡ 32 + n * 2 + m * 4 + u * 2 + k * 4 ⌝ }
+    ensures { λ r. ⌜ r ≡ contents + n * 2 + m * 4 + u * 2 + k * 4 ⌝ }
 {
     CONTENTS + n * 2 + m * 4 + u * 2 + k * 4
 }

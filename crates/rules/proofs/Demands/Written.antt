@@ -22,7 +22,7 @@ use Rattle.rules.specs.declared.refusal.Refusal.the-variants.{ShortBuffe
 use Rattle.rules.proofs.Numbers.Checks.{check-none, clean-passes, clean-for, check-finds, check-left, check-right, passed-both}
 use Rattle.rules.proofs.Numbers.Checks.{one-finds, none-refused-at}
 use Rattle.rules.proofs.Books.Loaded.{loads-plan}
-use Rattle.rules.proofs.Books.ReadBack.{plan-back, events-back, check-back}
+use Rattle.rules.proofs.Books.ReadBack.{tasks-back, locks-back, uses-back, numbers-back, plan-back, events-back, check-back}
 use Rattle.rules.proofs.Books.WriteBack.{book-again}
 use Rattle.rules.proofs.Books.OfBytes.{book-bytes}
 use Rattle.rules.proofs.Books.Passes.{passed-contents}
@@ -85,6 +85,12 @@ module _ (tasks locks uses events : List ℕ) where
         accepted = λ room fits. ap (λ v. verdictNumber (checkedAs v b .verdict)) (read-passed room fits e);
         plan = λ room fits. ap (λ v. checkedAs v b .plan) (read-passed room fits e) ∙ plan-back tasks locks uses events ∙ sym (loads-plan tasks locks uses loads);
         list = events-back tasks locks uses events;
+        records = (
+          tasks-back tasks locks uses events,
+          locks-back tasks locks uses events,
+          uses-back tasks locks uses events,
+          numbers-back tasks locks uses events,
+        );
       }
 
   module _ (buffer : List ℕ) where

@@ -15,12 +15,13 @@ use Rattle.rules.specs.Books.Write.{Wrote, writeOf}
 abbrev pub bookIn : Wrote → List ℕ
 bookIn w = take (w .length) (w .bytes)
 
--- reading what was written: a book that is refused nothing with row space for its events, gives the plan that a load of these records gives, and has their
--- events in order
+-- reading what was written: a book that is refused nothing with row space for its events, gives the plan that a load of these records gives, has their
+-- events in order, and the very records
 pub record ReadsAs (tasks locks uses events : List ℕ) (b : List ℕ) : Type 0 where
   pub accepted : (room : ℕ) → length events * 4 ≤ room → verdictNumber (checkedOf b room .verdict) ≡ 0
   pub plan : (room : ℕ) → length events * 4 ≤ room → checkedOf b room .plan ≡ loadOf tasks locks uses .plan
   pub list : eventsOf b ≡ map numberEvent events
+  pub records : (tasksOf b ≡ tasks) × (locksOf b ≡ locks) × (usesOf b ≡ uses) × (eventNumbersOf b ≡ events)
 
 -- the writer refuses with the number and the place that a reader with row space enough gives for the records' bytes; where that reader accepts them,
 -- it refuses with 23 exactly where the buffer is shorter than the book

@@ -203,7 +203,8 @@ module _ (t l u e out : List ℕ) (room : Room t l u e out) where
 
     module _ (q : ℕ) (after-locks : q ≡ p + length b) where
       pub uses-room : (o₁ o₂ : List ℕ) → o₁ ≡ withPart out 0 contents (length t) a → o₂ ≡ withPart o₁ 1 p (length l) b → PartRoom o₂ 2 q (length u) 2
-      uses-room o₁ o₂ w₁ w₂ = let h : length o₂ ≡ length out = with-part-length o₁ o₂ b 1 p (length l) w₂ ∙ with-part-length out o₁ a 0 contents (length t) w₁ in
+      uses-room o₁ o₂ w₁ w₂ = let h : length o₂ ≡ length out = with-part-length o₁ o₂ b 1 p (length l) w₂
+          ∙ with-part-length out o₁ a 0 contents (length t) w₁ in
           record {
             front = omega (arith, sizes .4);
             entry = omega arith;
@@ -235,7 +236,8 @@ module _ (t l u e out : List ℕ) (room : Room t l u e out) where
               part-laid out (e₁ ++ e₂ ++ e₃) (a ++ b ++ c) o₃ o₄ d 3 s (length e)
               (part-laid out (e₁ ++ e₂) (a ++ b) o₂ o₃ c 2 q (length u)
               (part-laid out e₁ a o₁ o₂ b 1 p (length l)
-              (part-laid out [] [] out o₁ a 0 contents (length t) (sym (take-append-drop contents out)) w₁ refl (omega arith) refl (omega (arith, sizes .0, sizes .4)))
+              (part-laid out [] [] out o₁ a 0 contents (length t) (sym (take-append-drop contents out)) w₁ refl (omega arith) refl
+              (omega (arith, sizes .0, sizes .4)))
               w₂ refl (omega arith) after-tasks (omega (arith, sizes .0, sizes .1, sizes .4, after-tasks)))
               w₃ refl (omega arith) (omega (arith, length-append a b, after-tasks, after-locks))
               (omega (arith, sizes .0, sizes .1, sizes .2, sizes .4, after-tasks, after-locks)))

@@ -123,7 +123,8 @@ module _ (b : List ℕ) where
         → c ≡ checkedAs (firstFault (eventChecks b room)) b
     unfolding eventChecks checkedAs
     wrong-event k c e first g = g
-        ∙ ap (λ w. checkedAs w b) (wrong-one (countAt b 3) (recordFault (eventBody b)) ShortRows (countAt b 3 * 4) room r said k e (first ∙ rw (records, whole-part)))
+        ∙ ap (λ w. checkedAs w b) (wrong-one (countAt b 3) (recordFault (eventBody b)) ShortRows (countAt b 3 * 4) room r said k e
+        (first ∙ rw (records, whole-part)))
 
     module _ (e : r ≡ false) where
       pub short-rows : (c : Checked) → room < length body → c ≡ refusedCheck ShortRows 0 → c ≡ checkedAs (firstFault (eventChecks b room)) b

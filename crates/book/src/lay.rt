@@ -77,7 +77,8 @@ fn put_long_part(out: &mut [u8], e: usize, from: usize, longs: &[u32]) -> usize
 pub fn lay(tasks: &[u16], locks: &[u32], uses: &[u16], events: &[u32], out: &mut [u8]) -> usize
     requires { ⌜ Room (now tasks) (now locks) (now uses) (now events) (now out) ⌝ }
     ensures { λ r. ⌜ r ≡ length (bookOf (now (tasks .entry)) (now (locks .entry)) (now (uses .entry)) (now (events .entry))) ⌝ }
-    ensures { λ r. ⌜ now (out .exit) ≡ bookOf (now (tasks .entry)) (now (locks .entry)) (now (uses .entry)) (now (events .entry)) ++ drop r (now (out .entry)) ⌝ }
+    ensures { λ r. ⌜ now (out .exit) ≡ bookOf (now (tasks .entry)) (now (locks .entry)) (now (uses .entry)) (now (events .entry))
+        ++ drop r (now (out .entry)) ⌝ }
 {
     let locks_at = put_word_part(out, 0, CONTENTS, tasks);
     let uses_at = put_long_part(out, 1, locks_at, locks);

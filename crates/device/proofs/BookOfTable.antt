@@ -34,7 +34,8 @@ module _ (ts : List TaskRecord) (locks uses : List ℕ) where
     whole = omega (arith, book-size (numbersOf ts) locks uses []);
     layout = layout-right (numbersOf ts) locks uses [];
     events = rw no-events refl;
-    records = clean-passes _ _ (λ k h. absurd (omega (arith, h, no-events))) ∙ clean-passes _ _ (λ i h. le-ltb 0 (countAt b 3 * 4) (omega (arith, no-events))) ∙ check-none;
+    records = clean-passes _ _ (λ k h. absurd (omega (arith, h, no-events)))
+        ∙ clean-passes _ _ (λ i h. le-ltb 0 (countAt b 3 * 4) (omega (arith, no-events))) ∙ check-none;
   }
 
   -- RULES 6.4, for every table, all locks and all uses
@@ -43,7 +44,8 @@ module _ (ts : List TaskRecord) (locks uses : List ℕ) where
       ∙ ap₂ (loadOf (numbersOf ts)) (locks-back (numbersOf ts) locks uses []) (uses-back (numbersOf ts) locks uses []))
 
 -- a table's numbers fit two bytes
-numbers-fit : (ts : List TaskRecord) → ((i : ℕ) → (getD ts i noRecord .base < 2 ^ 8) × (getD ts i noRecord .second < 2 ^ 8)) → (i : ℕ) → at (numbersOf ts) i < 2 ^ 16
+numbers-fit : (ts : List TaskRecord) → ((i : ℕ) → (getD ts i noRecord .base < 2 ^ 8) × (getD ts i noRecord .second < 2 ^ 8))
+    → (i : ℕ) → at (numbersOf ts) i < 2 ^ 16
 numbers-fit [] h i = omega arith
 numbers-fit (t ∷ ts) h zero = omega (arith, h 0 .0, h 0 .1)
 numbers-fit (t ∷ ts) h (suc i) = numbers-fit ts (λ i. h (suc i)) i

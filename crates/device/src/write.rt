@@ -24,7 +24,8 @@ pub extern "C" fn recorder_write(
     buffer: &mut [u8],
 ) -> DeviceWrite
     ensures { λ r. ⌜ r ≡ writeSpelled (writeOf (now (tasks .entry)) (now (locks .entry)) (now (uses .entry)) (now (events .entry)) (now (buffer .entry))) ⌝ }
-    ensures { λ _. ⌜ now (buffer .exit) ≡ writeOf (now (tasks .entry)) (now (locks .entry)) (now (uses .entry)) (now (events .entry)) (now (buffer .entry)) .bytes ⌝ }
+    ensures { λ _. ⌜ now (buffer .exit) ≡ writeOf (now (tasks .entry)) (now (locks .entry)) (now (uses .entry)) (now (events .entry))
+        (now (buffer .entry)) .bytes ⌝ }
 {
     let w = book::writer::write(tasks, locks, uses, events, buffer);
     let verdict = w.verdict;

@@ -1,4 +1,4 @@
--- RULES 13, 14 and 18: what is promised. The history of a list, jobs, bounds, the demands, what is said of a replay and of the writer, and the crane plan's runs.
+-- RULES 13, 14 and 18: what is promised. The history of a list, jobs, bounds, the demands, what is said of replays and of the writer, the crane plan's runs.
 pub mod Bound
 pub mod History
 pub mod Job

@@ -16,7 +16,8 @@ use Rattle.rules.specs.Books.Event.{recordKind, recordId, recordAmount, 
 use Rattle.rules.specs.Books.Plan.{countFault}
 use Rattle.rules.specs.Books.Load.{planOf, loadChecks}
 use Rattle.rules.specs.Books.Book.{word, long, contents, kindAt, countAt, offsetAt, sizeOf, bodyAt, layoutFault, tasksOf, locksOf, usesOf}
-use Rattle.rules.specs.Books.Book.{eventNumbersOf, eventBody, recordFault, recordEvent, eventsOf, planIn, contentsChecks, eventCheck, eventChecks, checkOf}
+use Rattle.rules.specs.Books.Book.{eventNumbersOf, eventBody, recordFault, recordEvent, eventsOf, planIn}
+use Rattle.rules.specs.Books.Book.{contentsChecks, eventCheck, eventChecks, checkOf}
 use Rattle.rules.specs.Books.Bytes.{wordBytes, longBytes, bookOf}
 use Rattle.rules.specs.Books.Write.{countsOf, wholeChecks}
 use Rattle.rules.specs.declared.event.Event.the-variants.{Tick}

@@ -12,7 +12,8 @@ use Rattle.rules.specs.Numbers.Capacity.{maxEvents}
 use Rattle.rules.specs.Numbers.Choice.{if_then_else_}
 use Rattle.rules.specs.Numbers.Place.{at}
 use Rattle.rules.specs.Numbers.Refusal.{firstFault}
-use Rattle.rules.specs.Books.Event.{kindOf, idOf, amountOf, eventFault, eventOf, recordKind, recordId, recordAmount, numberFault, numberEvent, eventNumber}
+use Rattle.rules.specs.Books.Event.{kindOf, idOf, amountOf, eventFault, eventOf}
+use Rattle.rules.specs.Books.Event.{recordKind, recordId, recordAmount, numberFault, numberEvent, eventNumber}
 use Rattle.rules.specs.Books.Plan.{most, countFault}
 use Rattle.rules.specs.Books.Load.{countFaultOf, loadChecks}
 use Rattle.rules.specs.Books.Book.{word, long, countAt, bodyAt, tasksOf, locksOf, usesOf, planIn, eventsOf, checkOf}

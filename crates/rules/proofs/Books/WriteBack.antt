@@ -123,12 +123,15 @@ module _ (b : List ℕ) (bytes : Bytes b) where
     bodies : bodiesOf (tasksOf b) (locksOf b) (usesOf b) (eventNumbersOf b) ≡ drop contents b
     bodies =
         ap (λ xs. wordBytes (tasksOf b) ++ (longBytes (locksOf b) ++ (wordBytes (usesOf b) ++ xs))) last
-        ∙ ap (λ xs. wordBytes (tasksOf b) ++ (longBytes (locksOf b) ++ xs)) (word-body (bodyAt b 2) (bodyAt b 3) (countAt b 2) (spans .2) (omega (arith, spans .3)))
+        ∙ ap (λ xs. wordBytes (tasksOf b) ++ (longBytes (locksOf b) ++ xs))
+        (word-body (bodyAt b 2) (bodyAt b 3) (countAt b 2) (spans .2) (omega (arith, spans .3)))
         ∙ ap (λ xs. wordBytes (tasksOf b) ++ xs) (long-body (bodyAt b 1) (bodyAt b 2) (countAt b 1) (spans .1) (omega (arith, spans .2, spans .3)))
-        ∙ word-body (bodyAt b 0) (bodyAt b 1) (countAt b 0) (omega (arith, start, spans .0)) (omega (arith, spans .1, spans .2, spans .3)) ∙ ap (λ k. drop k b) start
+        ∙ word-body (bodyAt b 0) (bodyAt b 1) (countAt b 0) (omega (arith, start, spans .0)) (omega (arith, spans .1, spans .2, spans .3))
+        ∙ ap (λ k. drop k b) start
       where
         last : longBytes (eventNumbersOf b) ≡ drop (bodyAt b 3) b
-        last = sym (append-nil (longBytes (eventNumbersOf b))) ∙ ap (λ xs. longBytes (eventNumbersOf b) ++ xs) (sym (drop-of-length-le b {i = length b} (omega arith)))
+        last = sym (append-nil (longBytes (eventNumbersOf b)))
+            ∙ ap (λ xs. longBytes (eventNumbersOf b) ++ xs) (sym (drop-of-length-le b {i = length b} (omega arith)))
             ∙ long-body (bodyAt b 3) (length b) (countAt b 3) (spans .3) (omega arith)
 
     pub book-again : bookOf (tasksOf b) (locksOf b) (usesOf b) (eventNumbersOf b) ≡ b

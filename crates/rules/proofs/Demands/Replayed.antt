@@ -52,7 +52,8 @@ book-reaches b room passed O t h =
       bytes = bytes-with b es (worst-recorded O t h) room passed few;
       replay = λ rows fits.
           let fit : length es * 4 ≤ length rows = rw same at fits in
-          let accepted : checkOf (withEvents b es) (length rows) ≡ Verdict.Passed = accepted-with b es (worst-recorded O t h) room passed few (length rows) fit in
+          let accepted : checkOf (withEvents b es) (length rows) ≡ Verdict.Passed = accepted-with b es (worst-recorded O t h) room passed few
+          (length rows) fit in
           rw (replay-runs (withEvents b es) rows accepted, same, plan-same b es) (worst-reaches O t h rows fit);
     }
 

@@ -83,7 +83,8 @@ module _ (tasks locks uses events : List ℕ) where
       (passed-both (countCheck (countsOf tasks locks uses events) ∷ []) _ e .1) .0 in
       record {
         accepted = λ room fits. ap (λ v. verdictNumber (checkedAs v b .verdict)) (read-passed room fits e);
-        plan = λ room fits. ap (λ v. checkedAs v b .plan) (read-passed room fits e) ∙ plan-back tasks locks uses events ∙ sym (loads-plan tasks locks uses loads);
+        plan = λ room fits. ap (λ v. checkedAs v b .plan) (read-passed room fits e) ∙ plan-back tasks locks uses events
+            ∙ sym (loads-plan tasks locks uses loads);
         list = events-back tasks locks uses events;
         records = (
           tasks-back tasks locks uses events,

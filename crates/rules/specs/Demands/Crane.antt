@@ -183,8 +183,8 @@ cases =
 
 table : T (all cases)
 unfolding taskNumbers lockNumbers useNumbers eventNumbers crane book endOf rowOf rowsOf same sames agree right all cases
-    if_then_else_ allTrue every any count greatest firstFrom from renewed zeros numberOf firstTrue found firstFault verdictNumber verdictPlace eventFault eventOf numberFault hasBit
-    withBit
+    if_then_else_ allTrue every any count greatest firstFrom from renewed zeros numberOf firstTrue found firstFault verdictNumber verdictPlace eventFault
+    eventOf numberFault hasBit withBit
     most countFault taskFault lockFault declares users usersBase ceilingFault taskFaultAt lockFaultAt countFaultOf useFault masksOf planOf recordChecks
     loadChecks sizeOf bodyAt layoutFault contentsChecks eventChecks checkOf wordBytes longBytes bookOf wholeChecks writeChecks wroteAs writeOf
     has priority saves holds priorityOf rankOf earlier earliest elected elsewhere notNewest pastLimit testsOf releaseOrder acquireOrder unlockOrder workOrder

@@ -12,8 +12,8 @@ use rules::answer::Written;
 use rules::answer::verdict_number;
 use rules::answer::verdict_place;
 
-// More records of a kind than two bytes can count.
-const MOST: usize = 65600;
+// Places for tasks and uses, and for locks and events: of each kind more than two bytes can count.
+const MOST: usize = 131200;
 
 // Where the records start.
 const RECORDS: usize = 16;
@@ -29,71 +29,76 @@ fn write_reply(written: Written) {
     write_front(&out, i);
 }
 
-// Hands the records to the writer, unless the arrays have not so many.
+// Hands the records to the writer, t tasks and then the uses up to v, l locks and then the events up to
+// f, unless there are not so many.
 fn hand(
-    tasks: &[u16],
+    words: &[u16],
     t: usize,
-    locks: &[u32],
+    v: usize,
+    longs: &[u32],
     l: usize,
-    uses: &[u16],
-    u: usize,
-    events: &[u32],
-    e: usize,
+    f: usize,
     out: &mut [u8],
 ) -> bool {
-    if t > tasks.len() || l > locks.len() || u > uses.len() || e > events.len() {
+    if t > v {
         return false;
     }
-    let written = book::writer::write(&tasks[..t], &locks[..l], &uses[..u], &events[..e], out);
+    if v > words.len() {
+        return false;
+    }
+    if l > f {
+        return false;
+    }
+    if f > longs.len() {
+        return false;
+    }
+    let tasks = &words[0..t];
+    let uses = &words[t..v];
+    let locks = &longs[0..l];
+    let events = &longs[l..f];
+    let written = book::writer::write(tasks, locks, uses, events, out);
     write_reply(written);
     io::write_all(1, out);
     true
 }
 
-// The first n numbers, from the input; and the place after them.
-fn front16(a: &mut [u16], n: usize, b: &[u8], at: usize) -> usize {
-    if n <= a.len() {
-        return take16(&mut a[..n], b, at);
+// Takes numbers from the input into the places from one up to another, and gives the input's place
+// after them.
+fn part16(a: &mut [u16], from: usize, to: usize, b: &[u8], at: usize) -> usize {
+    if from > to {
+        return at;
     }
-    at
+    if to > a.len() {
+        return at;
+    }
+    take16(&mut a[from..to], b, at)
 }
 
-fn front32(a: &mut [u32], n: usize, b: &[u8], at: usize) -> usize {
-    if n <= a.len() {
-        return take32(&mut a[..n], b, at);
+fn part32(a: &mut [u32], from: usize, to: usize, b: &[u8], at: usize) -> usize {
+    if from > to {
+        return at;
     }
-    at
+    if to > a.len() {
+        return at;
+    }
+    take32(&mut a[from..to], b, at)
 }
 
-// Takes the records from the input. False where the counts are too great, or not those of the records.
-fn decode(
-    input: &[u8],
-    tasks: &mut [u16],
-    locks: &mut [u32],
-    uses: &mut [u16],
-    events: &mut [u32],
-    out: &mut [u8],
-) -> bool {
+// Says whether it was a command: the counts are those of the records, and not too great.
+pub fn reply(input: &[u8], out: &mut [u8]) -> bool {
     let t = read32(input, 0) as usize;
     let l = read32(input, 4) as usize;
-    let u = read32(input, 8) as usize;
-    let e = read32(input, 12) as usize;
-    if input.len() != RECORDS + (t + u) * 2 + (l + e) * 4 {
+    let v = t + read32(input, 8) as usize;
+    let f = l + read32(input, 12) as usize;
+    if input.len() != RECORDS + v * 2 + f * 4 {
         return false;
     }
-    let i = front16(tasks, t, input, RECORDS);
-    let i = front32(locks, l, input, i);
-    let i = front16(uses, u, input, i);
-    front32(events, e, input, i);
+    let mut words = [0u16; MOST];
+    let mut longs = [0u32; MOST];
+    let i = part16(&mut words, 0, t, input, RECORDS);
+    let i = part32(&mut longs, 0, l, input, i);
+    let i = part16(&mut words, t, v, input, i);
+    part32(&mut longs, l, f, input, i);
     fill(out);
-    hand(tasks, t, locks, l, uses, u, events, e, out)
-}
-
-// Says whether it was a command.
-pub fn reply(input: &[u8], out: &mut [u8]) -> bool {
-    let mut tasks = [0u16; MOST];
-    let mut locks = [0u32; MOST];
-    let mut uses = [0u16; MOST];
-    let mut events = [0u32; MOST];
-    decode(input, &mut tasks, &mut locks, &mut uses, &mut events, out)
+    hand(&words, t, v, &longs, l, f, out)
 }

@@ -1,8 +1,9 @@
 -- The records of an accepted book of bytes make that book again. Assumes nothing.
 use mathlib.Core.Path.{_≡_, refl, sym, _∙_, ap, ap₂}
 use mathlib.Core.Bool.{not}
-use mathlib.Core.List.{List, _∷_, _++_, append-assoc, append-nil}
+use mathlib.Core.List.{List, [], _∷_, _++_, append-assoc, append-nil}
 use Prim.Native.Nat.{ℕ, zero, suc, _+_, _*_, _/_, _%_, _≤_, _<_}
+use native.Mathlib.Nat.{add-zero}
 use native.Mathlib.Omega.{arith}
 use lib.Dec.{eqb, ltb}
 use lib.ListN.{length, drop, drop-of-length-le}
@@ -49,41 +50,42 @@ module _ (b : List ℕ) (bytes : Bytes b) where
       (λ i. first i ∷ second i ∷ third i ∷ fourth i ∷ drop (s i) b)
       ∙ ap (λ xs. two (word b p) ++ xs) (two-again (p + 2) (omega arith)) ∙ two-again p (omega arith)
 
-  -- records k to k + n - 1 of a body that lies at p, and what follows them
-  words-again : (p k n : ℕ) → p + (k + n) * 2 ≤ length b → wordBytes (from (λ i. word b (p + i * 2)) k n) ++ drop (p + (k + n) * 2) b ≡ drop (p + k * 2) b
-  unfolding wordBytes from
-  words-again p k zero h = let e : p + (k + 0) * 2 ≡ p + k * 2 = omega arith in ap (λ m. drop m b) e
-  words-again p k (suc n) h =
-      let e : p + (k + suc n) * 2 ≡ p + (suc k + n) * 2 = omega arith in
-      let s : p + suc k * 2 ≡ p + k * 2 + 2 = omega arith in
-      append-assoc (two (word b (p + k * 2))) (wordBytes (from (λ i. word b (p + i * 2)) (suc k) n)) (drop (p + (k + suc n) * 2) b)
-      ∙ ap (λ m. two (word b (p + k * 2)) ++ (wordBytes (from (λ i. word b (p + i * 2)) (suc k) n) ++ drop m b)) e
-      ∙ ap (λ xs. two (word b (p + k * 2)) ++ xs) (words-again p (suc k) n (omega arith) ∙ ap (λ m. drop m b) s)
-      ∙ two-again (p + k * 2) (omega arith)
-
-  longs-again : (p k n : ℕ) → p + (k + n) * 4 ≤ length b → longBytes (from (λ i. long b (p + i * 4)) k n) ++ drop (p + (k + n) * 4) b ≡ drop (p + k * 4) b
-  unfolding longBytes from
-  longs-again p k zero h = let e : p + (k + 0) * 4 ≡ p + k * 4 = omega arith in ap (λ m. drop m b) e
-  longs-again p k (suc n) h =
-      let e : p + (k + suc n) * 4 ≡ p + (suc k + n) * 4 = omega arith in
-      let s : p + suc k * 4 ≡ p + k * 4 + 4 = omega arith in
-      append-assoc (four (long b (p + k * 4))) (longBytes (from (λ i. long b (p + i * 4)) (suc k) n)) (drop (p + (k + suc n) * 4) b)
-      ∙ ap (λ m. four (long b (p + k * 4)) ++ (longBytes (from (λ i. long b (p + i * 4)) (suc k) n) ++ drop m b)) e
-      ∙ ap (λ xs. four (long b (p + k * 4)) ++ xs) (longs-again p (suc k) n (omega arith) ∙ ap (λ m. drop m b) s)
-      ∙ four-again (p + k * 4) (omega arith)
+  -- records k to k + n - 1 of a body, and what follows them: record k lies at `place k`, its number is `number k`, and `all` lays numbers as `one` does each
+  module _ (all : List ℕ → List ℕ) (one : ℕ → List ℕ) (none : all [] ≡ []) (more : (w : ℕ) (ws : List ℕ) → all (w ∷ ws) ≡ one w ++ all ws)
+      (place number : ℕ → ℕ) where
+    records-again : (k n : ℕ) → ((i : ℕ) → i < k + n → one (number i) ++ drop (place (suc i)) b ≡ drop (place i) b)
+        → all (from number k n) ++ drop (place (k + n)) b ≡ drop (place k) b
+    unfolding from
+    records-again k zero h = ap₂ (λ xs m. xs ++ drop (place m) b) none (add-zero k)
+    records-again k (suc n) h =
+        let e : k + suc n ≡ suc k + n = omega arith in
+        ap₂ (λ xs m. xs ++ drop (place m) b) (more (number k) (from number (suc k) n)) e
+        ∙ append-assoc (one (number k)) (all (from number (suc k) n)) (drop (place (suc k + n)) b)
+        ∙ ap (λ xs. one (number k) ++ xs) (records-again (suc k) n (λ i l. h i (omega arith)))
+        ∙ h k (omega arith)
 
   -- the whole of a body, and what follows it
   word-body : (p q n : ℕ) → q ≡ p + n * 2 → q ≤ length b → wordBytes (from (λ i. word b (p + i * 2)) 0 n) ++ drop q b ≡ drop p b
+  unfolding wordBytes
   word-body p q n e h =
       let s : q ≡ p + (0 + n) * 2 = omega (arith, e) in
       let t : p + 0 * 2 ≡ p = omega arith in
-      ap (λ k. wordBytes (from (λ i. word b (p + i * 2)) 0 n) ++ drop k b) s ∙ words-again p 0 n (omega (arith, h, s)) ∙ ap (λ k. drop k b) t
+      ap (λ k. wordBytes (from (λ i. word b (p + i * 2)) 0 n) ++ drop k b) s
+      ∙ records-again wordBytes two refl (λ w ws. refl) (λ i. p + i * 2) (λ i. word b (p + i * 2)) 0 n
+      (λ i l. let m : p + suc i * 2 ≡ p + i * 2 + 2 = omega arith in ap (λ k. two (word b (p + i * 2)) ++ drop k b) m
+      ∙ two-again (p + i * 2) (omega (arith, h, e, l)))
+      ∙ ap (λ k. drop k b) t
 
   long-body : (p q n : ℕ) → q ≡ p + n * 4 → q ≤ length b → longBytes (from (λ i. long b (p + i * 4)) 0 n) ++ drop q b ≡ drop p b
+  unfolding longBytes
   long-body p q n e h =
       let s : q ≡ p + (0 + n) * 4 = omega (arith, e) in
       let t : p + 0 * 4 ≡ p = omega arith in
-      ap (λ k. longBytes (from (λ i. long b (p + i * 4)) 0 n) ++ drop k b) s ∙ longs-again p 0 n (omega (arith, h, s)) ∙ ap (λ k. drop k b) t
+      ap (λ k. longBytes (from (λ i. long b (p + i * 4)) 0 n) ++ drop k b) s
+      ∙ records-again longBytes four refl (λ w ws. refl) (λ i. p + i * 4) (λ i. long b (p + i * 4)) 0 n
+      (λ i l. let m : p + suc i * 4 ≡ p + i * 4 + 4 = omega arith in ap (λ k. four (long b (p + i * 4)) ++ drop k b) m
+      ∙ four-again (p + i * 4) (omega (arith, h, e, l)))
+      ∙ ap (λ k. drop k b) t
 
   -- an entry, and what follows it
   entry-again : (p : ℕ) → p + 7 < length b → entryOf (word b p) (word b (p + 2)) (long b (p + 4)) ++ drop (p + 8) b ≡ drop p b

@@ -271,8 +271,9 @@ impl State {
         self.saved[task][depth] = self.user;
         self.held[task] += 1;
         self.owner[lock] = self.running + 1;
-        self.user = self.user.max(plan.ceiling[lock]);
-        self.eager += 1;
+        let before = self.user;
+        self.user = before.max(plan.ceiling[lock]);
+        self.eager += u32::from(self.user != before);
         Ok(false)
     }
 
@@ -286,12 +287,13 @@ impl State {
             return Err(19);
         }
         self.held[task] -= 1;
+        let before = self.user;
         self.user = self.saved[task][depth - 1];
         self.open[task][depth - 1] = 0;
         self.saved[task][depth - 1] = 0;
         self.units[lock] = 0;
         self.owner[lock] = 0;
-        self.eager += 1;
+        self.eager += u32::from(self.user != before);
         let call = self.user < self.next;
         if call {
             self.lazy += 1;

@@ -68,6 +68,14 @@ pub const NEST: [Event; 10] = [
     Acquire(0), Work(4), Unlock(0), Acquire(0), Work(3),
 ];
 
+/// RULES 18.6: lock 1 (ceiling 3) inside lock 0 (ceiling 5) raises nothing, nor
+/// does it raise task 1, whose base is 3.
+#[rustfmt::skip]
+pub const FAIR: [Event; 11] = [
+    Release(0), Acquire(0), Acquire(1), Unlock(1), Tick, Unlock(0), Finish,
+    Release(1), Acquire(1), Unlock(1), Finish,
+];
+
 pub fn book(events: &[Event]) -> Vec<u8> {
     Draft::of(&plan(), events).bytes()
 }
@@ -133,6 +141,7 @@ pub fn test() -> (usize, Vec<String>) {
     };
     runs_p1_to_p4(&mut tests);
     runs_p5_to_p12(&mut tests);
+    eager_calls(&mut tests);
     single_steps(&mut tests);
     wrong_ways(&mut tests);
     (tests.done, tests.failed)
@@ -156,7 +165,7 @@ fn runs_p1_to_p4(tests: &mut Tests) {
         (row(&p2, 5)[0], row(&p2, 5)[3]),
         (1, 1),
     );
-    tests.expect("P2: calls in all", p2.lazy_calls, 1);
+    tests.expect("P2: calls in all", (p2.lazy_calls, p2.eager_calls), (1, 4));
 
     let p3 = run("P3");
     tests.expect("P3: nothing refused", p3.number, 0);
@@ -214,6 +223,27 @@ fn runs_p5_to_p12(tests: &mut Tests) {
         (p12.number, p12.place),
         (21, 4),
     );
+}
+
+/// RULES 18.6, and what the twelve runs come to: of the acts only those count
+/// that change the priority of their task.
+fn eager_calls(tests: &mut Tests) {
+    let counted = RUNS.map(|(name, _)| run(name).eager_calls);
+    tests.expect(
+        "eager calls of P1 to P12",
+        counted,
+        [2, 4, 2, 1, 1, 2, 1, 0, 0, 0, 0, 1],
+    );
+    let fair = answer(&FAIR, Wrong::Nothing);
+    tests.expect(
+        "two of six acquires and unlocks change a priority",
+        (fair.number, fair.lazy_calls, fair.eager_calls),
+        (0, 0, 2),
+    );
+    let every_act = answer(&FAIR, Wrong::EveryAct);
+    tests.expect("every-act: all six are calls", every_act.eager_calls, 6);
+    let acquires = answer(RUNS[0].1, Wrong::AcquiresAlone);
+    tests.expect("acquires-alone: P1 has one", acquires.eager_calls, 1);
 }
 
 /// What no book can show: 11, 20, and the order of 11 before 20 before 12.

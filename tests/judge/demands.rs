@@ -1,7 +1,8 @@
 //! What the judge demands of its own two schedulers while it judges: after
 //! every event they agree and the words are as defined, no lock has two
-//! holders, every section is within its limit and every delay within its bound;
-//! and at the end the counts equal the counts over the history.
+//! holders, every section is within its limit and every delay within its bound,
+//! and there are no more lazy calls than eager ones; and at the end the counts
+//! equal the counts over the history.
 
 use crate::book::Book;
 use crate::eager::Eager;
@@ -14,6 +15,10 @@ pub fn after_event(plan: &Plan, bounds: &[u16], eager: &Eager, lazy: &Lazy) -> R
     same_task_and_words(eager, lazy)?;
     if eager.calls() != lazy.eager_calls {
         return Err("the counts of eager calls differ".to_string());
+    }
+    if lazy.calls > eager.calls() {
+        let (l, e) = (lazy.calls, eager.calls());
+        return Err(format!("{l} lazy calls are more than {e} eager ones"));
     }
     holders_and_sections(plan, eager, lazy)?;
     for (task, bound) in bounds.iter().enumerate() {
@@ -103,9 +108,8 @@ pub fn after_run(
     let lazy_calls = (0..accepted)
         .filter(|place| rows[4 * place + 3] == 1)
         .count();
-    let is_eager_call = |event: &&Event| matches!(event, Event::Acquire(_) | Event::Unlock(_));
-    let eager_calls = history.iter().filter(is_eager_call).count();
-    if (lazy_calls as u32, eager_calls as u32) != calls {
+    let eager_calls = eager_over_history(&book.plan, history, rows);
+    if (lazy_calls as u32, eager_calls) != calls {
         return Err(format!(
             "calls {calls:?}, over the history {lazy_calls} and {eager_calls}"
         ));
@@ -119,6 +123,28 @@ pub fn after_run(
         }
     }
     Ok(())
+}
+
+/// The acquires and unlocks after which the task that did them has another
+/// priority than before: the greatest of its base and the ceilings of the locks
+/// that it has open. The task that ran at an event is the one that the row
+/// before names.
+fn eager_over_history(plan: &Plan, history: &[Event], rows: &[u8]) -> u32 {
+    let mut raised: Vec<Vec<u8>> = plan.bases.iter().map(|base| vec![*base]).collect();
+    let mut calls = 0;
+    for (place, event) in history.iter().enumerate() {
+        let (Event::Acquire(lock) | Event::Unlock(lock)) = event else {
+            continue;
+        };
+        let numbers = &mut raised[usize::from(rows[4 * (place - 1)])];
+        let before = numbers.iter().max().copied();
+        match event {
+            Event::Acquire(_) => numbers.push(plan.locks[usize::from(*lock)].ceiling),
+            _ => _ = numbers.pop(),
+        }
+        calls += u32::from(before != numbers.iter().max().copied());
+    }
+    calls
 }
 
 /// The units that tasks of lower base worked between the task's latest release

@@ -26,7 +26,8 @@ pub struct Eager<'p> {
     units: Vec<u32>,
     /// By task.
     delays: Vec<u16>,
-    /// Each accepted acquire and each accepted unlock is one.
+    /// An accepted acquire or unlock is one where the priority of the task that
+    /// does it is another one afterwards.
     calls: u32,
 }
 
@@ -209,14 +210,16 @@ impl<'p> Eager<'p> {
             }
             (Event::Acquire(lock), Some(task)) => {
                 let lock = usize::from(lock);
+                let priority = self.priority(task);
                 self.open_of(task).push(lock);
                 self.units[lock] = 0;
-                self.calls += 1;
+                self.count_call(event, priority, self.priority(task));
             }
             (Event::Unlock(lock), Some(task)) => {
+                let priority = self.priority(task);
                 self.open_of(task).pop();
                 self.units[usize::from(lock)] = 0;
-                self.calls += 1;
+                self.count_call(event, priority, self.priority(task));
             }
             (Event::Work(amount), Some(task)) => {
                 for lock in self.charged(task).to_vec() {
@@ -232,6 +235,13 @@ impl<'p> Eager<'p> {
         self.running = self.elect();
         if self.wrong == Wrong::Tail {
             self.put_at_tail(before);
+        }
+    }
+
+    /// Counts an acquire or an unlock, given the priority before it and after it.
+    fn count_call(&mut self, event: Event, before: u8, after: u8) {
+        if self.wrong.counts(event, before != after) {
+            self.calls += 1;
         }
     }
 

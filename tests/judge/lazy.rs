@@ -52,8 +52,8 @@ pub struct Lazy<'p> {
     pub tasks: Vec<TaskFigures>,
     pub sections: Vec<Section>,
     pub calls: u32,
-    /// How often the eager scheduler would have called: an accepted acquire and
-    /// an accepted unlock count one each.
+    /// How often the eager scheduler would have called: an accepted acquire or
+    /// unlock counts where the word of the task that does it changes.
     pub eager_calls: u32,
 }
 
@@ -182,7 +182,10 @@ impl<'p> Lazy<'p> {
             holder: Some(task),
             units: 0,
         };
-        self.eager_calls += 1;
+        let changes = self.user_word != saved;
+        if self.wrong.counts(Event::Acquire(lock as u8), changes) {
+            self.eager_calls += 1;
+        }
         Ok(false)
     }
 
@@ -201,10 +204,16 @@ impl<'p> Lazy<'p> {
             holder: None,
             units: 0,
         };
+        let word_before = self.user_word;
         self.user_word = match self.wrong {
             Wrong::Base => Word(self.plan.bases[task]),
             _ => newest.saved,
         };
+        // After a switch the word is another task's, so this comes first.
+        let changes = self.user_word != word_before;
+        if self.wrong.counts(Event::Unlock(lock as u8), changes) {
+            self.eager_calls += 1;
+        }
         // If the next word is above what was restored, this is a lazy call, and
         // the kernel switches.
         let lazy_call = match self.wrong {
@@ -215,7 +224,6 @@ impl<'p> Lazy<'p> {
             self.calls += 1;
             self.switch();
         }
-        self.eager_calls += 1;
         Ok(lazy_call)
     }
 

@@ -4,6 +4,7 @@
 use crate::book::{self, Book};
 use crate::demands;
 use crate::eager::Eager;
+use crate::event::Event;
 use crate::lazy::Lazy;
 use crate::resume::figures;
 use crate::sound;
@@ -29,8 +30,10 @@ pub struct Answer {
 
 pub struct Outcome {
     pub answer: Answer,
-    /// How many events were accepted.
+    /// How many events were accepted, and how many of these were acquires or
+    /// unlocks.
     pub accepted: usize,
+    pub acts: usize,
     /// The first of the judge's own demands that did not hold, in words.
     pub violation: Option<String>,
 }
@@ -50,6 +53,7 @@ pub fn replay(bytes: &[u8], row_space: usize, wrong: Wrong) -> Outcome {
                 rows: vec![FILL; row_space],
             },
             accepted: 0,
+            acts: 0,
             violation: None,
         },
     }
@@ -109,8 +113,13 @@ fn run(book: &Book, row_space: usize, wrong: Wrong) -> Outcome {
             rows,
         },
         accepted,
+        acts: book.events[..accepted].iter().filter(is_act).count(),
         violation,
     }
+}
+
+fn is_act(event: &&Event) -> bool {
+    matches!(event, Event::Acquire(_) | Event::Unlock(_))
 }
 
 /// A state that is reached from a fresh start is sound.

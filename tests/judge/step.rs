@@ -1,10 +1,11 @@
 //! A single step from any state: 10 where it isn't sound, and else one step of
 //! the lazy scheduler that the figures stand for.
 
+use crate::aims::Scene;
 use crate::event::Event;
 use crate::resume::{figures, resume};
 use crate::sound;
-use crate::whole::Whole;
+use crate::whole::{Whole, EAGER};
 use crate::wrong::Wrong;
 
 /// All that a program under judgement has to answer for a step.
@@ -41,7 +42,7 @@ pub fn step(given: &Whole, event: Event, wrong: Wrong) -> Outcome {
     let after = figures(&lazy);
     let violation = match answer {
         _ if wrong != Wrong::Nothing => None,
-        Ok(_) => unsound(&after),
+        Ok(_) => unsound(&after).or_else(|| miscounted(given, event, &after)),
         Err(_) if after == *given => None,
         Err(_) => Some("a refused step changed the judge's own scheduler".to_string()),
     };
@@ -77,4 +78,21 @@ fn unsound(after: &Whole) -> Option<String> {
         return None;
     }
     Some(format!("the state after it is not sound: {names:?}"))
+}
+
+/// An accepted acquire or unlock is one eager call where the priority of the
+/// task that does it is another one afterwards, as the open locks give it; no
+/// other event is one.
+fn miscounted(given: &Whole, event: Event, after: &Whole) -> Option<String> {
+    let calls = match (event, given.running()) {
+        (Event::Acquire(_) | Event::Unlock(_), Some(task)) => {
+            u64::from(sound::priority(given, task) != sound::priority(after, task))
+        }
+        _ => 0,
+    };
+    let counted = after.get(EAGER, 0) - given.get(EAGER, 0);
+    if counted == calls {
+        return None;
+    }
+    Some(format!("{counted} eager calls are counted, not {calls}"))
 }

@@ -9,7 +9,7 @@ use crate::refusals::{FROM_STEPS, WORDS};
 use crate::sound::{priority, CONDITIONS};
 use crate::step::Outcome;
 use crate::trials::Trial;
-use crate::whole::{figure, DELAY, FIGURES, NEXT, RUNNING, TASKS, USER};
+use crate::whole::{figure, DELAY, EAGER, FIGURES, NEXT, RUNNING, TASKS, USER};
 
 /// Each answer is given at least so often.
 const LEAST_ANSWERS: usize = 100;
@@ -22,10 +22,14 @@ const LEAST_MET: usize = 20;
 type IsMet = fn(&Trial, &Outcome) -> bool;
 
 #[rustfmt::skip] // a line each
-const RULES: [(&str, IsMet); 9] = [
+const RULES: [(&str, IsMet); 13] = [
     ("accepted with a lazy call", accepted_with_call),
     ("accepted without a lazy call", accepted_without_call),
     ("an unlock that calls with the priority unchanged", call_of_equal),
+    ("an acquire that is an eager call", raising),
+    ("an acquire that is no eager call", raising_nothing),
+    ("an unlock that is an eager call", lowering),
+    ("an unlock that is no eager call", lowering_nothing),
     ("a release that switches, and not to the newcomer", other_than_newcomer),
     ("a delay that sticks", delay_sticks),
     ("an accepted event while another task is more urgent", not_the_best_runs),
@@ -152,6 +156,28 @@ fn call_of_equal(trial: &Trial, outcome: &Outcome) -> bool {
         return false;
     };
     priority(&trial.given, task) == priority(&outcome.stepped.after, task)
+}
+
+/// By how much an accepted event raised the count of eager calls.
+fn eager_calls(trial: &Trial, outcome: &Outcome) -> Option<u64> {
+    let counted = outcome.stepped.after.get(EAGER, 0) - trial.given.get(EAGER, 0);
+    Some(counted).filter(|_| is_accepted(outcome))
+}
+
+fn raising(trial: &Trial, outcome: &Outcome) -> bool {
+    matches!(trial.event, Event::Acquire(_)) && eager_calls(trial, outcome) == Some(1)
+}
+
+fn raising_nothing(trial: &Trial, outcome: &Outcome) -> bool {
+    matches!(trial.event, Event::Acquire(_)) && eager_calls(trial, outcome) == Some(0)
+}
+
+fn lowering(trial: &Trial, outcome: &Outcome) -> bool {
+    matches!(trial.event, Event::Unlock(_)) && eager_calls(trial, outcome) == Some(1)
+}
+
+fn lowering_nothing(trial: &Trial, outcome: &Outcome) -> bool {
+    matches!(trial.event, Event::Unlock(_)) && eager_calls(trial, outcome) == Some(0)
 }
 
 fn other_than_newcomer(trial: &Trial, outcome: &Outcome) -> bool {

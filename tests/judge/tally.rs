@@ -8,6 +8,8 @@ use crate::replay::Outcome;
 pub struct Tally {
     pub books: usize,
     accepted_events: usize,
+    /// Accepted acquires and unlocks.
+    acts: usize,
     lazy_calls: u64,
     eager_calls: u64,
     answers: [usize; WORDS.len()],
@@ -23,6 +25,7 @@ impl Tally {
         let answer = &outcome.answer;
         self.books += 1;
         self.accepted_events += outcome.accepted;
+        self.acts += outcome.acts;
         self.lazy_calls += u64::from(answer.lazy_calls);
         self.eager_calls += u64::from(answer.eager_calls);
         let number = usize::from(answer.number);
@@ -45,6 +48,10 @@ impl Tally {
         });
         let rules = [
             ("a lazy call", self.lazy_calls > 0),
+            (
+                "an acquire or unlock that is no eager call",
+                self.acts as u64 > self.eager_calls,
+            ),
             ("a delay", self.delayed > 0),
             ("a delay that reaches its bound", self.at_bound > 0),
         ];
@@ -73,10 +80,11 @@ impl Tally {
 
     pub fn summary(&self) -> String {
         format!(
-            "{} generated books, {} events accepted, {} lazy and {} eager calls, \
-             {} delays ({} at their bound)",
+            "{} generated books, {} events accepted, {} acquires and unlocks, {} lazy and \
+             {} eager calls, {} delays ({} at their bound)",
             self.books,
             self.accepted_events,
+            self.acts,
             self.lazy_calls,
             self.eager_calls,
             self.delayed,

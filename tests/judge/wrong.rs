@@ -1,7 +1,9 @@
 //! Ways to go wrong on purpose: the four mistakes of RULES 18.4, others that only
-//! single steps can show, and some of the writer of books. The judge can follow
-//! one of them; a right program must then differ from it, which shows that the
-//! judge is able to fail a program.
+//! single steps can show, some of the count of eager calls and some of the writer
+//! of books. The judge can follow one of them; a right program must then differ
+//! from it, which shows that the judge is able to fail a program.
+
+use crate::event::Event;
 
 #[derive(Clone, Copy, Debug, PartialEq, Eq)]
 pub enum Wrong {
@@ -27,6 +29,10 @@ pub enum Wrong {
     OneMoreOpen,
     /// The word of a task that finishes stays as its kept priority.
     KeptStays,
+    /// Every acquire and every unlock is an eager call.
+    EveryAct,
+    /// Of the acts that change a priority only acquires are eager calls.
+    AcquiresAlone,
     /// The buffer's length is tested before the events.
     RoomBefore8,
     /// The byte after a written book is changed.
@@ -38,7 +44,7 @@ pub enum Wrong {
 }
 
 /// The wrong ways under the names of the command line.
-pub const WRONG_WAYS: [(&str, Wrong); 14] = [
+pub const WRONG_WAYS: [(&str, Wrong); 16] = [
     ("tail", Wrong::Tail),
     ("at-or-above", Wrong::AtOrAbove),
     ("base", Wrong::Base),
@@ -49,11 +55,25 @@ pub const WRONG_WAYS: [(&str, Wrong); 14] = [
     ("delay-wraps", Wrong::DelayWraps),
     ("one-more-open", Wrong::OneMoreOpen),
     ("kept-stays", Wrong::KeptStays),
+    ("every-act", Wrong::EveryAct),
+    ("acquires-alone", Wrong::AcquiresAlone),
     ("room-before-8", Wrong::RoomBefore8),
     ("byte-after", Wrong::ByteAfter),
     ("refusal-touches", Wrong::RefusalTouches),
     ("offset-off", Wrong::OffsetOff),
 ];
+
+impl Wrong {
+    /// Whether an acquire or an unlock is an eager call, by whether it changes
+    /// the priority of the task that does it.
+    pub fn counts(self, act: Event, changes: bool) -> bool {
+        match self {
+            Wrong::EveryAct => true,
+            Wrong::AcquiresAlone => changes && matches!(act, Event::Acquire(_)),
+            _ => changes,
+        }
+    }
+}
 
 pub fn from_name(name: &str) -> Option<Wrong> {
     WRONG_WAYS

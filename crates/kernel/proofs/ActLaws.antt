@@ -3,7 +3,7 @@
 use mathlib.Core.Path.{_≡_, refl, sym, _∙_, ap, ap₂}
 use mathlib.Core.Bool.{Bool, false}
 use mathlib.Core.List.{List}
-use Prim.Native.Nat.{ℕ, _≤_, _<_}
+use Prim.Native.Nat.{ℕ, _+_, _≤_, _<_, max}
 use native.Mathlib.Nat.{add-zero}
 use lib.Dec.{leb}
 use lib.ListN.{length}
@@ -13,8 +13,8 @@ use Rattle.rules.specs.Numbers.Choice.{if_then_else_}
 use Rattle.rules.specs.Numbers.Place.{at, renewed}
 use Rattle.rules.specs.Numbers.Refusal.{firstTrue}
 use Rattle.rules.specs.Schedulers.Figures.{Figures, figuresOf}
-use Rattle.rules.specs.Schedulers.FiguresAfter.{figuresAfter, eagerCalls, delayed, charged}
-use Rattle.rules.specs.Schedulers.Lazy.{Words, wordsOf, stateOf, wordsAfter, lazyCall}
+use Rattle.rules.specs.Schedulers.FiguresAfter.{differs, eagerCalls, figuresAfter, delayed, charged}
+use Rattle.rules.specs.Schedulers.Lazy.{Words, wordsOf, stateOf, backOf, wordsAfter, lazyCall}
 use Rattle.rules.specs.Schedulers.EventRefusals.{testsOf, refusalOf}
 use Rattle.rules.specs.Soundness.Sound.{SoundAndSized}
 use Rattle.rules.specs.Replays.Step.{afterOf, answered, actOf}
@@ -23,6 +23,7 @@ use Rattle.rules.specs.declared.plan.Plan.{Plan}
 use Rattle.rules.specs.declared.state.Head.{Head}
 use Rattle.rules.specs.declared.state.State.{State}
 use Rattle.rules.specs.declared.event.Event.{Event}
+use Rattle.rules.specs.declared.event.Event.the-variants.{Acquire, Unlock}
 use Rattle.rules.specs.declared.answer.Tested.{Tested}
 use Rattle.rules.specs.declared.answer.Answer.{Answer}
 use Rattle.rules.specs.declared.answer.Stepped.{Stepped}
@@ -30,10 +31,13 @@ use Rattle.rules.specs.declared.refusal.Refusal.{Refusal}
 use Rattle.rules.specs.declared.refusal.Refusal.the-variants.{Exhausted}
 use Rattle.rules.proofs.Numbers.Choice.{if-true, if-false}
 use Rattle.rules.proofs.Books.Obeyed.{few-locks}
+use Rattle.rules.proofs.Schedulers.Passed.{Takeable, Givable, Allowed, allowed}
+use Rattle.rules.proofs.Schedulers.WordsKept.{take-calls, give-calls}
+use Rattle.rules.proofs.Soundness.SoundKept.{scene}
 use Rattle.kernel.specs.Lent.{steppedAs, beside, refusedAs, acceptedWith, answeredAs, acceptedAs, turnOf, wordsOn}
 use Rattle.kernel.specs.Work.{waitedBy, chargedRow}
 use Rattle.kernel.specs.Ready.{ReleaseReady, AcquireReady, UnlockReady, WorkReady, FinishReady}
-use Rattle.kernel.specs.Parts.{Outcome, workTested, ReleaseAnswered, AcquireAnswered, UnlockAnswered, WorkAnswered, FinishAnswered}
+use Rattle.kernel.specs.Parts.{Outcome, acquireTested, unlockTested, workTested, ReleaseAnswered, AcquireAnswered, UnlockAnswered, WorkAnswered, FinishAnswered}
 use Rattle.kernel.specs.declared.acted.Acted.{Acted}
 use Rattle.kernel.specs.declared.switch.Turn.{Turn}
 use Rattle.kernel.proofs.WorkLaws.{charged-row}
@@ -98,6 +102,27 @@ module _ (p : Plan) (s : State) where
         (lt-leb maxAccepted (s .head .accepted) room)))
         ∙ ap (actOf p s) (sym arm)
 
+    -- what passes the code's tests may be accepted
+    may : (e : Event) (t : Tested) → t ≡ firstTrue (testsOf p (figuresOf s) (s .head .running) e) → t ≡ Tested.Passed
+        → Allowed p (figuresOf s) (s .head .running) e
+    unfolding refusalOf firstTrue
+    may e t g passed =
+        allowed p (figuresOf s) (s .head .running) e
+        (if-false (leb maxAccepted (s .head .accepted)) (Tested.Refused Exhausted) (firstTrue (testsOf p (figuresOf s) (s .head .running) e))
+        (lt-leb maxAccepted (s .head .accepted) room) ∙ sym g ∙ passed)
+
+    -- the eager calls of an act by the user words are those of the definition
+    taken : (l : ℕ) → acquireTested (s .head .running) (p .locks) l (p .uses) (s .depth) (s .owner) ≡ Tested.Passed
+        → figuresAfter p (figuresOf s) (s .head .running) (Acquire l) .eager
+        ≡ s .head .eager + differs (s .head .user .0) (max (s .head .user .0) (at (p .ceiling) l))
+    taken l passed = let o : Takeable p (figuresOf s) (s .head .running) l = may (Acquire l) _ (acquire-same p s S l) passed in
+        take-calls (scene S room) (o .runs) o
+
+    given : (l : ℕ) → unlockTested (s .head .running) (p .locks) l (s .depth) (s .takes) ≡ Tested.Passed
+        → figuresAfter p (figuresOf s) (s .head .running) (Unlock l) .eager ≡ s .head .eager + differs (s .head .user .0) (backOf (wordsOf s))
+    given l passed = let o : Givable p (figuresOf s) (s .head .running) l = may (Unlock l) _ (unlock-same p s S l) passed in
+        give-calls (scene S room) (o .runs) o
+
     -- the sections along the row are those of the definition, where none would pass its limit
     sections : (a : ℕ) → workTested (s .head .running) a (p .limit) (s .depth) (s .takes) (s .units) ≡ Tested.Passed
         → chargedRow (s .units) a (at (s .takes) (s .head .running)) (at (s .depth) (s .head .running))
@@ -122,7 +147,7 @@ module _ (p : Plan) (s : State) where
       unfolding afterOf figuresAfter eagerCalls wordsAfter lazyCall
       acquire-acts l depth₂ takes₂ saved₂ owner₂ q arm o =
           o ∙ outcome (Event.Acquire l) _ r _ _ _ _ q (λ why a b. cc)
-          (λ passed d. whole _ _ _ _ (d .counted .answer) (rw (d .counted .number, d .counted .calls, d .count, d .row)) (d .words (s .kept)))
+          (λ passed d. whole _ _ _ _ (d .counted .answer) (rw (d .counted .number, d .counted .calls ∙ sym (taken l passed), d .count, d .row)) (d .words (s .kept)))
           ∙ answers (Event.Acquire l) e _ (acquire-same p s S l) arm
 
       pub unlock-acts : (l : ℕ) (kept₂ depth₂ takes₂ saved₂ units₂ owner₂ : List ℕ)
@@ -132,7 +157,8 @@ module _ (p : Plan) (s : State) where
       unfolding afterOf figuresAfter eagerCalls wordsAfter lazyCall
       unlock-acts l kept₂ depth₂ takes₂ saved₂ units₂ owner₂ q arm o =
           o ∙ outcome (Event.Unlock l) _ r _ _ _ _ q (λ why a b. cc)
-          (λ passed d. whole _ _ _ _ (d .counted .answer) (rw (d .counted .number, d .counted .calls, d .count, d .row, d .section)) (d .words))
+          (λ passed d. whole _ _ _ _ (d .counted .answer)
+          (rw (d .counted .number, d .counted .calls ∙ sym (given l passed), d .count, d .row, d .section)) (d .words))
           ∙ answers (Event.Unlock l) e _ (unlock-same p s S l) arm
 
       pub work-acts : (a : ℕ) (delay₂ units₂ : List ℕ) → WorkAnswered (s .head) (p .tasks) a (p .base) (p .limit) (s .released) (s .delay) (s .depth) (s .takes)

@@ -1,15 +1,17 @@
 -- Each accepted event from its parts: the figures that it moved, the words and the counts. Assumes nothing.
-use mathlib.Core.Path.{_≡_, refl, _∙_, ap, subst}
-use mathlib.Core.Bool.{Bool, false}
-use mathlib.Core.List.{List}
-use Prim.Native.Nat.{ℕ, _+_, _-_, _%_, _^_, _<_}
+use mathlib.Core.Path.{_≡_, refl, _∙_, ap}
+use mathlib.Core.Bool.{false}
+use mathlib.Core.List.{List, []}
+use Prim.Native.Nat.{ℕ, _+_, _-_, _%_, _^_, _<_, max}
 use native.Mathlib.Nat.{add-zero}
 use lib.ListN.{set}
 use Rattle.rules.specs.Numbers.Choice.{if_then_else_}
 use Rattle.rules.specs.Numbers.Place.{at, renewed}
 use Rattle.rules.specs.Numbers.Row.{under, pushed}
+use Rattle.rules.specs.Schedulers.FiguresAfter.{differs}
 use Rattle.rules.specs.Schedulers.Lazy.{Words, switched, afterRelease, afterAcquire}
 use Rattle.rules.specs.declared.state.Head.{Head}
+use Rattle.rules.specs.declared.answer.Answer.{Answer}
 use Rattle.rules.specs.declared.priority.KernelPriority.{KernelPriority}
 use Rattle.rules.specs.declared.priority.UserPriority.{UserPriority}
 use Rattle.figures.proofs.Rows.{push-fits}
@@ -20,14 +22,15 @@ use Rattle.kernel.specs.declared.acted.Acted.{Acted}
 use Rattle.kernel.specs.declared.lazy.Unlocked.{Unlocked}
 use Rattle.kernel.specs.declared.switch.Turn.{Turn}
 
--- the head of an event without a call: its words are those of the turn
-module _ (h : Head) (eager : ℕ) (turn : Turn) where
-  uncalled : (kept saved owner : List ℕ) → wordsWith (acceptedWith h turn false eager .head) kept saved owner ≡ wordsOn turn (h .lazy) kept saved owner
+-- the head of an event without a lazy call: its words are those of the turn
+module _ (h : Head) (turn : Turn) where
+  uncalled : (kept saved owner : List ℕ) → wordsWith (acceptedWith h turn false 0 .head) kept saved owner ≡ wordsOn turn (h .lazy) kept saved owner
   unfolding if_then_else_
   uncalled kept saved owner = ap (λ z. wordsOn turn z kept saved owner) (add-zero (h .lazy))
 
-  counts : (call : Bool) → Counted h (acceptedWith h turn call eager) call eager
-  counts call = record { answer = refl; number = refl; calls = refl }
+  -- without an eager call either
+  counts : Counted h (acceptedWith h turn false 0) false 0
+  counts = record { answer = refl; number = refl; calls = refl }
 
 module _ (h : Head) (after : Turn) (r : Acted) where
   pub release-done : (n t : ℕ) (base released kept delay kept₂ : List ℕ) (b : KernelPriority) → b .0 ≡ at base t
@@ -35,31 +38,36 @@ module _ (h : Head) (after : Turn) (r : Acted) where
       → r ≡ acceptedWith h after false 0
       → ReleaseDone h n t base released kept delay r (set released t (h .accepted + 1)) kept₂ (set delay t 0)
   release-done n t base released kept delay kept₂ b read e q = rw q (record {
-    counted = counts h 0 after false;
+    counted = counts h after;
     place = refl;
     wait = refl;
-    words = λ saved owner. uncalled h 0 after kept₂ saved owner ∙ e (wordsWith h kept saved owner) ∙ rw read;
+    words = λ saved owner. uncalled h after kept₂ saved owner ∙ e (wordsWith h kept saved owner) ∙ rw read;
   })
 
   pub acquire-done : (l row v : ℕ) (ceiling depth takes saved owner saved₂ owner₂ : List ℕ) (top : UserPriority) → top .0 ≡ at ceiling l
       → row ≡ at takes (h .running) → row < 256 ^ 7 → v ≡ pushed (row % 256 ^ 7) l
       → ((lazy : ℕ) (kept : List ℕ) → wordsOn after lazy kept saved₂ owner₂ ≡ afterAcquire l (top .0) (wordsOn (turnOf h) lazy kept saved owner))
-      → r ≡ acceptedWith h after false 1
+      → r ≡ acceptedWith h after false (differs (h .user .0) (after .user .0))
       → AcquireDone h l ceiling depth takes saved owner r (set depth (h .running) (at depth (h .running) + 1)) (set takes (h .running) v) saved₂ owner₂
+  unfolding afterAcquire
   acquire-done l row v ceiling depth takes saved owner saved₂ owner₂ top c read few p e q = rw q (record {
-    counted = counts h 1 after false;
+    counted = record {
+      answer = refl;
+      number = refl;
+      calls = ap (λ u. h .eager + differs (h .user .0) u) (ap (λ (w : Words). w .user) (e 0 []) ∙ ap (max (h .user .0)) c);
+    };
     count = refl;
     row = ap (set takes (h .running)) (push-fits row l v few p ∙ ap (λ x. pushed x l) read);
-    words = λ kept. uncalled h 1 after kept saved₂ owner₂ ∙ e (h .lazy) kept ∙ rw c;
+    words = λ kept. uncalled h after kept saved₂ owner₂ ∙ e (h .lazy) kept ∙ rw c;
   })
 
   pub finish-done : (n : ℕ) (released kept kept₂ : List ℕ)
       → ((w : Words) → turned after kept₂ w ≡ switched n (set released (h .running) 0) (set kept (h .running) 0) w) → r ≡ acceptedWith h after false 0
       → FinishDone h n released kept r (set released (h .running) 0) kept₂
   finish-done n released kept kept₂ e q = rw q (record {
-    counted = counts h 0 after false;
+    counted = counts h after;
     place = refl;
-    words = λ saved owner. uncalled h 0 after kept₂ saved owner ∙ e (wordsWith h kept saved owner);
+    words = λ saved owner. uncalled h after kept₂ saved owner ∙ e (wordsWith h kept saved owner);
   })
 
 pub work-done : (h : Head) (turn : Turn) (r : Acted) → turn ≡ turnOf h → (n a : ℕ) (base released delay depth takes units delay₂ units₂ : List ℕ)
@@ -67,20 +75,24 @@ pub work-done : (h : Head) (turn : Turn) (r : Acted) → turn ≡ turnOf h → (
     → units₂ ≡ chargedRow units a (at takes (h .running)) (at depth (h .running)) → r ≡ acceptedWith h turn false 0
     → WorkDone h n a base released delay depth takes units r delay₂ units₂
 work-done h turn r turns n a base released delay depth takes units delay₂ units₂ d u q = rw q (record {
-  counted = counts h 0 turn false;
+  counted = counts h turn;
   waits = d;
   sections = u;
-  words = λ kept saved owner. uncalled h 0 turn kept saved owner ∙ rw turns;
+  words = λ kept saved owner. uncalled h turn kept saved owner ∙ rw turns;
 })
 
 pub unlock-done : (h : Head) (r : Acted) (n l row u : ℕ) (released kept depth takes saved units owner kept₂ saved₂ owner₂ : List ℕ) (given : Unlocked)
     → row ≡ at takes (h .running) → u ≡ under row → UnlockWords h n l released kept saved owner given kept₂ saved₂ owner₂
-    → r ≡ acceptedWith h (given .turn) (given .call) 1
+    → r ≡ acceptedWith h (given .turn) (given .call) (differs (h .user .0) (given .back .0))
     → UnlockDone h n l released kept depth takes saved units owner r kept₂ (set depth (h .running) (at depth (h .running) - 1))
     (set takes (h .running) u) saved₂ (set units l 0) owner₂
 unlock-done h r n l row u released kept depth takes saved units owner kept₂ saved₂ owner₂ given read rest g q =
     rw q (record {
-      counted = subst (λ c. Counted h (acceptedWith h (given .turn) (given .call) 1) c 1) (g .call) (counts h 1 (given .turn) (given .call));
+      counted = record {
+        answer = ap Answer.Accepted (g .call);
+        number = refl;
+        calls = ap (λ u. h .eager + differs (h .user .0) u) (g .back);
+      };
       count = refl;
       row = ap (set takes (h .running)) (rest ∙ ap under read);
       section = refl;

@@ -66,20 +66,25 @@ module _ (n l row u : ℕ) (h : Head) (released kept saved owner : List ℕ) (ba
 
   pub unlock-calls : r ≡ true → (kept₂ kept₃ : List ℕ) (after : Turn) → kept₂ ≡ set kept (h .running) (back .0)
       → ((w : Words) → turned after kept₃ w ≡ switched n released kept₂ w)
-      → UnlockWords h n l released kept saved owner (record { turn = after; call = true }) kept₃ (set saved (h .running) u) (set owner l 0)
+      → UnlockWords h n l released kept saved owner (record { turn = after; call = true; back = back }) kept₃ (set saved (h .running) u) (set owner l 0)
   unfolding afterUnlock restored if_then_else_
   unlock-calls y kept₂ kept₃ after c e = record {
     call = sym (calls true y);
+    back = newest-back;
     words = λ lazy. rw popped-row (e (restored l 1 (wordsOn (turnOf h) lazy kept saved owner))
         ∙ ap (λ ks. switched n released ks (restored l 1 (wordsOn (turnOf h) lazy kept saved owner))) (c ∙ ap (set kept (h .running)) newest-back)
         ∙ sym (if-true (callsFor (newest (at saved (h .running))) (h .next .0)) _ _ (calls true y)));
   }
 
   pub unlock-stays : r ≡ false
-      → UnlockWords h n l released kept saved owner (record { turn = record { running = h .running; user = back; next = h .next }; call = false }) kept
-      (set saved (h .running) u) (set owner l 0)
+      → UnlockWords h n l released kept saved owner (record {
+        turn = record { running = h .running; user = back; next = h .next };
+        call = false;
+        back = back;
+      }) kept (set saved (h .running) u) (set owner l 0)
   unfolding afterUnlock restored if_then_else_
   unlock-stays y = record {
     call = sym (calls false y);
+    back = newest-back;
     words = λ lazy. rw (popped-row, newest-back) (sym (if-false (callsFor (newest (at saved (h .running))) (h .next .0)) _ _ (calls false y)));
   }

@@ -3,7 +3,7 @@
 use mathlib.Core.Path.{_≡_}
 use mathlib.Core.Bool.{Bool, false, not, _||_}
 use mathlib.Core.List.{List, [], _∷_}
-use Prim.Native.Nat.{ℕ, _+_, _-_}
+use Prim.Native.Nat.{ℕ, _+_, _-_, max}
 use lib.Dec.{eqb, leb, ltb}
 use lib.ListN.{set}
 use Rattle.rules.specs.Numbers.Capacity.{maxTasks, maxOpen}
@@ -13,6 +13,7 @@ use Rattle.rules.specs.Numbers.Mask.{hasBit}
 use Rattle.rules.specs.Numbers.Row.{newest, under, pushed}
 use Rattle.rules.specs.Numbers.Refusal.{firstTrue}
 use Rattle.rules.specs.Schedulers.EventRefusals.{releaseOrder, acquireOrder, unlockOrder, workOrder, finishOrder}
+use Rattle.rules.specs.Schedulers.FiguresAfter.{differs}
 use Rattle.rules.specs.Schedulers.Lazy.{callsFor, backOf, switched, afterRelease, afterAcquire, afterUnlock}
 use Rattle.rules.specs.declared.state.Head.{Head}
 use Rattle.rules.specs.declared.answer.Tested.{Tested}
@@ -58,7 +59,7 @@ acquireTested x m l uses depth owner =
     (leb maxOpen (at depth x)))
 
 pub record AcquireDone (h : Head) (l : ℕ) (ceiling depth takes saved owner : List ℕ) (r : Acted) (depth₂ takes₂ saved₂ owner₂ : List ℕ) : Type 0 where
-  pub counted : Counted h r false 1
+  pub counted : Counted h r false (differs (h .user .0) (max (h .user .0) (at ceiling l)))
   pub count : depth₂ ≡ set depth (h .running) (at depth (h .running) + 1)
   pub row : takes₂ ≡ set takes (h .running) (pushed (at takes (h .running)) l)
   pub words : (kept : List ℕ) → wordsWith (r .head) kept saved₂ owner₂ ≡ afterAcquire l (at ceiling l) (wordsWith h kept saved owner)
@@ -70,9 +71,10 @@ AcquireAnswered h m l ceiling uses depth takes saved owner r depth₂ takes₂ s
 
 -- ---- unlock
 
--- the words after it, and the call: r at exit of what was lent
+-- the words after it, the call and the word that is put back: r at exit of what was lent
 pub record UnlockWords (h : Head) (n l : ℕ) (released kept saved owner : List ℕ) (r : Unlocked) (kept₂ saved₂ owner₂ : List ℕ) : Type 0 where
   pub call : r .call ≡ callsFor (newest (at saved (h .running))) (h .next .0)
+  pub back : r .back .0 ≡ newest (at saved (h .running))
   pub words : (lazy : ℕ) → wordsOn (r .turn) (lazy + (if r .call then 1 else 0)) kept₂ saved₂ owner₂
       ≡ afterUnlock n released l (wordsOn (turnOf h) lazy kept saved owner)
 
@@ -81,7 +83,7 @@ unlockTested x m l depth takes = firstTrue (unlockOrder (leb maxTasks x) (leb m 
 
 pub record UnlockDone (h : Head) (n l : ℕ) (released kept depth takes saved units owner : List ℕ) (r : Acted)
     (kept₂ depth₂ takes₂ saved₂ units₂ owner₂ : List ℕ) : Type 0 where
-  pub counted : Counted h r (callsFor (backOf (wordsWith h kept saved owner)) (h .next .0)) 1
+  pub counted : Counted h r (callsFor (backOf (wordsWith h kept saved owner)) (h .next .0)) (differs (h .user .0) (backOf (wordsWith h kept saved owner)))
   pub count : depth₂ ≡ set depth (h .running) (at depth (h .running) - 1)
   pub row : takes₂ ≡ set takes (h .running) (under (at takes (h .running)))
   pub section : units₂ ≡ set units l 0

@@ -1,6 +1,6 @@
 // RULES 9.5: acquire.
 use crate::acted::Acted;
-use crate::counts::accepted;
+use crate::counts::accepted_act;
 use crate::counts::refused;
 use crate::lazy::after_acquire;
 use crate::refusals::acquire_refusal;
@@ -39,7 +39,7 @@ fn accept(
     let row = takes[x];
     takes[x] = push_on(row, l);
     let after = after_acquire(h, saved, owner, l, user_of(ceiling[y]));
-    accepted(h, after, false, 1)
+    accepted_act(h, after, false, after.user)
 }
 
 // 12, 13, 15 to 18, or it is accepted.

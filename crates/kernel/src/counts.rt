@@ -1,12 +1,15 @@
 // The head after an event: as it was where the event is refused, or one event further.
 use crate::acted::Acted;
 use crate::switch::Turn;
+use figures::priority::same_word;
 use rules::answer::Answer;
+use rules::priority::UserPriority;
 use rules::refusal::Refusal;
 use rules::state::Head;
 ghost use mathlib.Core.Path.{_≡_};
 ghost use Prim.Native.Nat.{_≤_};
 ghost use Rattle.rules.specs.Numbers.Choice.{if_then_else_};
+ghost use Rattle.rules.specs.Schedulers.FiguresAfter.{differs};
 ghost use Rattle.kernel.specs.Lent.{acceptedWith, refusedAs, turnOf};
 ghost use Rattle.kernel.specs.Ready.{Counts};
 
@@ -41,6 +44,16 @@ fn call_count(call: bool) -> u32
     0
 }
 
+// RULES 10.2: one eager call where the priority after an act differs from the one before.
+fn eager_calls(before: UserPriority, after: UserPriority) -> u32
+    ensures { λ r. ⌜ (r ≡ differs (before .0) (after .0)) × (r ≤ 1) ⌝ }
+{
+    if same_word(before, after) {
+        return 0;
+    }
+    1
+}
+
 // The event counts, and so do the lazy call that it made and its eager calls.
 pub fn accepted(h: Head, turn: Turn, call: bool, eager: u32) -> Acted
     requires { ⌜ Counts h × (eager ≤ 1) ⌝ }
@@ -61,4 +74,14 @@ pub fn accepted(h: Head, turn: Turn, call: bool, eager: u32) -> Acted
         answer: Answer::Accepted(call),
         head: head,
     }
+}
+
+// The same of an acquire or an unlock, after which the acting task has this word: its eager calls are
+// told from the user word before, since in a sound state both are that task's priority.
+pub fn accepted_act(h: Head, turn: Turn, call: bool, word: UserPriority) -> Acted
+    requires { ⌜ Counts h ⌝ }
+    ensures { λ r. ⌜ r ≡ acceptedWith h turn call (differs (h .user .0) (word .0)) ⌝ }
+{
+    let user = h.user;
+    accepted(h, turn, call, eager_calls(user, word))
 }

@@ -82,10 +82,12 @@ pub fn after_acquire(
     }
 }
 
-// The words after an unlock, and whether it called the kernel.
+// The words after an unlock, whether it called the kernel, and the word that it put back: after a
+// switch the user word is another task's.
 pub struct Unlocked {
     pub turn: Turn,
     pub call: bool,
+    pub back: UserPriority,
 }
 
 // Unlock: the saved word is back. Where the next word is strictly above it, the kernel is called once
@@ -116,6 +118,7 @@ pub fn after_unlock(
         return Unlocked {
             turn: after,
             call: true,
+            back: back,
         };
     }
     let stays = Turn {
@@ -126,6 +129,7 @@ pub fn after_unlock(
     Unlocked {
         turn: stays,
         call: false,
+        back: back,
     }
 }
 

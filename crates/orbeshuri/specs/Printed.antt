@@ -15,7 +15,7 @@ use Rattle.rules.specs.Schedulers.Figures.{holds, priorityOf, rankOf}
 use Rattle.rules.specs.Schedulers.Elect.{earlier, earliest, elected}
 use Rattle.rules.specs.Schedulers.EventRefusals.{elsewhere, notNewest, pastLimit, testsOf}
 use Rattle.rules.specs.Schedulers.EventRefusals.{releaseOrder, acquireOrder, unlockOrder, workOrder, finishOrder, refusalOf}
-use Rattle.rules.specs.Schedulers.FiguresAfter.{eagerCalls, charged, delayed, figuresAfter}
+use Rattle.rules.specs.Schedulers.FiguresAfter.{differs, eagerCalls, charged, delayed, figuresAfter}
 use Rattle.rules.specs.Schedulers.Lazy.{callsFor, runsOn, switched, waits, afterRelease, afterAcquire, restored, afterUnlock, wordsAfter, lazyCall}
 use Rattle.rules.specs.Soundness.Sound.{keptOf, savedOf, ownerOf}
 use Rattle.rules.specs.Soundness.SoundTest.{taskObeys, lockObeys, spareObeys, obeys, rowTest, ownTest, numberNew, numberTest}
@@ -50,7 +50,7 @@ unfolding book block bookOfRefused blockOfRefused
     withBit most countFault taskFault lockFault declares users usersBase ceilingFault taskFaultAt lockFaultAt countFaultOf useFault masksOf planOf recordChecks
     loadChecks sizeOf bodyAt layoutFault contentsChecks eventChecks checkOf checkedAs
     has priority saves holds priorityOf rankOf earlier earliest elected elsewhere notNewest pastLimit testsOf releaseOrder acquireOrder unlockOrder workOrder
-    finishOrder refusalOf eagerCalls charged delayed figuresAfter callsFor runsOn switched waits afterRelease afterAcquire restored afterUnlock wordsAfter
+    finishOrder refusalOf differs eagerCalls charged delayed figuresAfter callsFor runsOn switched waits afterRelease afterAcquire restored afterUnlock wordsAfter
     lazyCall keptOf savedOf ownerOf
     taskObeys lockObeys spareObeys obeys rowTest ownTest numberNew numberTest taskTest lockTest runsTest headTest spareTest soundTest
     afterOf answered actOf stepOf withRow onward runFrom replayAs replayOf

@@ -15,6 +15,7 @@ use Rattle.rules.specs.declared.state.State.{State}
 use Rattle.rules.specs.declared.event.Event.{Event}
 use Rattle.rules.specs.declared.answer.Stepped.{Stepped}
 use Rattle.rules.proofs.Demands.Demand2.{demand2}
+use Rattle.rules.proofs.Demands.Fair.{fair}
 use Rattle.rules.proofs.Demands.Jobs.{lateAt, delays-same, delay-counted}
 use Rattle.promises.specs.Stepping.{StepsTo, ComesTo, StepAt}
 
@@ -39,6 +40,7 @@ module _ {p : Plan} (O : Obeys p) (es : List Event) where
         oneHolder = subst (λ f. (x y l : ℕ) → holds f x l ≡ true → holds f y l ≡ true → x ≡ y) (sym (E .figures)) (E .oneHolder);
         lazy = E .lazy;
         eager = E .eager;
+        fair = fair O es (suc k) .reported;
         delays = delay-counted O es (suc k);
         bounded = λ t n h. omega (arith, h, delays-same O es (suc k) t, lateAt O es (suc k) .bounded t);
         number = D .answers;

@@ -1,4 +1,4 @@
--- RULES 14.2, 14.3: a run of `step` from a fresh start, call by call, and what is promised of each answer. Assumes nothing.
+-- RULES 14.2, 14.3, 14.6: a run of `step` from a fresh start, call by call, and what is promised of each answer. Assumes nothing.
 use mathlib.Core.Path.{_≡_}
 use mathlib.Core.Logic.{_≢_, _↔_}
 use mathlib.Core.Bool.{true}
@@ -35,10 +35,12 @@ pub record StepAt (p : Plan) (es : List Event) (k : ℕ) (r : Stepped) : Type 0 
   pub running : r .state .head .running ≡ runnerAt p es (suc k)
   pub user : r .state .head .user .0 ≡ rankOf p (eagerAt p es (suc k)) (runnerAt p es (suc k))
   pub next : NextWord p (eagerAt p es (suc k)) (runnerAt p es (suc k)) (r .state .head .next .0)
-  -- no lock has two holders; both call counts and each delay are the history's, and no delay passes the bound that `plan::bound` gives
+  -- no lock has two holders; both call counts and each delay are the history's, the lazy calls are no more than the eager ones, and no delay passes the
+  -- bound that `plan::bound` gives
   pub oneHolder : (x y l : ℕ) → holds (figuresOf (r .state)) x l ≡ true → holds (figuresOf (r .state)) y l ≡ true → x ≡ y
   pub lazy : r .state .head .lazy ≡ lazyCount p es (suc k)
   pub eager : r .state .head .eager ≡ eagerCount p es (suc k)
+  pub fair : r .state .head .lazy ≤ r .state .head .eager
   pub delays : (t : ℕ) → at (r .state .delay) t ≡ delayCount p es t (suc k)
   pub bounded : (t n : ℕ) → bound.Post tt (p, (t, tt)) n (p, (t, tt)) → at (r .state .delay) t ≤ n
   -- the answer is the eager scheduler's, and neither 10 nor 17

@@ -7,6 +7,7 @@ pub mod OneEvent
 pub mod Follow
 pub mod Calls
 pub mod Demand2
+pub mod Fair
 pub mod Oldest
 pub mod Late
 pub mod Jobs

@@ -5,6 +5,7 @@ pub mod Job
 pub mod Demand1
 pub mod Demand2
 pub mod Demand3
+pub mod Fair
 pub mod Replayed
 pub mod Written
 pub mod Crane

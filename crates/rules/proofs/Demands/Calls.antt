@@ -1,5 +1,5 @@
--- RULES 14.2, of calls: an unlock is a lazy call exactly where another released task is strictly above the restored priority, and both counts are the
--- history's. Assumes nothing.
+-- RULES 14.2, of calls: an unlock is a lazy call exactly where another released task is strictly above the restored priority, and the count of lazy calls
+-- is the history's. Assumes nothing.
 use mathlib.Core.Path.{_≡_, refl, sym, _∙_, ap, ap₂}
 use mathlib.Core.Logic.{_≢_, ⊎-elim}
 use mathlib.Core.Bool.{Bool, true, false, not, _&&_}
@@ -14,14 +14,14 @@ use Rattle.rules.specs.Numbers.Place.{at, greatest, sum}
 use Rattle.rules.specs.Books.Plan.{Obeys}
 use Rattle.rules.specs.Schedulers.Figures.{Figures, figuresOf, priorityOf, rankOf}
 use Rattle.rules.specs.Schedulers.EventRefusals.{refusalOf}
-use Rattle.rules.specs.Schedulers.FiguresAfter.{eagerCalls, figuresAfter}
+use Rattle.rules.specs.Schedulers.FiguresAfter.{figuresAfter}
 use Rattle.rules.specs.Schedulers.Eager.{eagerTest}
 use Rattle.rules.specs.Schedulers.Lazy.{Words, wordsOf, callsFor, backOf, runsOn, switched, waits, afterRelease}
 use Rattle.rules.specs.Schedulers.Lazy.{afterAcquire, restored, afterUnlock, wordsAfter, lazyCall}
 use Rattle.rules.specs.Soundness.Sound.{keptOf, SoundWords}
 use Rattle.rules.specs.Replays.Step.{afterOf, answered, actOf, stepOf}
 use Rattle.rules.specs.Numbers.Answer.{passes}
-use Rattle.rules.specs.Demands.History.{eventAt, lazyAt, acceptedAt, outranked, callsDue, lazyCount, eagerCount}
+use Rattle.rules.specs.Demands.History.{eventAt, lazyAt, acceptedAt, outranked, callsDue, lazyCount}
 use Rattle.rules.specs.Demands.Demand2.{Outranked}
 use Rattle.rules.specs.declared.plan.Plan.{Plan}
 use Rattle.rules.specs.declared.state.State.{State}
@@ -31,7 +31,7 @@ use Rattle.rules.specs.declared.event.Event.the-variants.{Release, Acqui
 use Rattle.rules.proofs.Numbers.Choice.{by-test, and-true, true-and, not-so}
 use Rattle.rules.proofs.Numbers.Place.{some-any, false-any, greatest-some}
 use Rattle.rules.proofs.Schedulers.Passed.{Givable, passed-room, allowed}
-use Rattle.rules.proofs.Schedulers.FiguresKept.{inside, calls-moved}
+use Rattle.rules.proofs.Schedulers.FiguresKept.{inside}
 use Rattle.rules.proofs.Schedulers.WordsKept as SoundWords
 use Rattle.rules.proofs.Schedulers.Rules.{call-below, no-call, below-call, rank-out, rank-in, kept-own, kept-other}
 use Rattle.rules.proofs.Soundness.SoundKept.{scene, step-act}
@@ -115,31 +115,22 @@ module _ {p : Plan} {s : State} (F : Follows p s) where
   abbrev g : Figures
   g = figuresOf s
 
-  -- what one event adds to the counts: the calls that are due, if it is accepted
+  -- what one event adds to the count: the calls that are due, if it is accepted
   counted-by : (e : Event) (t : Tested) → refusalOf p g (s .head .running) e ≡ t
-      → (answered t s (afterOf p s e) (lazyCall (wordsOf s) e) .state .head .lazy ≡ s .head .lazy + (if passes t then callsDue p g e else 0))
-      × (answered t s (afterOf p s e) (lazyCall (wordsOf s) e) .state .head .eager ≡ s .head .eager + (if passes t then eagerCalls e else 0))
+      → answered t s (afterOf p s e) (lazyCall (wordsOf s) e) .state .head .lazy ≡ s .head .lazy + (if passes t then callsDue p g e else 0)
   unfolding answered afterOf passes if_then_else_
-  counted-by e Tested.Passed z = (
-    lazy-after p (figuresAfter p g (s .head .running) e .released) (wordsOf s) e ∙ ap (λ b. s .head .lazy + b) (due F e z),
-    calls-moved p g (s .head .running) e,
-  )
-  counted-by e (Tested.Refused why) z = (omega arith, omega arith)
+  counted-by e Tested.Passed z =
+      lazy-after p (figuresAfter p g (s .head .running) e .released) (wordsOf s) e ∙ ap (λ b. s .head .lazy + b) (due F e z)
+  counted-by e (Tested.Refused why) z = omega arith
 
-  counted-one : (e : Event)
-      → (stepOf p s e .state .head .lazy ≡ s .head .lazy + (if passes (eagerTest p g e) then callsDue p g e else 0))
-      × (stepOf p s e .state .head .eager ≡ s .head .eager + (if passes (eagerTest p g e) then eagerCalls e else 0))
+  counted-one : (e : Event) → stepOf p s e .state .head .lazy ≡ s .head .lazy + (if passes (eagerTest p g e) then callsDue p g e else 0)
   unfolding actOf
   counted-one e = rw (step-act (F .sound) e, same-test F e) (counted-by e (refusalOf p g (s .head .running) e) refl)
 
 module _ {p : Plan} (O : Obeys p) (es : List Event) where
-  pub counts : (k : ℕ) → (lazyAt p es k .head .lazy ≡ lazyCount p es k) × (lazyAt p es k .head .eager ≡ eagerCount p es k)
-  unfolding lazyAt lazyCount eagerCount sum acceptedAt
-  counts zero = (refl, refl)
-  counts (suc k) =
-      let e : Event = eventAt es k in
-      let (a, b) = counts k in
-      let (u, v) = counted-one (follows O es k) e in (
-        u ∙ ap₂ (λ n (f : Figures). n + (if passes (eagerTest p f e) then callsDue p f e else 0)) a (same-figures O es k),
-        v ∙ ap₂ (λ n (f : Figures). n + (if passes (eagerTest p f e) then eagerCalls e else 0)) b (same-figures O es k),
-      )
+  pub lazy-counted : (k : ℕ) → lazyAt p es k .head .lazy ≡ lazyCount p es k
+  unfolding lazyAt lazyCount sum acceptedAt
+  lazy-counted zero = refl
+  lazy-counted (suc k) =
+      counted-one (follows O es k) (eventAt es k)
+      ∙ ap₂ (λ n (f : Figures). n + (if passes (eagerTest p f (eventAt es k)) then callsDue p f (eventAt es k) else 0)) (lazy-counted k) (same-figures O es k)

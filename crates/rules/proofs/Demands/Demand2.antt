@@ -32,10 +32,11 @@ use Rattle.rules.proofs.Numbers.Place.{greatest-least}
 use Rattle.rules.proofs.Numbers.Order.{passes-so, among, once, none-holds, never-given, given-holds, number-given}
 use Rattle.rules.proofs.Schedulers.Rules.{rank-out, rank-in, kept-own, kept-other}
 use Rattle.rules.proofs.Soundness.SoundKept.{step-act}
+use Rattle.rules.proofs.Demands.History.{eager-counted}
 use Rattle.rules.proofs.Demands.EagerRuled.{Ruled, runs-best, some-runs, not-elsewhere, ruledAt}
 use Rattle.rules.proofs.Demands.Follow.{Follows, same-test, next-above, follows, same-figures, same-running}
 use Rattle.rules.proofs.Replays.OneStep.{answered-number}
-use Rattle.rules.proofs.Demands.Calls.{call-some, some-call, counts}
+use Rattle.rules.proofs.Demands.Calls.{call-some, some-call, lazy-counted}
 
 -- ---- no event is refused with 10 or 17
 
@@ -140,7 +141,6 @@ demand2 {p} O es k =
     let e : Event = eventAt es k in
     let number : answerNumber (stepOf p (lazyAt p es k) e .answer) ≡ testedNumber (eagerTest p (eagerAt p es k) e) = answers-by F e
     ∙ ap (λ f. testedNumber (eagerTest p f e)) E in
-    let (lazy, eager) = counts O es k in
     record {
       figures = E;
       running = same-running O es k;
@@ -157,6 +157,6 @@ demand2 {p} O es k =
       unlock = λ l q a. rw (q, ← E) (unlock-by F l (rw E (subst (λ e. passes (eagerTest p (eagerAt p es k) e) ≡ true) q a)));
       calls = calls-few F e;
       acquire = λ l q. rw q (acquire-by F l);
-      lazy = lazy;
-      eager = eager;
+      lazy = lazy-counted O es k;
+      eager = ap (λ (f : Figures). f .eager) E ∙ eager-counted p es k;
     }

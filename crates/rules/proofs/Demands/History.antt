@@ -2,14 +2,16 @@
 use mathlib.Core.Path.{_≡_, refl, sym, _∙_, ap, subst}
 use mathlib.Core.Bool.{true, false}
 use mathlib.Core.List.{List}
-use Prim.Native.Nat.{ℕ, zero, suc, _<_}
+use Prim.Native.Nat.{ℕ, zero, suc, _+_, _<_}
 use native.Mathlib.Omega.{arith}
 use Rattle.rules.specs.Numbers.Capacity.{maxAccepted}
+use Rattle.rules.specs.Numbers.Choice.{if_then_else_}
+use Rattle.rules.specs.Numbers.Place.{sum}
 use Rattle.rules.specs.Schedulers.Figures.{Figures}
-use Rattle.rules.specs.Schedulers.FiguresAfter.{figuresAfter}
+use Rattle.rules.specs.Schedulers.FiguresAfter.{eagerCalls, figuresAfter}
 use Rattle.rules.specs.Schedulers.Eager.{runningOf, settle, eagerTest, eagerStep}
 use Rattle.rules.specs.Numbers.Answer.{passes}
-use Rattle.rules.specs.Demands.History.{eventAt, eagerAt, runnerAt, acceptedAt}
+use Rattle.rules.specs.Demands.History.{eventAt, eagerAt, runnerAt, acceptedAt, eagerCount}
 use Rattle.rules.specs.Demands.Job.{Accepted}
 use Rattle.rules.specs.declared.plan.Plan.{Plan}
 use Rattle.rules.specs.declared.answer.Tested.{Tested}
@@ -17,7 +19,7 @@ use Rattle.rules.specs.declared.event.Event.{Event}
 use Rattle.rules.proofs.Numbers.Choice.{by-test, untrue}
 use Rattle.rules.proofs.Numbers.Order.{passes-so}
 use Rattle.rules.proofs.Schedulers.Passed.{Allowed, passed-room, allowed}
-use Rattle.rules.proofs.Schedulers.FiguresKept.{accepted-moved}
+use Rattle.rules.proofs.Schedulers.FiguresKept.{accepted-moved, calls-moved}
 
 step-passed : (p : Plan) (f : Figures) (e : Event) → eagerTest p f e ≡ Tested.Passed → eagerStep p f e ≡ figuresAfter p f (runningOf p f) e
 unfolding eagerStep settle
@@ -31,6 +33,14 @@ refused-still (Tested.Refused why) g f h = refl
 step-refused : (p : Plan) (f : Figures) (e : Event) → passes (eagerTest p f e) ≡ false → eagerStep p f e ≡ f
 unfolding eagerStep
 step-refused p f e h = refused-still (eagerTest p f e) (figuresAfter p f (runningOf p f) e) f h
+
+-- what an event adds to the eager calls: those that it has, if it is accepted
+step-calls : (p : Plan) (f : Figures) (e : Event) (t : Tested)
+    → settle t (figuresAfter p f (runningOf p f) e) f .eager
+    ≡ f .eager + (if passes t then eagerCalls p f (settle t (figuresAfter p f (runningOf p f) e) f) (runningOf p f) e else 0)
+unfolding settle passes if_then_else_
+step-calls p f e Tested.Passed = calls-moved p f (runningOf p f) e
+step-calls p f e (Tested.Refused why) = omega arith
 
 module _ (p : Plan) (es : List Event) where
   pub passedAt : (k : ℕ) → acceptedAt p es k ≡ true → eagerTest p (eagerAt p es k) (eventAt es k) ≡ Tested.Passed
@@ -69,3 +79,10 @@ module _ (p : Plan) (es : List Event) where
       ap (λ (g : Figures). g .accepted) (next (record { event = refl; accepted = f k (omega arith) }))
       ∙ accepted-moved p (eagerAt p es k) (runnerAt p es k) (eventAt es k)
       ∙ omega (arith, all-counted k (λ j q. f j (omega arith)))
+
+  -- the count of eager calls is the one over the history
+  pub eager-counted : (k : ℕ) → eagerAt p es k .eager ≡ eagerCount p es k
+  unfolding eagerAt eagerStep acceptedAt eagerCount sum
+  eager-counted zero = refl
+  eager-counted (suc k) =
+      step-calls p (eagerAt p es k) (eventAt es k) (eagerTest p (eagerAt p es k) (eventAt es k)) ∙ omega (arith, eager-counted k)

@@ -35,6 +35,7 @@ use Rattle.rules.proofs.Numbers.Place.{below}
 use Rattle.rules.proofs.Demands.Follow.{same-test, follows, same-figures}
 use Rattle.rules.proofs.Demands.Calls.{due}
 use Rattle.rules.proofs.Demands.Demand2.{demand2}
+use Rattle.rules.proofs.Demands.Fair.{fair}
 use Rattle.rules.proofs.Demands.History.{passedAt, all-counted}
 use Rattle.rules.proofs.Demands.Jobs.{lateAt, delays-same, delay-counted, demand3}
 use Rattle.rules.proofs.Replays.RowBytes.{row-length, row-other, row-running, row-user, row-next, row-call}
@@ -223,6 +224,7 @@ module _ {p : Plan} (O : Obeys p) (es : List Event) (rows : List ℕ) (room : le
           oneHolder = subst (λ f. (x y l : ℕ) → holds f x l ≡ true → holds f y l ≡ true → x ≡ y) (sym (ap figuresOf (E .state) ∙ D .figures)) (D .oneHolder);
           lazy = ap (λ (s : State). s .head .lazy) (E .state) ∙ D .lazy;
           eager = ap (λ (s : State). s .head .eager) (E .state) ∙ D .eager;
+          fair = subst (λ (s : State). s .head .lazy ≤ s .head .eager) (sym (E .state)) (fair O es a .reported);
           jobs = demand3 O es;
           delays = λ t. delay-said t ∙ delay-counted O es a t;
           bounded = λ t. omega (arith, delay-said t, delays-same O es a t, lateAt O es a .bounded t);

@@ -16,7 +16,6 @@ use Rattle.rules.specs.Books.Plan.{most, countFault, Obeys}
 use Rattle.rules.specs.Books.Load.{recordChecks, loadChecks}
 use Rattle.rules.specs.Books.Book.{countAt, tasksOf, locksOf, usesOf, eventsOf, recordEvent, eventBody, contentsChecks, eventChecks, checkOf}
 use Rattle.rules.specs.Schedulers.Figures.{Figures, priorityOf, rankOf}
-use Rattle.rules.specs.Schedulers.FiguresAfter.{eagerCalls}
 use Rattle.rules.specs.Schedulers.Eager.{runningOf}
 use Rattle.rules.specs.Demands.Bound.{mayBlock, limitIf, longestLimit, boundOf}
 use Rattle.rules.specs.Demands.History.{eventAt, eagerAt, runnerAt, acceptedAt, outranked, callsDue, lazyCount, eagerCount}
@@ -33,6 +32,7 @@ use Rattle.rules.proofs.Numbers.Row.{priority-below}
 use Rattle.rules.proofs.Numbers.Checks.{refused-not, check-none, check-finds, check-passes, check-left, check-right, clean-for}
 use Rattle.rules.proofs.Books.Obeyed.{few-tasks, base-byte, ceiling-byte}
 use Rattle.rules.proofs.Schedulers.Elect.{elected-lead, elected-some}
+use Rattle.rules.proofs.Schedulers.FiguresKept.{eager-once}
 
 -- ---- the place of a refusal of 1 to 9
 
@@ -150,15 +150,6 @@ due-once p f (Work a) = omega arith
 due-once p f Finish = omega arith
 due-once p f Tick = omega arith
 
-eager-once : (e : Event) → eagerCalls e ≤ 1
-unfolding eagerCalls
-eager-once (Release t) = omega arith
-eager-once (Acquire l) = omega arith
-eager-once (Unlock l) = omega arith
-eager-once (Work a) = omega arith
-eager-once Finish = omega arith
-eager-once Tick = omega arith
-
 module _ (p : Plan) (es : List Event) (k : ℕ) where
   pub lazy-few : lazyCount p es k ≤ k
   unfolding lazyCount
@@ -167,7 +158,8 @@ module _ (p : Plan) (es : List Event) (k : ℕ) where
 
   pub eager-few : eagerCount p es k ≤ k
   unfolding eagerCount
-  eager-few = sum-most _ k (λ j. either (λ v. v ≤ 1) (acceptedAt p es j) (eagerCalls (eventAt es j)) 0 (eager-once (eventAt es j)) (omega arith))
+  eager-few = sum-most _ k (λ j. either (λ v. v ≤ 1) (acceptedAt p es j) _ 0
+      (eager-once p (eagerAt p es j) (eagerAt p es (suc j)) (runnerAt p es j) (eventAt es j)) (omega arith))
 
 -- ---- the bound of a delay
 

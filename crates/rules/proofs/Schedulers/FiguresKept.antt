@@ -18,13 +18,13 @@ use Rattle.rules.specs.Numbers.Row.{under, pushed, has, priority}
 use Rattle.rules.specs.Books.Plan.{Obeys}
 use Rattle.rules.specs.Schedulers.Figures.{Figures, Sized, freshFigures, holds, priorityOf, rankOf}
 use Rattle.rules.specs.Schedulers.EventRefusals.{elsewhere, pastLimit, refusalOf}
-use Rattle.rules.specs.Schedulers.FiguresAfter.{eagerCalls, charged, delayed, figuresAfter}
+use Rattle.rules.specs.Schedulers.FiguresAfter.{differs, eagerCalls, charged, delayed, figuresAfter}
 use Rattle.rules.specs.Soundness.Sound.{distinct, SoundFigures}
 use Rattle.rules.specs.declared.plan.Plan.{Plan}
 use Rattle.rules.specs.declared.answer.Tested.{Tested}
 use Rattle.rules.specs.declared.event.Event.{Event}
 use Rattle.rules.specs.declared.event.Event.the-variants.{Release, Acquire, Unlock, Work, Finish, Tick}
-use Rattle.rules.proofs.Numbers.Choice.{by-test, untrue, not-so, true-and, or-false, or-true, at-or, lt-or-le}
+use Rattle.rules.proofs.Numbers.Choice.{by-test, either, untrue, not-so, true-and, or-false, or-true, at-or, lt-or-le}
 use Rattle.rules.proofs.Numbers.Place.{any-false, length-renewed, renewed-rest, renewed-at, zero-past}
 use Rattle.rules.proofs.Numbers.Row.{has-none, has-pushed, places-pushed, places-under, distinct-pushed, distinct-under}
 use Rattle.rules.proofs.Schedulers.Rules.{charged-open, charged-closed, delayed-cases, delayed-same}
@@ -81,14 +81,24 @@ accepted-moved p f r (Work a) = refl
 accepted-moved p f r Finish = refl
 accepted-moved p f r Tick = refl
 
-pub calls-moved : (p : Plan) (f : Figures) (r : ℕ) (e : Event) → figuresAfter p f r e .eager ≡ f .eager + eagerCalls e
-unfolding figuresAfter
+pub calls-moved : (p : Plan) (f : Figures) (r : ℕ) (e : Event) → figuresAfter p f r e .eager ≡ f .eager + eagerCalls p f (figuresAfter p f r e) r e
+unfolding figuresAfter eagerCalls priorityOf
 calls-moved p f r (Release t) = refl
 calls-moved p f r (Acquire l) = refl
 calls-moved p f r (Unlock l) = refl
 calls-moved p f r (Work a) = refl
 calls-moved p f r Finish = refl
 calls-moved p f r Tick = refl
+
+-- no event has more than one
+pub eager-once : (p : Plan) (f g : Figures) (r : ℕ) (e : Event) → eagerCalls p f g r e ≤ 1
+unfolding eagerCalls differs
+eager-once p f g r (Release t) = omega arith
+eager-once p f g r (Acquire l) = either (λ n. n ≤ 1) _ 0 1 (omega arith) (omega arith)
+eager-once p f g r (Unlock l) = either (λ n. n ≤ 1) _ 0 1 (omega arith) (omega arith)
+eager-once p f g r (Work a) = omega arith
+eager-once p f g r Finish = omega arith
+eager-once p f g r Tick = omega arith
 
 -- ---- what a task's priority goes by
 
@@ -341,12 +351,12 @@ module _ {p : Plan} {f : Figures} (A : Stage p f) where
           g = figuresAfter p f r (Acquire l)
 
       keep-acquire : SoundFigures p (figuresAfter p f r (Acquire l))
-      unfolding figuresAfter eagerCalls
+      unfolding figuresAfter
       keep-acquire = record {
         events = omega (arith, A .room);
         numbers = λ x. omega (arith, F .numbers x);
         differ = F .differ;
-        eager = omega (arith, F .eager);
+        eager = omega (arith, F .eager, calls-moved p f r (Acquire l), eager-once p f g r (Acquire l));
         depth = at-or (λ x. at (g .depth) x ≤ maxOpen) r (omega (arith, take-depth, o .room)) (λ x n. omega (arith, take-helds x n, F .depth x));
         known = λ x v h. ⊎-elim (λ (a, b). omega (arith, o .known)) (λ k. F .known x v k) (was x v h);
         declared = λ x v h. ⊎-elim (λ (a, b). rw (a, ← b) (o .declared)) (λ k. F .declared x v k) (was x v h);
@@ -430,12 +440,12 @@ module _ {p : Plan} {f : Figures} (A : Stage p f) where
           g = figuresAfter p f r (Unlock l)
 
       keep-unlock : SoundFigures p (figuresAfter p f r (Unlock l))
-      unfolding figuresAfter eagerCalls
+      unfolding figuresAfter
       keep-unlock = record {
         events = omega (arith, A .room);
         numbers = λ x. omega (arith, F .numbers x);
         differ = F .differ;
-        eager = omega (arith, F .eager);
+        eager = omega (arith, F .eager, calls-moved p f r (Unlock l), eager-once p f g r (Unlock l));
         depth = at-or (λ x. at (g .depth) x ≤ maxOpen) r (omega (arith, give-depth, give-was, F .depth r)) (λ x n. omega (arith, give-helds x n, F .depth x));
         known = λ x v h. F .known x v (give-open x v h);
         declared = λ x v h. F .declared x v (give-open x v h);

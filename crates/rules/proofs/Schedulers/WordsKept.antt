@@ -19,7 +19,7 @@ use Rattle.rules.specs.Numbers.Row.{newest, under, pushed, priority, sav
 use Rattle.rules.specs.Books.Plan.{Obeys}
 use Rattle.rules.specs.Schedulers.Figures.{Figures, holds, priorityOf, rankOf}
 use Rattle.rules.specs.Schedulers.Elect.{elected}
-use Rattle.rules.specs.Schedulers.FiguresAfter.{figuresAfter}
+use Rattle.rules.specs.Schedulers.FiguresAfter.{differs, eagerCalls, figuresAfter}
 use Rattle.rules.specs.Schedulers.Lazy.{Words, WordsSized, callsFor, secondWord, backOf, runsOn, switched}
 use Rattle.rules.specs.Schedulers.Lazy.{waits, afterRelease, afterAcquire, restored, afterUnlock, wordsAfter}
 use Rattle.rules.specs.Soundness.Sound.{SoundFigures, keptOf, savedOf, ownerOf, SoundWords}
@@ -319,6 +319,13 @@ module _ {p : Plan} {f : Figures} {w : Words} (B : Scene p f w) where
           ap₂ (priority (at (p .ceiling)) (at (p .base) r)) (SoundFigures.take-row A out o) (SoundFigures.take-depth A out o)
           ∙ priority-pushed (at (p .ceiling)) (at (p .base) r) (at (f .takes) r) (at (f .depth) r) l lock-byte
 
+      -- the eager calls of an acquire, by the user word before and after it
+      pub take-calls : take .eager ≡ f .eager + differs (w .user) (max (w .user) (at (p .ceiling) l))
+      unfolding eagerCalls
+      take-calls =
+          SoundFigures.calls-moved p f r (Acquire l)
+          ∙ ap (λ n. f .eager + n) (ap₂ differs (sym (user-priority n)) (omega (arith, take-priority, user-priority n)))
+
       take-saved : savedOf p take r ≡ pushed (at (w .saved) r) (w .user)
       unfolding savedOf priorityOf
       take-saved =
@@ -376,6 +383,12 @@ module _ {p : Plan} {f : Figures} {w : Words} (B : Scene p f w) where
       give-priority =
           ap newest saved-more ∙ saves-newest (at (p .ceiling)) (at (p .base) r) (base-byte O r) (ceiling-byte O) (at (f .takes) r) less
           ∙ sym (ap₂ (priority (at (p .ceiling)) (at (p .base) r)) (SoundFigures.give-row A out o) (SoundFigures.give-depth A out o))
+
+      -- the eager calls of an unlock, by the user word before it and the one that is put back
+      pub give-calls : give .eager ≡ f .eager + differs (w .user) (backOf w)
+      unfolding eagerCalls
+      give-calls =
+          SoundFigures.calls-moved p f r (Unlock l) ∙ ap (λ n. f .eager + n) (ap₂ differs (sym (user-priority n)) (sym give-priority))
 
       give-saved : under (at (w .saved) r) ≡ savedOf p give r
       unfolding savedOf less

@@ -1,4 +1,4 @@
--- RULES 18.1, 18.2: the crane plan and its runs P1 to P12, as one table under one claim. Assumes nothing.
+-- RULES 18.1, 18.2, 18.6: the crane plan and its runs P1 to P12, and one for the eager calls, as one table under one claim. Assumes nothing.
 use mathlib.Core.Bool.{Bool, true, false, _&&_}
 use mathlib.Core.List.{List, [], _∷_, _++_}
 use Prim.Native.Nat.{ℕ, suc}
@@ -21,7 +21,7 @@ use Rattle.rules.specs.Schedulers.Figures.{holds, priorityOf, rankOf}
 use Rattle.rules.specs.Schedulers.Elect.{earlier, earliest, elected}
 use Rattle.rules.specs.Schedulers.EventRefusals.{elsewhere, notNewest, pastLimit, testsOf, releaseOrder}
 use Rattle.rules.specs.Schedulers.EventRefusals.{acquireOrder, unlockOrder, workOrder, finishOrder, refusalOf}
-use Rattle.rules.specs.Schedulers.FiguresAfter.{eagerCalls, charged, delayed, figuresAfter}
+use Rattle.rules.specs.Schedulers.FiguresAfter.{differs, eagerCalls, charged, delayed, figuresAfter}
 use Rattle.rules.specs.Schedulers.Eager.{runningOf, settle, eagerTest, eagerStep}
 use Rattle.rules.specs.Schedulers.Lazy.{callsFor, runsOn, switched, waits, afterRelease, afterAcquire, restored, afterUnlock, wordsAfter, lazyCall}
 use Rattle.rules.specs.Soundness.Sound.{keptOf, savedOf, ownerOf}
@@ -35,7 +35,7 @@ use Rattle.rules.specs.Demands.Bound.{lowerAt, lowerUser, mayBlock, limi
 use Rattle.rules.specs.declared.plan.Plan.{Plan}
 use Rattle.rules.specs.declared.state.State.{State}
 use Rattle.rules.specs.declared.event.Event.{Event}
-use Rattle.rules.specs.declared.event.Event.the-variants.{Release, Acquire, Unlock, Work, Finish}
+use Rattle.rules.specs.declared.event.Event.the-variants.{Release, Acquire, Unlock, Work, Finish, Tick}
 use Rattle.rules.specs.declared.answer.Answer.{Answer}
 
 -- RULES 18.1: the bases of four tasks; the limit and ceiling of two locks; the lock and task of four uses; and the events of P1: amount, id and kind
@@ -179,6 +179,12 @@ cases =
     ∷ run (Release 0 ∷ Acquire 1 ∷ Release 1 ∷ Work 10 ∷ Work 1 ∷ [])
     ((0 ∷ 1 ∷ 0 ∷ 0 ∷ []) ∷ (0 ∷ 3 ∷ 0 ∷ 0 ∷ []) ∷ (0 ∷ 3 ∷ 3 ∷ 0 ∷ []) ∷ (0 ∷ 3 ∷ 3 ∷ 0 ∷ []) ∷ (21 ∷ []) ∷ [])
     (0 ∷ 3 ∷ 3 ∷ 0 ∷ 1 ∷ 0 ∷ 10 ∷ 0 ∷ 0 ∷ [])
+    -- RULES 18.6: of six acquires and unlocks two change a priority, and are eager calls. Lock 1 inside lock 0 changes none, nor does it for task 1, whose
+    -- base is its ceiling; and a tick is no call
+    ∷ run (Release 0 ∷ Acquire 0 ∷ Acquire 1 ∷ Unlock 1 ∷ Tick ∷ Unlock 0 ∷ Finish ∷ Release 1 ∷ Acquire 1 ∷ Unlock 1 ∷ Finish ∷ [])
+    ((0 ∷ 1 ∷ 0 ∷ 0 ∷ []) ∷ (0 ∷ 5 ∷ 0 ∷ 0 ∷ []) ∷ (0 ∷ 5 ∷ 0 ∷ 0 ∷ []) ∷ (0 ∷ 5 ∷ 0 ∷ 0 ∷ []) ∷ (0 ∷ 5 ∷ 0 ∷ 0 ∷ []) ∷ (0 ∷ 1 ∷ 0 ∷ 0 ∷ [])
+    ∷ (255 ∷ 0 ∷ 0 ∷ 0 ∷ []) ∷ (1 ∷ 3 ∷ 0 ∷ 0 ∷ []) ∷ (1 ∷ 3 ∷ 0 ∷ 0 ∷ []) ∷ (1 ∷ 3 ∷ 0 ∷ 0 ∷ []) ∷ (255 ∷ 0 ∷ 0 ∷ 0 ∷ []) ∷ [])
+    (255 ∷ 0 ∷ 0 ∷ 0 ∷ 2 ∷ 0 ∷ 0 ∷ 0 ∷ 0 ∷ [])
     ∷ []
 
 table : T (all cases)
@@ -188,7 +194,7 @@ unfolding taskNumbers lockNumbers useNumbers eventNumbers crane book endOf rowOf
     most countFault taskFault lockFault declares users usersBase ceilingFault taskFaultAt lockFaultAt countFaultOf useFault masksOf planOf recordChecks
     loadChecks sizeOf bodyAt layoutFault contentsChecks eventChecks checkOf wordBytes longBytes bookOf wholeChecks writeChecks wroteAs writeOf
     has priority saves holds priorityOf rankOf earlier earliest elected elsewhere notNewest pastLimit testsOf releaseOrder acquireOrder unlockOrder workOrder
-    finishOrder refusalOf eagerCalls charged delayed figuresAfter runningOf settle eagerTest eagerStep
+    finishOrder refusalOf differs eagerCalls charged delayed figuresAfter runningOf settle eagerTest eagerStep
     callsFor runsOn switched waits afterRelease afterAcquire restored afterUnlock wordsAfter lazyCall keptOf savedOf ownerOf
     taskObeys lockObeys spareObeys obeys rowTest ownTest numberNew numberTest taskTest lockTest runsTest headTest spareTest soundTest
     afterOf answered actOf stepOf withRow onward runFrom replayAs replayOf eagerAt lazyAt lowerAt lowerUser mayBlock limitIf longestLimit

@@ -55,12 +55,13 @@ callsDue p f (Work a) = 0
 callsDue p f Finish = 0
 callsDue p f Tick = 0
 
--- both counts, over the accepted events before place k
+-- both counts, over the accepted events before place k; the eager calls of an event go by the priorities before it and after it
 unfoldable pub lazyCount : Plan → List Event → ℕ → ℕ
 lazyCount p es k = sum (λ j. if acceptedAt p es j then callsDue p (eagerAt p es j) (eventAt es j) else 0) k
 
 unfoldable pub eagerCount : Plan → List Event → ℕ → ℕ
-eagerCount p es k = sum (λ j. if acceptedAt p es j then eagerCalls (eventAt es j) else 0) k
+eagerCount p es k =
+    sum (λ j. if acceptedAt p es j then eagerCalls p (eagerAt p es j) (eagerAt p es (suc j)) (runnerAt p es j) (eventAt es j) else 0) k
 
 -- ---- delay
 

@@ -1,4 +1,4 @@
--- RULES 14.2 and 14.3, said of what the replay of a book returns: its rows, its verdict and its state. Assumes nothing.
+-- RULES 14.2, 14.3 and 14.6, said of what the replay of a book returns: its rows, its verdict and its state. Assumes nothing.
 use mathlib.Core.Path.{_≡_}
 use mathlib.Core.Logic.{_≢_, _↔_}
 use mathlib.Core.Bool.{true}
@@ -56,10 +56,11 @@ pub record RanUpTo (p : Plan) (es : List Event) (rows : List ℕ) (ran : Ran) (a
   pub written : (k : ℕ) → k < a → RowAt p es k (at (ran .rows) (k * 4)) (at (ran .rows) (k * 4 + 1)) (at (ran .rows) (k * 4 + 2)) (at (ran .rows) (k * 4 + 3))
   pub stay : (i : ℕ) → a * 4 ≤ i → at (ran .rows) i ≡ at rows i
   pub size : length (ran .rows) ≡ length rows
-  -- no lock has two holders; both call counts are the history's
+  -- no lock has two holders; both call counts are the history's, and the lazy one is no greater than the eager one
   pub oneHolder : (x y l : ℕ) → holds (figuresOf (ran .state)) x l ≡ true → holds (figuresOf (ran .state)) y l ≡ true → x ≡ y
   pub lazy : ran .state .head .lazy ≡ lazyCount p es a
   pub eager : ran .state .head .eager ≡ eagerCount p es a
+  pub fair : ran .state .head .lazy ≤ ran .state .head .eager
   -- demand 3 holds of every job; each delay is the history's count, and never passes the bound
   pub jobs : (t i : ℕ) → Accepted p es i (Release t) → Demand3 p es t i
   pub delays : (t : ℕ) → at (ran .state .delay) t ≡ delayCount p es t a

@@ -45,7 +45,7 @@ struct recorder_state {
     uint8_t user;      /* the user word */
     uint8_t next;      /* the next word */
     uint32_t lazy;     /* the lazy scheduler's calls */
-    uint32_t eager;    /* the eager scheduler's calls */
+    uint32_t eager;    /* the eager scheduler's calls: acquires and unlocks that changed their task's priority */
     uint32_t released[RECORDER_MAX_TASKS]; /* each task's release number; 0 where it is not released */
     uint8_t kept[RECORDER_MAX_TASKS];      /* the priority that the kernel keeps for it */
     uint16_t delay[RECORDER_MAX_TASKS];    /* its delay */

@@ -37,7 +37,8 @@ use Rattle.rules.proofs.Soundness.SoundKept.{scene}
 use Rattle.kernel.specs.Lent.{steppedAs, beside, refusedAs, acceptedWith, answeredAs, acceptedAs, turnOf, wordsOn}
 use Rattle.kernel.specs.Work.{waitedBy, chargedRow}
 use Rattle.kernel.specs.Ready.{ReleaseReady, AcquireReady, UnlockReady, WorkReady, FinishReady}
-use Rattle.kernel.specs.Parts.{Outcome, acquireTested, unlockTested, workTested, ReleaseAnswered, AcquireAnswered, UnlockAnswered, WorkAnswered, FinishAnswered}
+use Rattle.kernel.specs.Parts.{Outcome, acquireTested, unlockTested, workTested}
+use Rattle.kernel.specs.Parts.{ReleaseAnswered, AcquireAnswered, UnlockAnswered, WorkAnswered, FinishAnswered}
 use Rattle.kernel.specs.declared.acted.Acted.{Acted}
 use Rattle.kernel.specs.declared.switch.Turn.{Turn}
 use Rattle.kernel.proofs.WorkLaws.{charged-row}
@@ -94,22 +95,20 @@ module _ (p : Plan) (s : State) where
 
   -- then the event's own tests
   module _ (S : SoundAndSized p s) (room : s .head .accepted < maxAccepted) where
-    answers : (e d : Event) (t : Tested) → t ≡ firstTrue (testsOf p (figuresOf s) (s .head .running) e) → d ≡ e → answeredAs t p s e ≡ actOf p s d
-    unfolding actOf refusalOf firstTrue
-    answers e d t g arm =
-        ap (λ v. answered v s (afterOf p s e) (lazyCall (wordsOf s) e))
-        (g ∙ sym (if-false (leb maxAccepted (s .head .accepted)) (Tested.Refused Exhausted) (firstTrue (testsOf p (figuresOf s) (s .head .running) e))
-        (lt-leb maxAccepted (s .head .accepted) room)))
-        ∙ ap (actOf p s) (sym arm)
+    own-tests : (e : Event) (t : Tested) → t ≡ firstTrue (testsOf p (figuresOf s) (s .head .running) e) → t ≡ refusalOf p (figuresOf s) (s .head .running) e
+    unfolding refusalOf firstTrue
+    own-tests e t g =
+        g ∙ sym (if-false (leb maxAccepted (s .head .accepted)) (Tested.Refused Exhausted) (firstTrue (testsOf p (figuresOf s) (s .head .running) e))
+        (lt-leb maxAccepted (s .head .accepted) room))
 
-    -- what passes the code's tests may be accepted
+    answers : (e d : Event) (t : Tested) → t ≡ firstTrue (testsOf p (figuresOf s) (s .head .running) e) → d ≡ e → answeredAs t p s e ≡ actOf p s d
+    unfolding actOf
+    answers e d t g arm = ap (λ v. answered v s (afterOf p s e) (lazyCall (wordsOf s) e)) (own-tests e t g) ∙ ap (actOf p s) (sym arm)
+
+    -- what passes them may be accepted
     may : (e : Event) (t : Tested) → t ≡ firstTrue (testsOf p (figuresOf s) (s .head .running) e) → t ≡ Tested.Passed
         → Allowed p (figuresOf s) (s .head .running) e
-    unfolding refusalOf firstTrue
-    may e t g passed =
-        allowed p (figuresOf s) (s .head .running) e
-        (if-false (leb maxAccepted (s .head .accepted)) (Tested.Refused Exhausted) (firstTrue (testsOf p (figuresOf s) (s .head .running) e))
-        (lt-leb maxAccepted (s .head .accepted) room) ∙ sym g ∙ passed)
+    may e t g passed = allowed p (figuresOf s) (s .head .running) e (sym (own-tests e t g) ∙ passed)
 
     -- the eager calls of an act by the user words are those of the definition
     taken : (l : ℕ) → acquireTested (s .head .running) (p .locks) l (p .uses) (s .depth) (s .owner) ≡ Tested.Passed
@@ -147,7 +146,8 @@ module _ (p : Plan) (s : State) where
       unfolding afterOf figuresAfter eagerCalls wordsAfter lazyCall
       acquire-acts l depth₂ takes₂ saved₂ owner₂ q arm o =
           o ∙ outcome (Event.Acquire l) _ r _ _ _ _ q (λ why a b. cc)
-          (λ passed d. whole _ _ _ _ (d .counted .answer) (rw (d .counted .number, d .counted .calls ∙ sym (taken l passed), d .count, d .row)) (d .words (s .kept)))
+          (λ passed d. whole _ _ _ _ (d .counted .answer)
+          (rw (d .counted .number, d .counted .calls ∙ sym (taken l passed), d .count, d .row)) (d .words (s .kept)))
           ∙ answers (Event.Acquire l) e _ (acquire-same p s S l) arm
 
       pub unlock-acts : (l : ℕ) (kept₂ depth₂ takes₂ saved₂ units₂ owner₂ : List ℕ)

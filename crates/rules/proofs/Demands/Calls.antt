@@ -39,6 +39,15 @@ use Rattle.rules.proofs.Demands.Follow.{Follows, same-test, next-above,
 
 -- ---- the call of an unlock
 
+-- who outranks r's priority in g is another task, and released
+pub outranks : (p : Plan) (f g : Figures) (r y : ℕ) → (not (eqb y r) && ltb (priorityOf p g r) (rankOf p f y)) ≡ true
+    → (y ≢ r) × (0 < at (f .released) y) × (priorityOf p g r < priorityOf p f y)
+outranks p f g r y t =
+    let (a, b) = and-true (not (eqb y r)) (ltb (priorityOf p g r) (rankOf p f y)) t in
+    let h : priorityOf p g r < rankOf p f y = ltb-true _ _ b in
+    let u : 0 < at (f .released) y = ⊎-elim (λ z. absurd (omega (arith, rank-in p f y z))) (λ u. u) (eq-zero-or-pos (at (f .released) y)) in
+    (eqb-false y r (not-true (eqb y r) a), u, omega (arith, rank-out p f y u))
+
 module _ {p : Plan} {s : State} (F : Follows p s) where
   abbrev f : Figures
   f = figuresOf s
@@ -83,11 +92,8 @@ module _ {p : Plan} {s : State} (F : Follows p s) where
 
         none : callsFor (backOf w) (w .next) ≡ false → (y : ℕ) → test y ≡ true → ⊥
         none e y t =
-            let (a, b) = and-true (not (eqb y r)) (ltb (priorityOf p (figuresAfter p f r (Unlock l)) r) (rankOf p f y)) t in
-            let m : y ≢ r = eqb-false y r (not-true (eqb y r) a) in
-            let h : priorityOf p (figuresAfter p f r (Unlock l)) r < rankOf p f y = ltb-true _ _ b in
-            let u : 0 < at (f .released) y = ⊎-elim (λ z. absurd (omega (arith, rank-in p f y z))) (λ u. u) (eq-zero-or-pos (at (f .released) y)) in
-            omega (arith, no-call (backOf w) (w .next) e, back-is, next-above F y m u, rank-out p f y u)
+            let (m, u, h) = outranks p f (figuresAfter p f r (Unlock l)) r y t in
+            omega (arith, no-call (backOf w) (w .next) e, back-is, next-above F y m u)
 
   -- ---- an accepted event counts the calls that are due
 

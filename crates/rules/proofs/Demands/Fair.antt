@@ -1,14 +1,13 @@
 -- Lazy calls never exceed eager calls: an unlock after which another task outranks the acting one has lowered the acting task's priority, since
 -- nobody outranked it before. Assumes nothing.
-use mathlib.Core.Path.{_≡_, refl, sym, _∙_, ap}
-use mathlib.Core.Logic.{_≢_, ⊎-elim}
+use mathlib.Core.Path.{_≡_, refl}
+use mathlib.Core.Logic.{_≢_}
 use mathlib.Core.Bool.{Bool, true, false, not, _&&_}
 use mathlib.Core.List.{List}
 use Prim.Native.Nat.{ℕ, zero, suc, _+_, _≤_, _<_}
-use native.Mathlib.Nat.{eq-zero-or-pos}
 use native.Mathlib.Omega.{arith}
 use lib.Dec.{eqb, ltb}
-use borrow.Author.Tests.{ltb-true, ne-eqb}
+use borrow.Author.Tests.{ne-eqb}
 use Rattle.rules.specs.Numbers.Choice.{if_then_else_}
 use Rattle.rules.specs.Numbers.Place.{at, sum}
 use Rattle.rules.specs.Books.Plan.{Obeys}
@@ -21,12 +20,12 @@ use Rattle.rules.specs.Demands.Fair.{Fair}
 use Rattle.rules.specs.declared.plan.Plan.{Plan}
 use Rattle.rules.specs.declared.event.Event.{Event}
 use Rattle.rules.specs.declared.event.Event.the-variants.{Release, Acquire, Unlock, Work, Finish, Tick}
-use Rattle.rules.proofs.Numbers.Choice.{if-true, if-false, by-test, and-true}
+use Rattle.rules.proofs.Numbers.Choice.{if-true, if-false, by-test}
 use Rattle.rules.proofs.Numbers.Place.{any-some}
 use Rattle.rules.proofs.Schedulers.Passed.{Allowed}
-use Rattle.rules.proofs.Schedulers.Rules.{rank-out, rank-in}
 use Rattle.rules.proofs.Demands.History.{allowedAt, next}
 use Rattle.rules.proofs.Demands.EagerRuled.{Ruled, runs-best, ruledAt}
+use Rattle.rules.proofs.Demands.Calls.{outranks}
 use Rattle.rules.proofs.Demands.Demand2.{demand2}
 
 -- priorities that differ are one call
@@ -44,9 +43,7 @@ module _ {p : Plan} (O : Obeys p) {f : Figures} (R : Ruled p f) where
   unfolding outranked
   lowered g top e q =
       let (y, l, t) = any-some (λ y. not (eqb y r) && ltb (priorityOf p g r) (rankOf p f y)) (p .tasks) e in
-      let h : priorityOf p g r < rankOf p f y = ltb-true _ _ (and-true (not (eqb y r)) _ t .1) in
-      let u : 0 < at (f .released) y = ⊎-elim (λ z. absurd (omega (arith, rank-in p f y z))) (λ u. u) (eq-zero-or-pos (at (f .released) y)) in
-      omega (arith, rank-out p f y u, top y u)
+      let (m, u, h) = outranks p f g r y t in omega (arith, top y u)
 
   -- an event that may be accepted
   fair-one : (e : Event) → Allowed p f r e → callsDue p f e ≤ eagerCalls p f (figuresAfter p f r e) r e

@@ -225,8 +225,8 @@ fn runs_p5_to_p12(tests: &mut Tests) {
     );
 }
 
-/// RULES 18.6, and what the twelve runs come to: of the acts only those count
-/// that change the priority of their task.
+/// RULES 18.6, and what the twelve runs come to: of acquires and unlocks only
+/// those count that change the priority of their task.
 fn eager_calls(tests: &mut Tests) {
     let counted = RUNS.map(|(name, _)| run(name).eager_calls);
     tests.expect(
@@ -240,8 +240,12 @@ fn eager_calls(tests: &mut Tests) {
         (fair.number, fair.lazy_calls, fair.eager_calls),
         (0, 0, 2),
     );
-    let every_act = answer(&FAIR, Wrong::EveryAct);
-    tests.expect("every-act: all six are calls", every_act.eager_calls, 6);
+    let every_lock_act = answer(&FAIR, Wrong::EveryLockAct);
+    tests.expect(
+        "every-lock-act: all six are calls",
+        every_lock_act.eager_calls,
+        6,
+    );
     let acquires = answer(RUNS[0].1, Wrong::AcquiresAlone);
     tests.expect("acquires-alone: P1 has one", acquires.eager_calls, 1);
 }

@@ -33,7 +33,7 @@ pub struct Outcome {
     /// How many events were accepted, and how many of these were acquires or
     /// unlocks.
     pub accepted: usize,
-    pub acts: usize,
+    pub lock_acts: usize,
     /// The first of the judge's own demands that did not hold, in words.
     pub violation: Option<String>,
 }
@@ -53,7 +53,7 @@ pub fn replay(bytes: &[u8], row_space: usize, wrong: Wrong) -> Outcome {
                 rows: vec![FILL; row_space],
             },
             accepted: 0,
-            acts: 0,
+            lock_acts: 0,
             violation: None,
         },
     }
@@ -113,12 +113,12 @@ fn run(book: &Book, row_space: usize, wrong: Wrong) -> Outcome {
             rows,
         },
         accepted,
-        acts: book.events[..accepted].iter().filter(is_act).count(),
+        lock_acts: book.events[..accepted].iter().filter(is_lock_act).count(),
         violation,
     }
 }
 
-fn is_act(event: &&Event) -> bool {
+fn is_lock_act(event: &&Event) -> bool {
     matches!(event, Event::Acquire(_) | Event::Unlock(_))
 }
 

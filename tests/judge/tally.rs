@@ -9,7 +9,7 @@ pub struct Tally {
     pub books: usize,
     accepted_events: usize,
     /// Accepted acquires and unlocks.
-    acts: usize,
+    lock_acts: usize,
     lazy_calls: u64,
     eager_calls: u64,
     answers: [usize; WORDS.len()],
@@ -25,7 +25,7 @@ impl Tally {
         let answer = &outcome.answer;
         self.books += 1;
         self.accepted_events += outcome.accepted;
-        self.acts += outcome.acts;
+        self.lock_acts += outcome.lock_acts;
         self.lazy_calls += u64::from(answer.lazy_calls);
         self.eager_calls += u64::from(answer.eager_calls);
         let number = usize::from(answer.number);
@@ -50,7 +50,7 @@ impl Tally {
             ("a lazy call", self.lazy_calls > 0),
             (
                 "an acquire or unlock that is no eager call",
-                self.acts as u64 > self.eager_calls,
+                self.lock_acts as u64 > self.eager_calls,
             ),
             ("a delay", self.delayed > 0),
             ("a delay that reaches its bound", self.at_bound > 0),
@@ -84,7 +84,7 @@ impl Tally {
              {} eager calls, {} delays ({} at their bound)",
             self.books,
             self.accepted_events,
-            self.acts,
+            self.lock_acts,
             self.lazy_calls,
             self.eager_calls,
             self.delayed,

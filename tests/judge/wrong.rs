@@ -30,8 +30,8 @@ pub enum Wrong {
     /// The word of a task that finishes stays as its kept priority.
     KeptStays,
     /// Every acquire and every unlock is an eager call.
-    EveryAct,
-    /// Of the acts that change a priority only acquires are eager calls.
+    EveryLockAct,
+    /// Of those that change a priority only acquires are eager calls.
     AcquiresAlone,
     /// The buffer's length is tested before the events.
     RoomBefore8,
@@ -55,7 +55,7 @@ pub const WRONG_WAYS: [(&str, Wrong); 16] = [
     ("delay-wraps", Wrong::DelayWraps),
     ("one-more-open", Wrong::OneMoreOpen),
     ("kept-stays", Wrong::KeptStays),
-    ("every-act", Wrong::EveryAct),
+    ("every-lock-act", Wrong::EveryLockAct),
     ("acquires-alone", Wrong::AcquiresAlone),
     ("room-before-8", Wrong::RoomBefore8),
     ("byte-after", Wrong::ByteAfter),
@@ -68,7 +68,7 @@ impl Wrong {
     /// the priority of the task that does it.
     pub fn counts(self, act: Event, changes: bool) -> bool {
         match self {
-            Wrong::EveryAct => true,
+            Wrong::EveryLockAct => true,
             Wrong::AcquiresAlone => changes && matches!(act, Event::Acquire(_)),
             _ => changes,
         }

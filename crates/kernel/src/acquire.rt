@@ -1,6 +1,6 @@
 // RULES 9.5: acquire.
 use crate::acted::Acted;
-use crate::counts::accepted_act;
+use crate::counts::accepted_with_word;
 use crate::counts::refused;
 use crate::lazy::after_acquire;
 use crate::refusals::acquire_refusal;
@@ -39,7 +39,7 @@ fn accept(
     let row = takes[x];
     takes[x] = push_on(row, l);
     let after = after_acquire(h, saved, owner, l, user_of(ceiling[y]));
-    accepted_act(h, after, false, after.user)
+    accepted_with_word(h, after, false, after.user)
 }
 
 // 12, 13, 15 to 18, or it is accepted.

@@ -44,7 +44,7 @@ fn call_count(call: bool) -> u32
     0
 }
 
-// RULES 10.2: one eager call where the priority after an act differs from the one before.
+// RULES 10.2: one eager call where the priority after an acquire or an unlock differs from before.
 fn eager_calls(before: UserPriority, after: UserPriority) -> u32
     ensures { λ r. ⌜ (r ≡ differs (before .0) (after .0)) × (r ≤ 1) ⌝ }
 {
@@ -78,7 +78,7 @@ pub fn accepted(h: Head, turn: Turn, call: bool, eager: u32) -> Acted
 
 // The same of an acquire or an unlock, after which the acting task has this word: its eager calls are
 // told from the user word before, since in a sound state both are that task's priority.
-pub fn accepted_act(h: Head, turn: Turn, call: bool, word: UserPriority) -> Acted
+pub fn accepted_with_word(h: Head, turn: Turn, call: bool, word: UserPriority) -> Acted
     requires { ⌜ Counts h ⌝ }
     ensures { λ r. ⌜ r ≡ acceptedWith h turn call (differs (h .user .0) (word .0)) ⌝ }
 {

@@ -1,6 +1,6 @@
 // RULES 9.6: unlock.
 use crate::acted::Acted;
-use crate::counts::accepted_act;
+use crate::counts::accepted_with_word;
 use crate::counts::refused;
 use crate::lazy::after_unlock;
 use crate::refusals::unlock_refusal;
@@ -45,7 +45,7 @@ fn accept(
     units[y] = 0;
     let unlocked = after_unlock(h, n, released, kept, saved, owner, l);
     let after = unlocked.turn;
-    accepted_act(h, after, unlocked.call, unlocked.back)
+    accepted_with_word(h, after, unlocked.call, unlocked.back)
 }
 
 // 12, 13, 19, or it is accepted.

@@ -1,4 +1,5 @@
--- RULES 9.4 to 9.9: what an accepted event makes of the figures, with task r running. Both schedulers use it. Assumes nothing.
+-- RULES 9.4 to 9.9 and 10.2: what an accepted event makes of the figures, its eager calls among them, with task r running. Both schedulers use it.
+-- Assumes nothing.
 use mathlib.Core.Bool.{_&&_}
 use Prim.Native.Nat.{ℕ, _+_, _-_, min}
 use lib.Dec.{eqb, ltb}
@@ -12,11 +13,11 @@ use Rattle.rules.specs.declared.plan.Plan.{Plan}
 use Rattle.rules.specs.declared.event.Event.{Event}
 use Rattle.rules.specs.declared.event.Event.the-variants.{Release, Acquire, Unlock, Work, Finish, Tick}
 
--- RULES 10.2: of two priorities, before an act and after it, one call where they differ
+-- RULES 10.2: one call where the priority before differs from the one after
 unfoldable pub differs : ℕ → ℕ → ℕ
 differs before after = if eqb before after then 0 else 1
 
--- the eager calls of an event: only an acquire or an unlock has one, where the priority of task r, which acts, differs from before. f are the figures
+-- the eager calls of an event: one for an acquire or an unlock after which the priority of task r, which acts, differs from before. f are the figures
 -- before the event, and g after it
 unfoldable pub eagerCalls : Plan → Figures → Figures → ℕ → Event → ℕ
 eagerCalls p f g r (Release t) = 0

@@ -5,11 +5,9 @@
 //!
 //!     bench [--rounds N] BOOK..
 //!
-//! Before the named books it takes one of its own, of the crane plan: there the
-//! scans over the tasks are short. It ends with 0 if both agree on every book,
-//! every writing and every step, else with 1. Times only inform.
+//! It ends with 0 if both agree on every book, every writing and every step, else
+//! with 1. Times only inform.
 
-mod crane;
 mod device;
 mod ordinary;
 mod ordinary_step;
@@ -30,7 +28,7 @@ const DEFAULT_ROUNDS: usize = 301;
 
 fn main() -> ExitCode {
     let mut rounds = DEFAULT_ROUNDS;
-    let mut books = vec![("crane".to_string(), crane::book())];
+    let mut books = Vec::new();
     let mut words = std::env::args().skip(1);
     while let Some(word) = words.next() {
         if word == "--rounds" {

@@ -76,6 +76,15 @@ pub const FAIR: [Event; 11] = [
     Release(1), Acquire(1), Unlock(1), Finish,
 ];
 
+/// So many events: P1 as often as it goes, which leaves nobody released, and
+/// then ticks.
+pub fn again_and_again(length: usize) -> Vec<Event> {
+    let (_, p1) = RUNS[0];
+    let mut events = p1.repeat(length / p1.len());
+    events.resize(length, Tick);
+    events
+}
+
 pub fn book(events: &[Event]) -> Vec<u8> {
     Draft::of(&plan(), events).bytes()
 }

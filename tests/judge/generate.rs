@@ -3,6 +3,7 @@
 //! as many events as a book can.
 
 use crate::check::{check, Checked};
+use crate::crane;
 use crate::damage;
 use crate::draft::Draft;
 use crate::event::Event;
@@ -27,6 +28,11 @@ impl Case {
 
     pub fn check(&self) -> Checked {
         check(&self.book, self.row_space)
+    }
+
+    /// Whether it is one of the benchmark's books.
+    pub fn is_full_length(&self) -> bool {
+        self.row_space == 4 * MOST_EVENTS
     }
 
     pub fn told(&self) -> String {
@@ -164,16 +170,23 @@ pub fn long(seed: u64, number: u64) -> Case {
     }
 }
 
-/// A full-length book, all of it accepted, of kind `contended` or `plain`, from
-/// a fixed seed; nothing for another kind.
+/// The kinds of full-length books, which the benchmark takes.
+pub const FULL_LENGTH: [&str; 3] = ["crane", "contended", "plain"];
+
+/// A full-length book of one of these kinds, all of it accepted, from a fixed
+/// seed; nothing for another kind.
 pub fn full_length(kind: &str) -> Option<Case> {
     let random = &mut Random::new(2001);
     let (plan, style) = match kind {
-        "contended" => (plans::contended(random), &walk::CONTENDED),
-        "plain" => (plans::plain(random), &walk::PLAIN),
+        "crane" => (crane::plan(), None),
+        "contended" => (plans::contended(random), Some(&walk::CONTENDED)),
+        "plain" => (plans::plain(random), Some(&walk::PLAIN)),
         _ => return None,
     };
-    let events = walk::walk(random, &plan, style, MOST_EVENTS, None);
+    let events = match style {
+        None => crane::again_and_again(MOST_EVENTS),
+        Some(style) => walk::walk(random, &plan, style, MOST_EVENTS, None),
+    };
     let book = Draft::of(&plan, &events).bytes();
     Some(Case {
         name: format!("full-length {kind} book"),

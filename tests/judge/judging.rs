@@ -34,9 +34,12 @@ fn judge_program(options: &Options) -> Result<Ending, String> {
     };
     let is_sure = by_hand.test();
     let all = requests::by_hand(by_hand).chain(requests::generated(options.amounts));
-    let mut program = Program::start(&options.command, all)?;
+    let mut program = Program::start(&options.commands[0], all)?;
     let mut verdict = Verdict::new(options);
-    let has_replied = program.hear(&mut verdict, false);
+    let has_replied = program.hear(|request, replies| {
+        verdict.hear(request, replies)?;
+        Ok(true)
+    });
     let has_ended = program.end();
     let is_covered = has_replied && verdict.close();
     let is_valid = is_sure && has_replied && has_ended && verdict.violations == 0;
@@ -52,9 +55,13 @@ fn judge_program(options: &Options) -> Result<Ending, String> {
 /// The judge goes wrong on purpose. Only generated requests are sent, so that
 /// the difference has to be found among them, and the first one ends the run.
 fn go_wrong(options: &Options) -> Result<Ending, String> {
-    let mut program = Program::start(&options.command, requests::generated(options.amounts))?;
+    let generated = requests::generated(options.amounts);
+    let mut program = Program::start(&options.commands[0], generated)?;
     let mut verdict = Verdict::new(options);
-    let is_whole = program.hear(&mut verdict, true);
+    let is_whole = program.hear(|request, replies| {
+        verdict.hear(request, replies)?;
+        Ok(verdict.differing == 0)
+    });
     program.kill();
     let heard = verdict.heard;
     println!("gone wrong as {:?}, after {heard} replies", options.wrong);

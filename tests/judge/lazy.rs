@@ -217,9 +217,12 @@ impl<'p> Lazy<'p> {
         // If the next word is above what was restored, this is a lazy call, and
         // the kernel switches.
         let lazy_call = match self.wrong {
-            Wrong::AtOrAbove => self.next_word >= self.user_word,
+            Wrong::AtOrAbove | Wrong::GivesWay => self.next_word >= self.user_word,
             _ => self.user_word < self.next_word,
         };
+        if self.wrong == Wrong::GivesWay && self.user_word == self.next_word {
+            self.tasks[task].release_number = self.accepted + 1;
+        }
         if lazy_call {
             self.calls += 1;
             self.switch();

@@ -6,8 +6,11 @@
 //!
 //!     judge [OPTION..] -- COMMAND ARGS..
 //!     judge --self [OPTION..]
+//!     judge --kernel [OPTION..] -- KERNEL ARGS.. -- COMMAND ARGS..
 //!     judge --write KIND FILE
 //!     judge --ways
+//!
+//! With `--kernel` the program's rows are compared with what a real kernel ran.
 //!
 //! It ends with 0 if all agrees, 3 if the program differs and nothing else is
 //! amiss, 1 if the run could not do what it had to, 2 if it was called wrongly
@@ -30,7 +33,11 @@ mod eager;
 mod event;
 mod generate;
 mod judging;
+mod kernel;
+mod kernel_tally;
+mod kernel_trial;
 mod lazy;
+mod lists;
 mod notation;
 mod own;
 mod plan;
@@ -72,13 +79,16 @@ use wrong::Wrong;
 const USAGE: &str = "\
 usage: judge [OPTION..] -- COMMAND ARGS..
        judge --self [OPTION..]
-       judge --write contended|plain FILE
+       judge --kernel [OPTION..] -- KERNEL ARGS.. -- COMMAND ARGS..
+       judge --write crane|contended|plain FILE
        judge --ways
 --seed N    of all that is generated (1)
 --count N   short books (20000)
 --long N    books of the most events (40)
 --steps N   single steps (100000)
 --writes N  books to be written (10000)
+--lists N   lists for a real kernel (100)
+--book FILE for a real kernel this book alone, event by event
 --wrong WAY the judge itself goes wrong, in one of the ways that --ways lists
 --dump FILE where the book or state of the first difference is written";
 
@@ -89,20 +99,24 @@ const DEFAULT: Amounts = Amounts {
     long: 40,
     steps: 100_000,
     writings: 10_000,
+    lists: 100,
 };
 
 pub struct Options {
     pub amounts: Amounts,
     pub wrong: Wrong,
     pub dump: Option<String>,
-    /// The program under judgement and its arguments.
-    pub command: Vec<String>,
+    pub book: Option<String>,
+    /// The program under judgement and its arguments; before it the kernel, where
+    /// one is asked.
+    pub commands: Vec<Vec<String>>,
     task: Task,
 }
 
 enum Task {
     Judge,
     JudgeSelf,
+    Kernel,
     /// A full-length book of this kind to this file.
     Write(String, String),
     Ways,
@@ -112,6 +126,11 @@ impl Options {
     /// Whether so many steps were asked for that all must be reached.
     pub fn is_full(&self) -> bool {
         self.amounts.steps >= DEFAULT.steps
+    }
+
+    /// Whether so many lists were asked for that all must be reached.
+    pub fn has_all_lists(&self) -> bool {
+        self.amounts.lists >= DEFAULT.lists
     }
 
     /// Whether the generated books, steps and writings reached all that they
@@ -127,7 +146,7 @@ impl Options {
 }
 
 /// Tells what was not reached; true if nothing is, or nothing is demanded.
-fn is_reached(by: &str, missing: &[String], is_demanded: bool) -> bool {
+pub fn is_reached(by: &str, missing: &[String], is_demanded: bool) -> bool {
     if is_demanded {
         missing.iter().for_each(|what| println!("MISSING: {what}"));
     } else {
@@ -157,6 +176,7 @@ fn carry_out(options: &Options) -> Result<Ending, String> {
     match &options.task {
         Task::Judge => judging::judge(options),
         Task::JudgeSelf => Ok(own::judge_self(options)),
+        Task::Kernel => kernel::judge(options),
         Task::Write(kind, path) => write_book(kind, path),
         Task::Ways => {
             wrong::WRONG_WAYS
@@ -172,7 +192,8 @@ fn options(words: &[String]) -> Result<Options, String> {
         amounts: DEFAULT,
         wrong: Wrong::Nothing,
         dump: None,
-        command: Vec::new(),
+        book: None,
+        commands: Vec::new(),
         task: Task::Judge,
     };
     let mut rest = words.iter();
@@ -184,28 +205,37 @@ fn options(words: &[String]) -> Result<Options, String> {
             "--long" => options.amounts.long = number(value()?)?,
             "--steps" => options.amounts.steps = number(value()?)?,
             "--writes" => options.amounts.writings = number(value()?)?,
+            "--lists" => options.amounts.lists = number(value()?)?,
             "--wrong" => {
                 let name = value()?;
                 let wrong = wrong::from_name(name);
                 options.wrong = wrong.ok_or(format!("no wrong way is called {name}"))?;
             }
             "--dump" => options.dump = Some(value()?.clone()),
+            "--book" => options.book = Some(value()?.clone()),
             "--self" => options.task = Task::JudgeSelf,
+            "--kernel" => options.task = Task::Kernel,
             "--write" => options.task = Task::Write(value()?.clone(), value()?.clone()),
             "--ways" => options.task = Task::Ways,
             "--" => {
-                options.command = rest.cloned().collect();
+                let commands: Vec<String> = rest.cloned().collect();
+                let each = commands.split(|word| word == "--");
+                options.commands = each.map(<[String]>::to_vec).collect();
                 break;
             }
             _ => return Err(format!("unknown word {word}")),
         }
     }
-    let is_judge = matches!(options.task, Task::Judge);
-    if options.command.is_empty() == is_judge {
-        return Err("a program to judge is wanted, and only then".to_string());
+    let wanted = match options.task {
+        Task::Judge => 1,
+        Task::Kernel => 2,
+        _ => 0,
+    };
+    if options.commands.len() != wanted || options.commands.iter().any(Vec::is_empty) {
+        return Err(format!("{wanted} programs are wanted"));
     }
-    if options.wrong != Wrong::Nothing && !is_judge {
-        return Err("--wrong wants a program".to_string());
+    if options.wrong != Wrong::Nothing && !matches!(options.task, Task::Judge) {
+        return Err("--wrong wants a program to judge".to_string());
     }
     Ok(options)
 }

@@ -3,8 +3,7 @@
 //! heard here. A third thread ends it if it stops replying.
 
 use crate::requests::Request;
-use crate::verdict::Verdict;
-use std::io::{BufReader, BufWriter, Read, Write};
+use std::io::{self, BufReader, BufWriter, Read, Write};
 use std::process::{Child, ChildStdin, ChildStdout, Command, ExitStatus, Stdio};
 use std::sync::atomic::{AtomicUsize, Ordering};
 use std::sync::mpsc::{self, Receiver, RecvTimeoutError, Sender};
@@ -27,9 +26,14 @@ const SPARE: u64 = 65_536;
 /// The bytes that are kept for the pipes, in either direction.
 const BUFFER: usize = 65_536;
 
+pub type Replies = BufReader<ChildStdout>;
+
+/// Whether a listener wants more, or why it could not hear.
+pub type Wish = io::Result<bool>;
+
 pub struct Program {
     child: Arc<Mutex<Child>>,
-    replies: BufReader<ChildStdout>,
+    replies: Replies,
     /// What was written to the program.
     sent: Receiver<Request>,
     writer: JoinHandle<()>,
@@ -73,17 +77,19 @@ impl Program {
         })
     }
 
-    /// Hears the replies one after another, all of them or until one differs;
-    /// false if the program did not reply to all that it had to.
-    pub fn hear(&mut self, verdict: &mut Verdict, until_one_differs: bool) -> bool {
+    /// Has the replies heard one after another, all of them or until the
+    /// listener wants no more; false if one did not come whole.
+    pub fn hear(&mut self, mut listener: impl FnMut(&Request, &mut Replies) -> Wish) -> bool {
         for request in &self.sent {
-            if let Err(error) = verdict.hear(&request, &mut self.replies) {
-                println!("{}: no whole reply: {error}", request.name());
-                return false;
-            }
+            let wish = listener(&request, &mut self.replies);
             self.heard.fetch_add(1, Ordering::Relaxed);
-            if until_one_differs && verdict.differing > 0 {
-                return true;
+            match wish {
+                Ok(true) => {}
+                Ok(false) => return true,
+                Err(error) => {
+                    println!("{}: no whole reply: {error}", request.name());
+                    return false;
+                }
             }
         }
         true

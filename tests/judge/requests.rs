@@ -31,6 +31,14 @@ pub struct Request {
 }
 
 impl Request {
+    /// The replay of a generated book.
+    pub fn replay(case: &Arc<Case>) -> Request {
+        Request {
+            ask: Ask::Replay(Arc::clone(case)),
+            source: Source::Generated,
+        }
+    }
+
     /// The request as it goes to the program.
     pub fn bytes(&self) -> Vec<u8> {
         let (command, room) = match &self.ask {
@@ -77,6 +85,8 @@ pub struct Amounts {
     pub long: u64,
     pub steps: u64,
     pub writings: u64,
+    /// Lists for a real kernel.
+    pub lists: u64,
 }
 
 /// The hand-made cases and the set pieces.
@@ -102,6 +112,7 @@ pub fn generated(amounts: Amounts) -> impl Iterator<Item = Request> {
         long,
         steps,
         writings,
+        ..
     } = amounts;
     let turns = short.max(writings).max(steps.div_ceil(STEPS_FOR_A_BOOK));
     let in_turn = (0..turns).flat_map(move |turn| {

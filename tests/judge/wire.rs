@@ -23,6 +23,12 @@
 //! u32; the room is the buffer's length in bytes. The reply is u8 number, u32
 //! place, u32 length of the book, then the whole buffer, which the program fills
 //! with the byte 0xEE before the writing.
+//!
+//! A real kernel is asked 1 as well, and has another reply (`tests/kernel`): u8
+//! ending, u32 events taken, u8 who took it for each of these (255 for nobody),
+//! u8 1 if the calls for another priority were counted, u32 how many. After the
+//! last event the end of the list is taken like an event, so a whole run has one
+//! more than the list.
 
 use crate::book::LARGEST_BOOK;
 use crate::check::Checked;
@@ -120,6 +126,46 @@ pub fn read_write(input: &mut impl Read, room: usize) -> Result<Written> {
         place,
         length,
         buffer,
+    })
+}
+
+/// How a run on a real kernel ends, by its number.
+const ENDINGS: [&str; 4] = [
+    "that was the whole run",
+    "nobody took the next one, and the run was ended",
+    "the last one could not be done by whoever took it",
+    "the list could not be started",
+];
+pub const WHOLE: u8 = 0;
+pub const SILENT: u8 = 1;
+
+/// What a real kernel made of a list.
+pub struct Run {
+    pub ending: u8,
+    /// Who took each event, which is who ran before it.
+    pub who: Vec<u8>,
+    /// The calls for another priority; nothing where they were not counted.
+    pub calls: Option<u32>,
+}
+
+impl Run {
+    pub fn ending_in_words(&self) -> &'static str {
+        let words = ENDINGS.get(usize::from(self.ending));
+        words.copied().unwrap_or("it ended in an unknown way")
+    }
+}
+
+pub fn read_run(input: &mut impl Read) -> Result<Run> {
+    let ending = read_u8(input)?;
+    let taken = read_u32(input)?;
+    let mut who = vec![0; (taken as usize).min(MOST_BYTES)];
+    input.read_exact(&mut who)?;
+    let is_counted = read_u8(input)? == 1;
+    let calls = read_u32(input)?;
+    Ok(Run {
+        ending,
+        who,
+        calls: is_counted.then_some(calls),
     })
 }
 

@@ -13,6 +13,9 @@ pub enum Wrong {
     Tail,
     /// An unlock calls also where the restored word equals the next word.
     AtOrAbove,
+    /// The same, and the task goes behind the others of its priority. From a
+    /// fresh start a call alone elects it again.
+    GivesWay,
     /// An unlock restores the base, and not the saved word.
     Base,
     /// Work counts for the newest section alone.
@@ -44,9 +47,10 @@ pub enum Wrong {
 }
 
 /// The wrong ways under the names of the command line.
-pub const WRONG_WAYS: [(&str, Wrong); 16] = [
+pub const WRONG_WAYS: [(&str, Wrong); 17] = [
     ("tail", Wrong::Tail),
     ("at-or-above", Wrong::AtOrAbove),
+    ("gives-way", Wrong::GivesWay),
     ("base", Wrong::Base),
     ("newest", Wrong::Newest),
     ("release-at-or-above", Wrong::ReleaseAtOrAbove),

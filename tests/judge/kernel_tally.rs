@@ -1,0 +1,131 @@
+//! Counting what the lists for a real kernel reach, so that its agreement means
+//! something, and the calls of both schedulers beside the kernel's own.
+
+use crate::event::Event;
+use crate::kernel_trial::Trial;
+use crate::plan::{MOST_OPEN, NOBODY};
+
+#[derive(Default)]
+pub struct KernelTally {
+    lists: usize,
+    events: usize,
+    /// Events after which another task runs than before, or nobody.
+    switches: usize,
+    /// Events after which another released task is as urgent as the running one.
+    ties: usize,
+    /// Unlocks of which this is so, and after which their task goes on.
+    unlocks_at_ties: usize,
+    /// Unlocks that are lazy calls.
+    calls: usize,
+    /// Events after which nobody runs.
+    idle: usize,
+    /// The most tasks of a plan, and the most locks that a task had open.
+    tasks: usize,
+    nest: usize,
+}
+
+impl KernelTally {
+    /// Counts a list whose events are all accepted.
+    pub fn count(&mut self, trial: &Trial) {
+        let tasks = trial.answer.delays.len();
+        self.lists += 1;
+        self.events += trial.events.len();
+        self.tasks = self.tasks.max(tasks);
+        let mut open = vec![0; tasks];
+        let mut before = NOBODY;
+        for (event, row) in trial.events.iter().zip(trial.answer.rows.chunks(4)) {
+            let (running, user, next, call) = (row[0], row[1], row[2], row[3]);
+            let is_tie = running != NOBODY && user == next;
+            match event {
+                Event::Acquire(_) => {
+                    open[usize::from(before)] += 1;
+                    self.nest = self.nest.max(open[usize::from(before)]);
+                }
+                Event::Unlock(_) => {
+                    open[usize::from(before)] -= 1;
+                    self.unlocks_at_ties += usize::from(is_tie && running == before);
+                }
+                _ => {}
+            }
+            self.switches += usize::from(running != before);
+            self.ties += usize::from(is_tie);
+            self.calls += usize::from(call);
+            self.idle += usize::from(running == NOBODY);
+            before = running;
+        }
+    }
+
+    /// What was not met and has to be for the comparison to mean much.
+    pub fn missing(&self) -> Vec<String> {
+        let wanted = [
+            ("a switch", self.switches > 0),
+            ("two tasks that are equally urgent", self.ties > 0),
+            ("an unlock that leaves them so", self.unlocks_at_ties > 0),
+            ("an unlock that is a lazy call", self.calls > 0),
+            ("nobody", self.idle > 0),
+            ("as many open locks as can be", self.nest == MOST_OPEN),
+        ];
+        let missing = wanted.iter().filter(|(_, met)| !met);
+        missing.map(|(what, _)| what.to_string()).collect()
+    }
+
+    pub fn summary(&self) -> String {
+        format!(
+            "{} lists of plans of up to {} tasks, {} events, {} switches ({} after an unlock), {} \
+             ties ({} after an unlock), nests of up to {}",
+            self.lists,
+            self.tasks,
+            self.events,
+            self.switches,
+            self.calls,
+            self.ties,
+            self.unlocks_at_ties,
+            self.nest,
+        )
+    }
+}
+
+/// The calls of both schedulers, and those of the kernel where they were counted.
+#[derive(Clone, Copy)]
+pub struct Calls {
+    lazy: u32,
+    eager: u32,
+    pub kernel: Option<u32>,
+}
+
+impl Calls {
+    pub fn of(trial: &Trial) -> Calls {
+        Calls {
+            lazy: trial.answer.lazy_calls,
+            eager: trial.answer.eager_calls,
+            kernel: trial.run.calls,
+        }
+    }
+
+    pub fn of_all(trials: &[Trial]) -> Calls {
+        let none = Calls {
+            lazy: 0,
+            eager: 0,
+            kernel: Some(0),
+        };
+        trials.iter().map(Calls::of).fold(none, |sum, one| Calls {
+            lazy: sum.lazy + one.lazy,
+            eager: sum.eager + one.eager,
+            kernel: sum.kernel.zip(one.kernel).map(|(sum, one)| sum + one),
+        })
+    }
+
+    /// Saved is what the lazy scheduler leaves out of what the eager one does.
+    pub fn print_head() {
+        println!("calls:  eager  kernel   lazy  saved");
+    }
+
+    pub fn print(self, name: &str) {
+        let Calls { lazy, eager, .. } = self;
+        let or_dash = |number: Option<u32>| number.map_or("-".to_string(), |it| it.to_string());
+        let kernel = or_dash(self.kernel);
+        let saved = (100 * eager.saturating_sub(lazy) + eager / 2).checked_div(eager);
+        let saved = saved.map_or("-".to_string(), |percent| format!("{percent} %"));
+        println!("{eager:>13} {kernel:>7} {lazy:>6} {saved:>6}  {name}");
+    }
+}

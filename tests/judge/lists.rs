@@ -1,0 +1,92 @@
+//! The lists that a real kernel is asked to run: the runs of the crane plan up to
+//! what they are refused for, the benchmark's books, and generated ones. All of
+//! their events are accepted.
+
+use crate::book;
+use crate::crane;
+use crate::draft::Draft;
+use crate::event::Event;
+use crate::generate::{full_length, Case, FULL_LENGTH};
+use crate::plan::Plan;
+use crate::plans;
+use crate::random::Random;
+use crate::walk::{self, walk};
+use crate::wrong::Wrong;
+use std::collections::BTreeSet;
+
+/// How many priorities Linux has for tasks and their ceilings: 99 for threads of
+/// its kind, and the driver has the least of them.
+const MOST_LEVELS: usize = 98;
+
+/// Generated lists have from one to so many events.
+const MOST_EVENTS: usize = 1_200;
+
+pub fn all(seed: u64, count: u64) -> Vec<Case> {
+    let books = FULL_LENGTH.iter().filter_map(|kind| full_length(kind));
+    let generated = (0..count).map(|number| list(seed, number));
+    runs().chain(books).chain(generated).collect()
+}
+
+/// The runs of the crane plan.
+fn runs() -> impl Iterator<Item = Case> {
+    let others: [(&str, &[Event]); 2] = [("nest", &crane::NEST), ("fair", &crane::FAIR)];
+    let runs = crane::RUNS.into_iter().chain(others);
+    runs.map(|(name, events)| until_refused(name.to_string(), &crane::plan(), events))
+}
+
+/// The list of a book, up to what it is refused for; nothing for a book whose
+/// events don't run at all.
+pub fn of_book(name: &str, book: &[u8]) -> Option<Case> {
+    let book = book::read(book, usize::MAX).ok()?;
+    Some(until_refused(name.to_string(), &book.plan, &book.events))
+}
+
+fn until_refused(name: String, plan: &Plan, events: &[Event]) -> Case {
+    let whole = case(name, plan, events);
+    let outcome = whole.replay(Wrong::Nothing);
+    let name = match outcome.answer.number {
+        0 => whole.name,
+        number => format!("{} up to its refusal {number}", whole.name),
+    };
+    case(name, plan, &events[..outcome.accepted])
+}
+
+/// The generated list of this number: small and large plans in turn, with deep
+/// nests, with tasks that wait for each other and without.
+fn list(seed: u64, number: u64) -> Case {
+    let random = &mut Random::for_case(seed, 5, number);
+    let (sort, style, make): (_, _, fn(&mut Random) -> Plan) = match number % 5 {
+        0 => ("any", &walk::MIXED, plans::any),
+        1 => ("any, contended", &walk::CONTENDED, plans::any),
+        2 => ("deep", &walk::DEEP, plans::deep),
+        3 => ("large, contended", &walk::CONTENDED, plans::contended),
+        _ => ("large, plain", &walk::PLAIN, plans::plain),
+    };
+    let mut plan = make(random);
+    while levels(&plan) > MOST_LEVELS {
+        plan = make(random);
+    }
+    let length = random.between(1, MOST_EVENTS);
+    let events = walk(random, &plan, style, length, None);
+    case(format!("list {number} ({sort})"), &plan, &events)
+}
+
+fn case(name: String, plan: &Plan, events: &[Event]) -> Case {
+    Case {
+        name,
+        book: Draft::of(plan, events).bytes(),
+        row_space: 4 * events.len(),
+    }
+}
+
+/// How many bases the plan has; a ceiling is one of them.
+fn levels(plan: &Plan) -> usize {
+    plan.bases.iter().collect::<BTreeSet<_>>().len()
+}
+
+/// The events of a list.
+pub fn events(case: &Case) -> Vec<Event> {
+    book::read(&case.book, case.row_space)
+        .map(|book| book.events)
+        .unwrap_or_default()
+}

@@ -30,7 +30,8 @@ impl Case {
         check(&self.book, self.row_space)
     }
 
-    /// Whether it is one of the benchmark's books.
+    /// Whether there is row space for as many events as a book can have, as for
+    /// the benchmark's books.
     pub fn is_full_length(&self) -> bool {
         self.row_space == 4 * MOST_EVENTS
     }

@@ -90,17 +90,16 @@ fn ask<T>(
 }
 
 fn conclude(options: &Options, trials: &[Trial]) -> Ending {
-    let differing = tell_differing(trials);
+    if options.book.is_some() {
+        trials.iter().for_each(Trial::show);
+    }
+    let differing = tell_differing(options, trials);
     if differing > 0 {
         println!("{differing} of {} lists DIFFER", trials.len());
         return Ending::Differs;
     }
-    if options.book.is_some() {
-        trials.iter().for_each(Trial::show);
-    }
     tell_calls(trials);
-    let is_well = options.book.is_some() || is_telling(options, trials);
-    if !is_well {
+    if options.book.is_none() && !is_telling(options, trials) {
         println!("FAILED");
         return Ending::Failed;
     }
@@ -109,14 +108,20 @@ fn conclude(options: &Options, trials: &[Trial]) -> Ending {
 }
 
 /// How many lists differ; the first ones are told.
-fn tell_differing(trials: &[Trial]) -> usize {
+fn tell_differing(options: &Options, trials: &[Trial]) -> usize {
     let mut differing = 0;
     for trial in trials {
         let found = trial.differences();
-        differing += usize::from(!found.is_empty());
-        if !found.is_empty() && differing <= TOLD {
+        if found.is_empty() {
+            continue;
+        }
+        differing += 1;
+        if differing <= TOLD {
             println!("{}:", trial.case.name);
             found.iter().for_each(|words| println!("  {words}"));
+        }
+        if differing == 1 {
+            options.write_dump(&trial.case.book);
         }
     }
     differing

@@ -47,15 +47,16 @@ impl Trial {
         expected.other_calls(&self.run).is_some()
     }
 
-    /// Each event and who ran after it, by the row and by the kernel. Rows count
-    /// from 1.
+    /// Each event and who ran after it, by the row and by the kernel. Events
+    /// count from 1, as rows do.
     pub fn show(&self) {
-        println!("{:<26}{:<10}{:<10}", "event", "row", "kernel");
-        let rows = self.answer.rows.chunks(4).map(|row| row[0]);
-        let ran = self.run.who.iter().skip(1);
-        for (at, (event, (row, ran))) in self.events.iter().zip(rows.zip(ran)).enumerate() {
+        println!("{:<26}{:<10}kernel", "event", "row");
+        for (at, event) in self.events.iter().enumerate() {
+            let (row, ran) = (self.answer.rows[4 * at], self.run.who.get(at + 1).copied());
             let event = format!("{} {event:?}", at + 1);
-            println!("{event:<26}{:<10}{:<10}", named(row), named(*ran));
+            let told = ran.map_or("-".to_string(), named);
+            let note = if ran == Some(row) { "" } else { ", differs" };
+            println!("{event:<26}{:<10}{told}{note}", named(row));
         }
     }
 }

@@ -106,6 +106,7 @@ pub struct Options {
     pub amounts: Amounts,
     pub wrong: Wrong,
     pub dump: Option<String>,
+    /// The book that a real kernel shall run, and no other list.
     pub book: Option<String>,
     /// The program under judgement and its arguments; before it the kernel, where
     /// one is asked.
@@ -131,6 +132,17 @@ impl Options {
     /// Whether so many lists were asked for that all must be reached.
     pub fn has_all_lists(&self) -> bool {
         self.amounts.lists >= DEFAULT.lists
+    }
+
+    /// Writes what differed first, if that was asked for.
+    pub fn write_dump(&self, bytes: &[u8]) {
+        let Some(path) = &self.dump else {
+            return;
+        };
+        match std::fs::write(path, bytes) {
+            Ok(()) => println!("  what was handed in is written to {path}"),
+            Err(error) => println!("  cannot write {path}: {error}"),
+        }
     }
 
     /// Whether the generated books, steps and writings reached all that they
@@ -232,7 +244,7 @@ fn options(words: &[String]) -> Result<Options, String> {
         _ => 0,
     };
     if options.commands.len() != wanted || options.commands.iter().any(Vec::is_empty) {
-        return Err(format!("{wanted} programs are wanted"));
+        return Err(format!("programs that are wanted after --: {wanted}"));
     }
     if options.wrong != Wrong::Nothing && !matches!(options.task, Task::Judge) {
         return Err("--wrong wants a program to judge".to_string());

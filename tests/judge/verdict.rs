@@ -121,18 +121,7 @@ impl<'o> Verdict<'o> {
             tell(request, found);
         }
         if self.differing == 1 {
-            self.dump(request);
-        }
-    }
-
-    /// Writes the payload of the first request whose reply differs.
-    fn dump(&self, request: &Request) {
-        let Some(path) = &self.options.dump else {
-            return;
-        };
-        match std::fs::write(path, request.payload()) {
-            Ok(()) => println!("  what was handed in is written to {path}"),
-            Err(error) => println!("  cannot write {path}: {error}"),
+            self.options.write_dump(&request.payload());
         }
     }
 

@@ -130,11 +130,12 @@ pub fn read_write(input: &mut impl Read, room: usize) -> Result<Written> {
 }
 
 /// How a run on a real kernel ends, by its number.
-const ENDINGS: [&str; 4] = [
+const ENDINGS: [&str; 5] = [
     "that was the whole run",
     "nobody took the next one, and the run was ended",
     "the last one could not be done by whoever took it",
     "the list could not be started",
+    "the process of the run ended too early",
 ];
 pub const WHOLE: u8 = 0;
 pub const SILENT: u8 = 1;

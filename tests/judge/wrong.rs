@@ -1,7 +1,8 @@
-//! Ways to go wrong on purpose: the four mistakes of RULES 18.4, others that only
-//! single steps can show, some of the count of eager calls and some of the writer
-//! of books. The judge can follow one of them; a right program must then differ
-//! from it, which shows that the judge is able to fail a program.
+//! Ways to go wrong on purpose: the four mistakes of RULES 18.4 and one close to
+//! them, others that only single steps can show, some of the count of eager calls
+//! and some of the writer of books. The judge can follow one of them; a right
+//! program must then differ from it, which shows that the judge is able to fail a
+//! program.
 
 use crate::event::Event;
 

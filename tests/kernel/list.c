@@ -12,17 +12,17 @@ static const uint8_t *body(const uint8_t *book, size_t size, size_t entry, size_
     return start <= size && *count * bytes <= size - start ? book + start : NULL;
 }
 
-/* How many of the 255 bases that there can be are in the plan and below this one. */
+/* How many bases up to this one the plan has. */
 static int rank(const struct list *list, uint8_t base) {
     bool is_there[256] = {false};
     for (size_t k = 0; k < list->tasks; k++) is_there[list->task[TASK_BYTES * k]] = true;
-    int below = 0;
-    for (unsigned other = 0; other < base; other++) below += is_there[other];
-    return below;
+    int count = 0;
+    for (unsigned other = 0; other <= base; other++) count += is_there[other];
+    return count;
 }
 
 static int priority(const struct list *list, uint8_t base) {
-    return driver_priority() + 1 + rank(list, base);
+    return driver_priority() + rank(list, base);
 }
 
 bool list_of(const uint8_t *book, size_t size, struct list *list) {

@@ -36,12 +36,10 @@ static void put(uint32_t value, int bytes) {
 }
 
 /* False where the reply cannot be written. */
-static bool reply(size_t events, const struct trace *trace) {
-    size_t taken = trace->taken;
-    if (taken > events + 1) taken = events + 1; /* others came to the end as well */
+static bool reply(const struct trace *trace) {
     put(trace->ending, 1);
-    put((uint32_t)taken, 4);
-    fwrite(trace->who, 1, taken, stdout);
+    put(trace->taken, 4);
+    fwrite(trace->who, 1, trace->taken, stdout);
     put(trace->is_counted, 1);
     put(trace->calls, 4);
     return fflush(stdout) == 0;
@@ -56,14 +54,14 @@ static bool reply_to_all(const struct options *options, struct trace *trace) {
     while ((had = fread(head, 1, sizeof head, stdin)) == sizeof head) {
         size_t size = number(head + 4);
         if (number(head) != REPLAY || size > sizeof book || fread(book, 1, size, stdin) != size) return false;
-        struct list list = {0};
+        struct list list;
         memset(trace, 0, sizeof *trace);
         if (list_of(book, size, &list)) {
             watch(&list, tasks_processor(), options->wrong, options->patience, trace);
         } else {
             trace->ending = UNABLE;
         }
-        if (!reply(list.events, trace)) return false;
+        if (!reply(trace)) return false;
     }
     return had == 0;
 }

@@ -28,15 +28,18 @@ static enum wrong wrong;
 
 static struct runner tasks[MOST_TASKS], driver = {.number = NOBODY};
 static pthread_mutex_t locks[MOST_LOCKS];
-/* A task waits for its first release; the run is over. */
+/* Posted when a task waits for its first release, and when the run is over. */
 static sem_t ready, over;
+static atomic_bool is_over;
 
 static _Noreturn void rest(void) {
     for (;;) pause();
 }
 
+/* Nobody takes an event after this. */
 static _Noreturn void end(enum ending ending) {
     trace->ending = ending;
+    is_over = true;
     sem_post(&over);
     rest();
 }
@@ -66,14 +69,14 @@ static bool act(struct runner *self, const uint8_t *event) {
 }
 
 static _Noreturn void take_events(struct runner *self) {
-    for (;;) {
+    while (!is_over) {
         size_t place = atomic_fetch_add(&trace->taken, 1);
-        if (place > list->events) rest();
         trace->who[place] = self->number;
         if (place == list->events) end(WHOLE);
         while (wrong == STAYS && place == list->events / 2) continue;
         if (!act(self, event_at(list, place))) end(OUT_OF_STEP);
     }
+    rest();
 }
 
 static void *task_thread(void *argument) {

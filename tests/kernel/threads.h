@@ -12,6 +12,7 @@ enum ending {
     SILENT,      /* nobody took the next event, and the run was ended */
     OUT_OF_STEP, /* whoever took an event could not do it */
     UNABLE,      /* the list could not be started */
+    DIED,        /* the process of the run ended too early */
 };
 
 /* Ways to go wrong on purpose. */

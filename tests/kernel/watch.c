@@ -23,8 +23,8 @@ static long long now(void) {
 }
 
 /* Waits for the end of a process, and ends it when its time is over. A process has ended when all its threads have, so none
- * is left behind. True if it ended by itself, as it should. */
-static bool ends_well(pid_t child, long patience) {
+ * is left behind. */
+static void end_in_time(pid_t child, long patience, struct trace *trace) {
     long long deadline = now() + patience * 1000000LL;
     int status;
     while (waitpid(child, &status, WNOHANG) != child) {
@@ -32,12 +32,13 @@ static bool ends_well(pid_t child, long patience) {
         if (left <= 0) {
             kill(child, SIGKILL);
             waitpid(child, &status, 0);
-            break;
+            trace->ending = SILENT;
+            return;
         }
         struct timespec time = {.tv_sec = left / 1000000000, .tv_nsec = left % 1000000000};
         sigtimedwait(&ended, NULL, &time);
     }
-    return WIFEXITED(status) && WEXITSTATUS(status) == 0;
+    if (!WIFEXITED(status) || WEXITSTATUS(status) != 0) trace->ending = DIED;
 }
 
 void watch(const struct list *list, int processor, enum wrong wrong, long patience, struct trace *trace) {
@@ -49,9 +50,9 @@ void watch(const struct list *list, int processor, enum wrong wrong, long patien
         if (getppid() != watcher) _exit(1);
         run(list, processor, wrong, trace);
     }
-    if (child < 0) {
+    if (child > 0) {
+        end_in_time(child, patience, trace);
+    } else {
         trace->ending = UNABLE;
-    } else if (!ends_well(child, patience)) {
-        trace->ending = SILENT;
     }
 }

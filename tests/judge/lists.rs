@@ -14,8 +14,8 @@ use crate::walk::{self, walk};
 use crate::wrong::Wrong;
 use std::collections::BTreeSet;
 
-/// How many priorities Linux has for tasks and their ceilings: 99 for threads of
-/// its kind, and the driver has the least of them.
+/// How many priorities there are for bases and ceilings: Linux has 99 under
+/// `SCHED_FIFO`, and the driver has the least of them.
 const MOST_LEVELS: usize = 98;
 
 /// Generated lists have from one to so many events.

@@ -122,9 +122,9 @@ impl Calls {
 
     pub fn print(self, name: &str) {
         let Calls { lazy, eager, .. } = self;
-        let or_dash = |number: Option<u32>| number.map_or("-".to_string(), |it| it.to_string());
-        let kernel = or_dash(self.kernel);
-        let saved = (100 * eager.saturating_sub(lazy) + eager / 2).checked_div(eager);
+        let kernel = self.kernel.map_or("-".to_string(), |it| it.to_string());
+        let (left_out, all) = (u64::from(eager.saturating_sub(lazy)), u64::from(eager));
+        let saved = (100 * left_out + all / 2).checked_div(all);
         let saved = saved.map_or("-".to_string(), |percent| format!("{percent} %"));
         println!("{eager:>13} {kernel:>7} {lazy:>6} {saved:>6}  {name}");
     }

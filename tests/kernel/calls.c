@@ -29,20 +29,16 @@ static void find(void) {
 }
 
 /* In a name space of its own, so that nothing of it is left when this program ends. */
-static void mount_for_this_program(void) {
-    if (unshare(CLONE_NEWNS) != 0) return;
-    if (mount(NULL, "/", NULL, MS_REC | MS_PRIVATE, NULL) != 0) return;
-    if (mount("tracefs", places[0], "tracefs", 0, NULL) != 0) return;
+static bool mount_for_this_program(void) {
+    return unshare(CLONE_NEWNS) == 0 && mount(NULL, "/", NULL, MS_REC | MS_PRIVATE, NULL) == 0 &&
+           mount("tracefs", places[0], "tracefs", 0, NULL) == 0;
 }
 
-bool calls_begin(void) {
+void calls_begin(void) {
     find();
-    if (point == 0) {
-        mount_for_this_program();
-        find();
-    }
+    if (point == 0 && mount_for_this_program()) find();
     /* This counter is never read and stays open: the kernel need not put the trace point in place anew for each list. */
-    return point != 0 && calls_open() >= 0;
+    calls_open();
 }
 
 int calls_open(void) {

@@ -6,9 +6,9 @@
 #include <stdbool.h>
 #include <stdint.h>
 
-/* Looks whether the calls can be counted here: the file system tracefs names the trace point, and this program may read it.
- * Where it is not mounted, it is for this program alone. True if they can. */
-bool calls_begin(void);
+/* To be called once, before any list. Calls can be counted where the file system tracefs names the trace point and this program
+ * may read it; where it is not mounted, it is mounted for this program alone. */
+void calls_begin(void);
 
 /* Counts the calls of the thread that asks from now on; a file descriptor, or -1. */
 int calls_open(void);

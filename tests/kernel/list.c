@@ -4,10 +4,14 @@
 
 enum { ENTRY_BYTES = 8, TASK_BYTES = 2, LOCK_BYTES = 4, EVENT_BYTES = 4 };
 
+uint32_t four_bytes(const uint8_t *bytes) {
+    return bytes[0] + ((uint32_t)bytes[1] << 8) + ((uint32_t)bytes[2] << 16) + ((uint32_t)bytes[3] << 24);
+}
+
 /* The body of one entry of the contents, from 0; nothing where it does not lie in the book. */
 static const uint8_t *body(const uint8_t *book, size_t size, size_t entry, size_t bytes, size_t *count) {
     const uint8_t *at = book + ENTRY_BYTES * entry;
-    size_t start = at[4] + ((size_t)at[5] << 8) + ((size_t)at[6] << 16) + ((size_t)at[7] << 24);
+    size_t start = four_bytes(at + 4);
     *count = at[2] + ((size_t)at[3] << 8);
     return start <= size && *count * bytes <= size - start ? book + start : NULL;
 }

@@ -15,6 +15,9 @@ enum { NOBODY = 255 };
 /* The kinds of event. */
 enum { RELEASE = 1, ACQUIRE, UNLOCK, WORK, FINISH, TICK };
 
+/* Four bytes as a number, little-endian. */
+uint32_t four_bytes(const uint8_t *bytes);
+
 struct list {
     size_t tasks, locks, events;
     const uint8_t *task, *lock, *event;

@@ -27,10 +27,6 @@ struct options {
     enum wrong wrong;
 };
 
-static uint32_t number(const uint8_t *bytes) {
-    return bytes[0] + ((uint32_t)bytes[1] << 8) + ((uint32_t)bytes[2] << 16) + ((uint32_t)bytes[3] << 24);
-}
-
 static void put(uint32_t value, int bytes) {
     for (int k = 0; k < bytes; k++) putchar((int)(value >> 8 * k & 255));
 }
@@ -52,8 +48,8 @@ static bool reply_to_all(const struct options *options, struct trace *trace) {
     uint8_t head[12];
     size_t had;
     while ((had = fread(head, 1, sizeof head, stdin)) == sizeof head) {
-        size_t size = number(head + 4);
-        if (number(head) != REPLAY || size > sizeof book || fread(book, 1, size, stdin) != size) return false;
+        size_t size = four_bytes(head + 4);
+        if (four_bytes(head) != REPLAY || size > sizeof book || fread(book, 1, size, stdin) != size) return false;
         struct list list;
         memset(trace, 0, sizeof *trace);
         if (list_of(book, size, &list)) {

@@ -50,8 +50,8 @@ static void wait_for(sem_t *sem) {
 
 /* ---- the events */
 
-/* Does an event. False where the C library will not have it, since the lock is held by another one or is held already, and
- * where the driver would have to act. */
+/* Does an event. False for an unlock by one that does not hold the lock and an acquire by one that does, which the C library
+ * refuses, and where the driver would have to act. An acquire of a lock that another one holds waits. */
 static bool act(struct runner *self, const uint8_t *event) {
     uint8_t id = event[1];
     switch (event[0]) {

@@ -1,0 +1,28 @@
+// A task's key in the tournament.
+use rules::capacity::NOBODY;
+ghost use mathlib.Core.Path.{_≡_};
+ghost use Rattle.tournament.specs.Keys.{keyOf, whoOf, wordOf};
+
+pub fn key_of(kept: u8, released: u32, t: u8) -> u64
+    ensures { λ r. ⌜ r ≡ keyOf kept released t ⌝ }
+{
+    if kept == 0 {
+        return 0;
+    }
+    let order = (released as u64) * 256 + t as u64;
+    (kept as u64) * 1099511627776 + (1099511627775 - order)
+}
+
+// The task of a key, and nobody of the key 0.
+pub fn who_of(key: u64) -> u8
+    ensures { λ r. ⌜ r ≡ whoOf key ⌝ }
+{
+    NOBODY - (key % 256) as u8
+}
+
+// The kept priority of a key.
+pub fn word_of(key: u64) -> u8
+    ensures { λ r. ⌜ r ≡ wordOf key ⌝ }
+{
+    (key / 1099511627776 % 256) as u8
+}

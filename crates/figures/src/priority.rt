@@ -55,6 +55,13 @@ pub fn above(base: KernelPriority, user: UserPriority) -> bool
     user.0 < base.0
 }
 
+// Whether one record is strictly above another.
+pub fn exceeds(a: KernelPriority, b: KernelPriority) -> bool
+    ensures { λ r. ⌜ r ≡ ltb (b .0) (a .0) ⌝ }
+{
+    b.0 < a.0
+}
+
 // The rule for a call: the word put back is strictly below the next word.
 pub fn calls_for(back: UserPriority, next: KernelPriority) -> bool
     ensures { λ r. ⌜ r ≡ callsFor (back .0) (next .0) ⌝ }

@@ -59,7 +59,7 @@ module _ (n m : ℕ) (base ceiling limit uses : List ℕ) (h : Head) (released k
   pub unlock-ready : UnlockReady h n m kept
   unlock-ready = readied.unlock-ready _ _ S room
 
-  pub work-ready : length limit ≡ maxLocks → WorkReady h n limit units
+  pub work-ready : length limit ≡ maxLocks → WorkReady h n base limit released units
   work-ready = readied.work-ready _ _ S room
 
   pub finish-ready : FinishReady h n kept

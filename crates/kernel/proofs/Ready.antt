@@ -17,17 +17,17 @@ use Rattle.rules.specs.Schedulers.Figures.{Figures, figuresOf, holds, rankOf}
 use Rattle.rules.specs.Schedulers.EventRefusals.{releaseOrder, acquireOrder, unlockOrder, workOrder, finishOrder}
 use Rattle.rules.specs.Soundness.Sound.{keptOf, savedOf, SoundAndSized}
 use Rattle.rules.specs.declared.plan.Plan.{Plan}
+use Rattle.rules.specs.declared.state.Head.{Head}
 use Rattle.rules.specs.declared.state.State.{State}
 use Rattle.rules.specs.declared.answer.Tested.{Tested}
 use Rattle.rules.specs.declared.refusal.Refusal.the-variants.{NobodyRuns, Unknown, AlreadyReleased, RowFull, NotNewest, PastLimit}
 use Rattle.rules.proofs.Numbers.Choice.{either, or-false, untrue, not-so}
-use Rattle.rules.proofs.Numbers.Place.{greatest-ext}
+use Rattle.rules.proofs.Soundness.Shortcuts.{kept-none, kept-running, next-greatest, idle-word, newcomer-other, waiting}
 use Rattle.rules.proofs.Numbers.Row.{saves-places}
-use Rattle.rules.proofs.Schedulers.Rules.{rank-in}
 use Rattle.rules.proofs.Books.Obeyed.{few-tasks, few-locks, base-byte, ceiling-byte}
 use Rattle.rules.proofs.Numbers.Order.{none-holds}
 use Rattle.kernel.specs.Work.{pastRow, Laden}
-use Rattle.kernel.specs.Ready.{Counts, ReleaseReady, AcquireReady, UnlockReady, WorkReady, FinishReady}
+use Rattle.kernel.specs.Ready.{Counts, Arrives, ReleaseReady, AcquireReady, UnlockReady, WorkReady, FinishReady}
 use Rattle.kernel.proofs.SameTests.{some-past}
 
 -- ---- the tests that were passed
@@ -35,13 +35,17 @@ use Rattle.kernel.proofs.SameTests.{some-past}
 module _ (tested : Tested) (passed : tested ≡ Tested.Passed) where
   -- release
   module _ (n t y : ℕ) (said : tested ≡ firstTrue (releaseOrder (leb n t) (ltb 0 y))) where
-    pub release-known : t < n
+    release-known : t < n
     unfolding releaseOrder testFor numberOf if_then_else_
     release-known = leb-false n t (none-holds _ (sym said ∙ passed) Unknown)
 
-    pub release-rests : (kept : List ℕ) → (y ≡ 0 → at kept t ≡ 0) → at kept t ≡ 0
+    release-rests : y ≡ 0
     unfolding releaseOrder testFor numberOf if_then_else_
-    release-rests kept h = h (omega (arith, ltb-false 0 y (none-holds _ (sym said ∙ passed) AlreadyReleased)))
+    release-rests = omega (arith, ltb-false 0 y (none-holds _ (sym said ∙ passed) AlreadyReleased))
+
+  pub release-arrives : (h : Head) (n t : ℕ) (released kept : List ℕ) → tested ≡ firstTrue (releaseOrder (leb n t) (ltb 0 (at released t)))
+      → ReleaseReady h n released kept t → Arrives h n kept t
+  release-arrives h n t released kept said R = R .arrives (release-known n t (at released t) said) (release-rests n t (at released t) said)
 
   -- acquire
   module _ (x m l k : ℕ) (undeclared mine other : Bool) (said : tested ≡ firstTrue
@@ -101,10 +105,6 @@ module _ (p : Plan) (s : State) (S : SoundAndSized p s) (room : s .head .accepte
   abbrev r : ℕ
   r = s .head .running
 
-  rests : (t : ℕ) → at (s .released) t ≡ 0 → at (s .kept) t ≡ 0
-  unfolding keptOf
-  rests t z = S .sound .words .kept t ∙ either (λ v. v ≡ 0) (eqb t r) 0 (rankOf p f t) refl (rank-in p f t z)
-
   counts : Counts (s .head)
   counts = record { room = room; lazy = S .sound .words .lazy; eager = S .sound .figures .eager }
 
@@ -112,9 +112,16 @@ module _ (p : Plan) (s : State) (S : SoundAndSized p s) (room : s .head .accepte
   release-ready t = record {
     counts = counts;
     few = few-tasks (S .sound .plan);
-    sized = S .wordsSized .kept;
-    rests = rests t;
-    next = S .sound .words .next ∙ greatest-ext (keptOf p f r) (at (s .kept)) (p .tasks) (λ x l. sym (S .sound .words .kept x));
+    arrives = λ l z. record {
+      few = few-tasks (S .sound .plan);
+      sized = S .wordsSized .kept;
+      known = l;
+      none = kept-none S t z;
+      other = newcomer-other S t l z;
+      left = kept-running S;
+      idle = idle-word S;
+      next = next-greatest S;
+    };
   }
 
   pub acquire-ready : AcquireReady (s .head) (p .locks) (s .depth) (s .takes) (s .saved)
@@ -135,8 +142,8 @@ module _ (p : Plan) (s : State) (S : SoundAndSized p s) (room : s .head .accepte
     sized = S .wordsSized .kept;
   }
 
-  pub work-ready : length (p .limit) ≡ maxLocks → WorkReady (s .head) (p .tasks) (p .limit) (s .units)
-  work-ready e = record { counts = counts; few = few-tasks (S .sound .plan); limits = e; sized = S .figuresSized .units }
+  pub work-ready : length (p .limit) ≡ maxLocks → WorkReady (s .head) (p .tasks) (p .base) (p .limit) (s .released) (s .units)
+  work-ready e = record { counts = counts; few = few-tasks (S .sound .plan); limits = e; sized = S .figuresSized .units; waiting = waiting S }
 
   -- the open sections have room for a units more, where none of them would pass its limit
   pub work-laden : (a : ℕ) → pastRow (p .limit) (s .units) a (at (s .takes) r) (at (s .depth) r) ≡ false
@@ -153,4 +160,4 @@ module _ (p : Plan) (s : State) (S : SoundAndSized p s) (room : s .head .accepte
           (sym (some-past (p .limit) (s .units) a (at (s .takes) r) (at (s .depth) r) l h o) ∙ q))
 
   pub finish-ready : FinishReady (s .head) (p .tasks) (s .kept)
-  finish-ready = record { counts = counts; few = few-tasks (S .sound .plan); sized = S .wordsSized .kept }
+  finish-ready = record { counts = counts; few = few-tasks (S .sound .plan); sized = S .wordsSized .kept; left = kept-running S }

@@ -1,14 +1,15 @@
 -- The ways through an accepted work: the delays of the tasks, and the sections along the row. Assumes nothing.
 use mathlib.Core.Path.{_≡_, refl, sym, _∙_, ap, ap₂, subst}
 use mathlib.Core.Logic.{_⊎_, inl, inr, ⊎-elim}
-use mathlib.Core.Bool.{true, false, _||_}
+use mathlib.Core.Bool.{Bool, true, false, _||_}
 use mathlib.Core.List.{List}
 use Prim.Native.Nat.{ℕ, zero, suc, _+_, _-_, _≤_, _<_, min}
 use native.Mathlib.Nat.{not-suc-le-zero}
 use native.Mathlib.Omega.{arith}
+use lib.Dec.{ltb}
 use lib.ListN.{length, set, length-set}
 use lib.Seq.{getD-set-same, getD-set-other, ext-getD}
-use borrow.Author.Tests.{ne-eqb, lt-ltb, le-ltb}
+use borrow.Author.Tests.{ne-eqb, lt-ltb, le-ltb, ltb-false}
 use Rattle.rules.specs.Numbers.Capacity.{maxLocks, maxDelay}
 use Rattle.rules.specs.Numbers.Choice.{if_then_else_}
 use Rattle.rules.specs.Numbers.Place.{at, renewed}
@@ -17,9 +18,11 @@ use Rattle.rules.specs.Schedulers.Figures.{Figures, holds}
 use Rattle.rules.specs.Schedulers.FiguresAfter.{charged}
 use native.Mathlib.Decide.{ℕ-discrete}
 use Rattle.rules.proofs.Numbers.Choice.{if-true, if-false, untrue, not-so, at-or, lt-or-le}
-use Rattle.rules.proofs.Numbers.Place.{RenewedSoFar, renewed-next, renewed-rest, renewed-at, length-renewed}
+use Rattle.rules.proofs.Numbers.Place.{RenewedSoFar, renewed-next, renewed-rest, renewed-at, renewed-same, length-renewed}
 use Rattle.rules.proofs.Numbers.Row.{has-none, has-suc, has-newest, has-under, distinct-under}
 use Rattle.kernel.proofs.SwitchLaws.{set-past}
+use Rattle.rules.specs.declared.state.Head.{Head}
+use Rattle.kernel.specs.Ready.{Waiting}
 use Rattle.kernel.specs.Work.{waitedBy, waited, chargedRow, Laden}
 
 -- ---- a task's delay
@@ -45,6 +48,23 @@ module _ (base released delay : List ℕ) (b a : ℕ) where
   waited-next n t v ys e l g = renewed-next delay (waited base released delay b a) n t v ys e l
       (g ∙ ap (λ d. waitedBy (at released t) (at base t) b d a) (ap (λ zs. at zs t) (e .1)
       ∙ renewed-rest delay (waited base released delay b a) t t 0 (omega arith)))
+
+-- nobody waits more where the next word is not above b
+pub waits-nobody : (h : Head) (n b k a : ℕ) (base released delay : List ℕ) (m : Bool) → Waiting h b base released → k ≡ b → m ≡ ltb k (h .next .0) → m ≡ false
+    → delay ≡ renewed delay (waited base released delay b a) n
+waits-nobody h n b k a base released delay m W e said z = sym (renewed-same delay (waited base released delay b a) n (λ x l. sym (stays x)))
+  where
+    low : h .next .0 ≤ b
+    low = omega (arith, ltb-false k (h .next .0) (sym said ∙ z))
+
+    stays : (x : ℕ) → at delay x ≡ waited base released delay b a x
+    stays x = ⊎-elim
+        (λ (q : 0 < at released x). waits-same (at released x) (at base x) b (at delay x) a (λ u. omega arith) (⊎-elim
+        (λ (l : b < at base x). absurd (omega (arith, W x q l, low)))
+        (λ (l : at base x ≤ b). l)
+        (lt-or-le b (at base x))))
+        (λ (q : at released x ≤ 0). waits-not (at released x) (at base x) b (at delay x) a (omega arith))
+        (lt-or-le 0 (at released x))
 
 -- ---- the sections along the row
 

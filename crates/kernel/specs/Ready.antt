@@ -1,5 +1,6 @@
 -- RULES 8: what the code of each event asks of its caller: numbers that a sound state has, and that the tests of the event do not give. Assumes nothing.
 use mathlib.Core.Path.{_≡_}
+use mathlib.Core.Logic.{_≢_}
 use mathlib.Core.List.{List}
 use Prim.Native.Nat.{ℕ, _≤_, _<_, _^_}
 use lib.ListN.{length}
@@ -13,13 +14,22 @@ pub record Counts (h : Head) : Type 0 where
   pub lazy : h .lazy ≤ h .accepted
   pub eager : h .eager ≤ h .accepted
 
--- the next word is the greatest kept priority, and task t, where it isn't released, has none
+-- a newcomer t and another task that runs, or no user word: nothing is kept for either, and the next word is the greatest kept priority
+pub record Arrives (h : Head) (n : ℕ) (kept : List ℕ) (t : ℕ) : Type 0 where
+  pub few : n ≤ maxTasks
+  pub sized : length kept ≡ maxTasks
+  pub known : t < n
+  pub none : at kept t ≡ 0
+  pub other : t ≢ h .running
+  pub left : at kept (h .running) ≡ 0
+  pub idle : n ≤ h .running → h .user .0 ≡ 0
+  pub next : h .next .0 ≡ greatest (at kept) n
+
+-- task t is such a newcomer where it is one of the plan's and not released
 pub record ReleaseReady (h : Head) (n : ℕ) (released kept : List ℕ) (t : ℕ) : Type 0 where
   pub counts : Counts h
   pub few : n ≤ maxTasks
-  pub sized : length kept ≡ maxTasks
-  pub rests : at released t ≡ 0 → at kept t ≡ 0
-  pub next : h .next .0 ≡ greatest (at kept) n
+  pub arrives : t < n → at released t ≡ 0 → Arrives h n kept t
 
 -- the running task's rows are no longer than its number of open locks
 pub record AcquireReady (h : Head) (m : ℕ) (depth takes saved : List ℕ) : Type 0 where
@@ -34,13 +44,20 @@ pub record UnlockReady (h : Head) (n m : ℕ) (kept : List ℕ) : Type 0 where
   pub locks : m ≤ maxLocks
   pub sized : length kept ≡ maxTasks
 
-pub record WorkReady (h : Head) (n : ℕ) (limit units : List ℕ) : Type 0 where
+-- a released task of greater base than the running one's is not above the next word
+abbrev pub Waiting : Head → ℕ → List ℕ → List ℕ → Type 0
+Waiting h b base released = (x : ℕ) → 0 < at released x → b < at base x → at base x ≤ h .next .0
+
+pub record WorkReady (h : Head) (n : ℕ) (base limit released units : List ℕ) : Type 0 where
   pub counts : Counts h
   pub few : n ≤ maxTasks
   pub limits : length limit ≡ maxLocks
   pub sized : length units ≡ maxLocks
+  pub waiting : Waiting h (at base (h .running)) base released
 
+-- nothing is kept for the running task
 pub record FinishReady (h : Head) (n : ℕ) (kept : List ℕ) : Type 0 where
   pub counts : Counts h
   pub few : n ≤ maxTasks
   pub sized : length kept ≡ maxTasks
+  pub left : at kept (h .running) ≡ 0

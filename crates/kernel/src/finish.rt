@@ -7,23 +7,31 @@ use crate::refusals::finish_refusal;
 use rules::answer::Tested;
 use rules::capacity::MAX_TASKS;
 use rules::state::Head;
+use tournament::tree::PLACES;
 ghost use mathlib.Core.Path.{_≡_};
-ghost use Prim.Native.Nat.{_≤_, _<_};
-ghost use lib.ListN.{length};
+ghost use Prim.Native.Nat.{_<_};
 ghost use Rattle.rules.specs.Numbers.Capacity.{maxTasks};
+ghost use Rattle.tournament.specs.Keys.{tournamentOf};
 ghost use Rattle.kernel.specs.Parts.{FinishAnswered, FinishDone};
-ghost use Rattle.kernel.specs.Ready.{Counts, FinishReady};
+ghost use Rattle.kernel.specs.Ready.{FinishReady};
 
 // The running task is released no more, and leaves.
-fn accept(h: Head, n: usize, released: &mut [u32; MAX_TASKS], kept: &mut [u8; MAX_TASKS]) -> Acted
-    requires { ⌜ Counts h × (h .running < maxTasks) × (n ≤ maxTasks) × (length (now kept) ≡ maxTasks) ⌝ }
+fn accept(
+    h: Head,
+    n: usize,
+    released: &mut [u32; MAX_TASKS],
+    kept: &mut [u8; MAX_TASKS],
+    tree: &mut [u64; PLACES],
+) -> Acted
+    requires { ⌜ FinishReady h n (now kept) × (h .running < maxTasks) × (now tree ≡ tournamentOf n (now released) (now kept)) ⌝ }
     ensures { λ r. ⌜ FinishDone h n
         (now (released .entry)) (now (kept .entry))
         r (now (released .exit)) (now (kept .exit)) ⌝ }
+    ensures { λ r. ⌜ now (tree .exit) ≡ tournamentOf n (now (released .exit)) (now (kept .exit)) ⌝ }
 {
     let x = h.running as usize;
     released[x] = 0;
-    let after = after_finish(h, n, released, kept);
+    let after = after_finish(h, n, released, kept, tree);
     accepted(h, after, false, 0)
 }
 
@@ -33,16 +41,18 @@ pub fn finish(
     n: usize,
     released: &mut [u32; MAX_TASKS],
     kept: &mut [u8; MAX_TASKS],
+    tree: &mut [u64; PLACES],
     depth: &[u8; MAX_TASKS],
 ) -> Acted
-    requires { ⌜ FinishReady h n (now kept) ⌝ }
+    requires { ⌜ FinishReady h n (now kept) × (now tree ≡ tournamentOf n (now released) (now kept)) ⌝ }
     ensures { λ r. ⌜ FinishAnswered h n
         (now (released .entry)) (now (kept .entry)) (now (depth .entry))
         r (now (released .exit)) (now (kept .exit)) ⌝ }
+    ensures { λ r. ⌜ now (tree .exit) ≡ tournamentOf n (now (released .exit)) (now (kept .exit)) ⌝ }
 {
     let tested = finish_refusal(h.running as usize, depth);
     match tested {
         Tested::Refused(why) => refused(h, why),
-        Tested::Passed => accept(h, n, released, kept),
+        Tested::Passed => accept(h, n, released, kept, tree),
     }
 }

@@ -3,12 +3,15 @@
 // protocol replaces what stands here, and nothing else.
 use crate::switch::Turn;
 use crate::switch::keep;
+use crate::switch::leave;
 use crate::switch::switch;
 use figures::priority::above;
 use figures::priority::calls_for;
+use figures::priority::exceeds;
 use figures::priority::higher;
-use figures::priority::kernel_byte;
 use figures::priority::raised;
+use figures::priority::recorded;
+use figures::priority::shown;
 use figures::row::newest_word;
 use figures::row::push_word;
 use figures::row::under_of;
@@ -17,38 +20,51 @@ use rules::capacity::MAX_TASKS;
 use rules::priority::KernelPriority;
 use rules::priority::UserPriority;
 use rules::state::Head;
+use tournament::tree::PLACES;
 ghost use mathlib.Core.Path.{_≡_};
 ghost use mathlib.Core.List.{List};
 ghost use Prim.Native.Nat.{ℕ, _≤_, _<_, _^_};
 ghost use lib.ListN.{length, set};
 ghost use Rattle.rules.specs.Numbers.Capacity.{maxLocks, maxTasks};
 ghost use Rattle.rules.specs.Schedulers.Lazy.{Words, afterRelease, switched, afterAcquire};
-ghost use Rattle.rules.specs.Numbers.Place.{at, greatest};
+ghost use Rattle.rules.specs.Numbers.Place.{at};
+ghost use Rattle.tournament.specs.Keys.{tournamentOf};
 ghost use Rattle.kernel.specs.Lent.{turned, turnOf, wordsOn};
 ghost use Rattle.kernel.specs.Parts.{UnlockWords};
+ghost use Rattle.kernel.specs.Ready.{Arrives};
 
 // Release: the kernel keeps the newcomer t's base. It switches where the user word is strictly below
-// that base, and only there.
+// that base, and only there; a newcomer above the next word too is the one that runs (RULES 8.13).
 pub fn after_release(
     h: Head,
     n: usize,
     released: &[u32; MAX_TASKS],
     kept: &mut [u8; MAX_TASKS],
-    t: usize,
+    tree: &mut [u64; PLACES],
+    t: u8,
     base: KernelPriority,
 ) -> Turn
-    requires { ⌜ (t < n) × (n ≤ maxTasks) × (length (now kept) ≡ maxTasks) ⌝ }
-    requires { ⌜ (h .next .0 ≡ greatest (at (now kept)) n) × (at (now kept) t ≡ 0) ⌝ }
+    requires { ⌜ Arrives h n (now kept) t × (now tree ≡ tournamentOf n (now released) (now kept)) ⌝ }
     ensures { λ r. ⌜ ((w : Words) → turned r (now (kept .exit)) w
         ≡ afterRelease n (now (released .entry)) (set (now (kept .entry)) t (base .0)) (base .0) (turned (turnOf h) (now (kept .entry)) w)) ⌝ }
+    ensures { λ r. ⌜ now (tree .exit) ≡ tournamentOf n (now (released .entry)) (now (kept .exit)) ⌝ }
 {
-    kept[t] = kernel_byte(base);
     let user = h.user;
-    if above(base, user) {
-        keep(kept, h.running, user);
-        return switch(n, released, kept);
-    }
     let next = h.next;
+    if above(base, user) {
+        if exceeds(base, next) {
+            let leaving = recorded(user);
+            keep(n, released, kept, tree, h.running, leaving);
+            return Turn {
+                running: t,
+                user: shown(base),
+                next: higher(next, leaving),
+            };
+        }
+        keep(n, released, kept, tree, t, base);
+        return leave(n, released, kept, tree, h.running, user);
+    }
+    keep(n, released, kept, tree, t, base);
     Turn {
         running: h.running,
         user: user,
@@ -97,13 +113,16 @@ pub fn after_unlock(
     n: usize,
     released: &[u32; MAX_TASKS],
     kept: &mut [u8; MAX_TASKS],
+    tree: &mut [u64; PLACES],
     saved: &mut [u64; MAX_TASKS],
     owner: &mut [u8; MAX_LOCKS],
     l: u8,
 ) -> Unlocked
     requires { ⌜ (h .running < maxTasks) × (l < maxLocks) × (n ≤ maxTasks) × (length (now kept) ≡ maxTasks) ⌝ }
+    requires { ⌜ now tree ≡ tournamentOf n (now released) (now kept) ⌝ }
     ensures { λ r. ⌜ UnlockWords h n l (now (released .entry)) (now (kept .entry)) (now (saved .entry)) (now (owner .entry))
         r (now (kept .exit)) (now (saved .exit)) (now (owner .exit)) ⌝ }
+    ensures { λ r. ⌜ now (tree .exit) ≡ tournamentOf n (now (released .entry)) (now (kept .exit)) ⌝ }
 {
     let x = h.running as usize;
     let y = l as usize;
@@ -113,8 +132,7 @@ pub fn after_unlock(
     owner[y] = 0;
     let next = h.next;
     if calls_for(back, next) {
-        keep(kept, h.running, back);
-        let after = switch(n, released, kept);
+        let after = leave(n, released, kept, tree, h.running, back);
         return Unlocked {
             turn: after,
             call: true,
@@ -139,11 +157,12 @@ pub fn after_finish(
     n: usize,
     released: &[u32; MAX_TASKS],
     kept: &mut [u8; MAX_TASKS],
+    tree: &mut [u64; PLACES],
 ) -> Turn
-    requires { ⌜ (h .running < maxTasks) × (n ≤ maxTasks) × (length (now kept) ≡ maxTasks) ⌝ }
+    requires { ⌜ (n ≤ maxTasks) × (length (now kept) ≡ maxTasks) × (at (now kept) (h .running) ≡ 0) ⌝ }
+    requires { ⌜ now tree ≡ tournamentOf n (now released) (now kept) ⌝ }
     ensures { λ r. ⌜ ((w : Words) → turned r (now (kept .exit)) w ≡ switched n (now (released .entry)) (set (now (kept .entry)) (h .running) 0) w) ⌝ }
+    ensures { λ r. ⌜ now (tree .exit) ≡ tournamentOf n (now (released .entry)) (now (kept .exit)) ⌝ }
 {
-    let x = h.running as usize;
-    kept[x] = 0;
-    switch(n, released, kept)
+    switch(n, released, kept, tree)
 }

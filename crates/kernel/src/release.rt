@@ -8,13 +8,11 @@ use figures::priority::kernel_of;
 use rules::answer::Tested;
 use rules::capacity::MAX_TASKS;
 use rules::state::Head;
+use tournament::tree::PLACES;
 ghost use mathlib.Core.Path.{_≡_};
-ghost use Prim.Native.Nat.{_≤_, _<_};
-ghost use lib.ListN.{length};
-ghost use Rattle.rules.specs.Numbers.Capacity.{maxTasks};
-ghost use Rattle.rules.specs.Numbers.Place.{at, greatest};
+ghost use Rattle.tournament.specs.Keys.{tournamentOf};
 ghost use Rattle.kernel.specs.Parts.{ReleaseAnswered, ReleaseDone};
-ghost use Rattle.kernel.specs.Ready.{Counts, ReleaseReady};
+ghost use Rattle.kernel.specs.Ready.{Arrives, Counts, ReleaseReady};
 
 // The newcomer t has a release number and no delay, and arrives.
 fn accept(
@@ -23,19 +21,20 @@ fn accept(
     base: &[u8; MAX_TASKS],
     released: &mut [u32; MAX_TASKS],
     kept: &mut [u8; MAX_TASKS],
+    tree: &mut [u64; PLACES],
     delay: &mut [u16; MAX_TASKS],
     t: u8,
 ) -> Acted
-    requires { ⌜ Counts h × (t < n) × (n ≤ maxTasks) × (length (now kept) ≡ maxTasks) ⌝ }
-    requires { ⌜ (h .next .0 ≡ greatest (at (now kept)) n) × (at (now kept) t ≡ 0) ⌝ }
+    requires { ⌜ Counts h × Arrives h n (now kept) t × (now tree ≡ tournamentOf n (now released) (now kept)) ⌝ }
     ensures { λ r. ⌜ ReleaseDone h n t
         (now (base .entry)) (now (released .entry)) (now (kept .entry)) (now (delay .entry))
         r (now (released .exit)) (now (kept .exit)) (now (delay .exit)) ⌝ }
+    ensures { λ r. ⌜ now (tree .exit) ≡ tournamentOf n (now (released .exit)) (now (kept .exit)) ⌝ }
 {
     let x = t as usize;
     released[x] = h.accepted + 1;
     delay[x] = 0;
-    let after = after_release(h, n, released, kept, x, kernel_of(base[x]));
+    let after = after_release(h, n, released, kept, tree, t, kernel_of(base[x]));
     accepted(h, after, false, 0)
 }
 
@@ -46,17 +45,19 @@ pub fn release(
     base: &[u8; MAX_TASKS],
     released: &mut [u32; MAX_TASKS],
     kept: &mut [u8; MAX_TASKS],
+    tree: &mut [u64; PLACES],
     delay: &mut [u16; MAX_TASKS],
     t: u8,
 ) -> Acted
-    requires { ⌜ ReleaseReady h n (now released) (now kept) t ⌝ }
+    requires { ⌜ ReleaseReady h n (now released) (now kept) t × (now tree ≡ tournamentOf n (now released) (now kept)) ⌝ }
     ensures { λ r. ⌜ ReleaseAnswered h n t
         (now (base .entry)) (now (released .entry)) (now (kept .entry)) (now (delay .entry))
         r (now (released .exit)) (now (kept .exit)) (now (delay .exit)) ⌝ }
+    ensures { λ r. ⌜ now (tree .exit) ≡ tournamentOf n (now (released .exit)) (now (kept .exit)) ⌝ }
 {
     let tested = release_refusal(n, released, t);
     match tested {
         Tested::Refused(why) => refused(h, why),
-        Tested::Passed => accept(h, n, base, released, kept, delay, t),
+        Tested::Passed => accept(h, n, base, released, kept, tree, delay, t),
     }
 }

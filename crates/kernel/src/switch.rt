@@ -1,5 +1,5 @@
-// RULES 9.10: the kernel's switch. The greatest kept priority runs, ties to the earlier release.
-use figures::priority::higher;
+// RULES 9.10: the kernel's switch. The greatest kept priority runs, ties to the earlier release. The
+// tournament beside the kept priorities says who that is, and then who is next.
 use figures::priority::kernel_byte;
 use figures::priority::kernel_of;
 use figures::priority::recorded;
@@ -8,13 +8,22 @@ use rules::capacity::MAX_TASKS;
 use rules::capacity::NOBODY;
 use rules::priority::KernelPriority;
 use rules::priority::UserPriority;
+use tournament::fits::all_bytes;
+use tournament::fits::all_words;
+use tournament::keys::key_of;
+use tournament::keys::who_of;
+use tournament::keys::word_of;
+use tournament::tree::PLACES;
+use tournament::tree::put;
+use tournament::tree::top;
 ghost use mathlib.Core.Path.{_≡_};
-ghost use Prim.Native.Nat.{_+_, _≤_, _<_};
+ghost use Prim.Native.Nat.{_≤_};
 ghost use lib.ListN.{length, set};
 ghost use Rattle.rules.specs.Numbers.Capacity.{maxTasks};
-ghost use Rattle.rules.specs.Numbers.Place.{at, greatest};
-ghost use Rattle.rules.specs.Schedulers.Elect.{earliest};
-ghost use Rattle.rules.specs.Schedulers.Lazy.{Words, runsOn, switched};
+ghost use Rattle.rules.specs.Numbers.Place.{at};
+ghost use Rattle.rules.specs.Schedulers.Elect.{elected};
+ghost use Rattle.rules.specs.Schedulers.Lazy.{Words, secondWord, switched};
+ghost use Rattle.tournament.specs.Keys.{tournamentOf};
 ghost use Rattle.kernel.specs.Lent.{idleTurn, turned};
 
 // Who runs after a switch, and the two words.
@@ -24,70 +33,56 @@ pub struct Turn {
     pub next: KernelPriority,
 }
 
-// The greatest kept priority of the first n tasks.
-fn greatest_kept(n: usize, kept: &[u8; MAX_TASKS]) -> KernelPriority
-    requires { ⌜ n ≤ maxTasks ⌝ }
-    ensures { λ r. ⌜ r .0 ≡ greatest (at (now (kept .entry))) n ⌝ }
-{
-    let mut top = KernelPriority(0);
-    let mut i: usize = 0;
-    while i < n {
-        top = higher(top, kernel_of(kept[i]));
-        i += 1;
-    }
-    top
-}
-
-// Of the first i + 1 tasks of kept priority g the one released earliest, where `who` is that of the
-// first i.
-fn with_next(
-    kept: &[u8; MAX_TASKS],
+// The kernel keeps a priority for task t, and the tournament follows; for nobody it keeps none.
+pub fn keep(
+    n: usize,
     released: &[u32; MAX_TASKS],
-    g: u8,
-    who: usize,
-    i: usize,
-) -> usize
-    requires { ⌜ (i < maxTasks) × (who ≡ earliest (at (now released)) (at (now kept)) g i) ⌝ }
-    ensures { λ r. ⌜ r ≡ earliest (at (now (released .entry))) (at (now (kept .entry))) g (i + 1) ⌝ }
+    kept: &mut [u8; MAX_TASKS],
+    tree: &mut [u64; PLACES],
+    t: u8,
+    priority: KernelPriority,
+)
+    requires { ⌜ (n ≤ maxTasks) × (length (now kept) ≡ maxTasks) × (now tree ≡ tournamentOf n (now released) (now kept)) ⌝ }
+    ensures { λ _. ⌜ (now (kept .exit) ≡ set (now (kept .entry)) t (priority .0)) × (length (now (kept .exit)) ≡ maxTasks) ⌝ }
+    ensures { λ _. ⌜ now (tree .exit) ≡ tournamentOf n (now (released .entry)) (now (kept .exit)) ⌝ }
 {
-    if kept[i] != g {
-        return who;
+    let x = t as usize;
+    if x >= MAX_TASKS {
+        return;
     }
-    if who == NOBODY as usize {
-        return i;
-    }
-    if released[i] < released[who] {
-        return i;
-    }
-    who
+    let byte = kernel_byte(priority);
+    kept[x] = byte;
+    let key = key_of(byte, released[x], t);
+    put(tree, n, x, key);
 }
 
-// Of the first n tasks of kept priority g the one released earliest.
-fn earliest_of(n: usize, kept: &[u8; MAX_TASKS], released: &[u32; MAX_TASKS], g: u8) -> usize
-    requires { ⌜ n ≤ maxTasks ⌝ }
-    ensures { λ r. ⌜ r ≡ earliest (at (now (released .entry))) (at (now (kept .entry))) g n ⌝ }
+// Of the first n tasks the one of greatest kept priority, ties to the earlier release.
+fn elect(
+    n: usize,
+    released: &[u32; MAX_TASKS],
+    kept: &[u8; MAX_TASKS],
+    tree: &[u64; PLACES],
+) -> u8
+    requires { ⌜ (n ≤ maxTasks) × (now tree ≡ tournamentOf n (now released) (now kept)) ⌝ }
+    ensures { λ r. ⌜ r ≡ elected (at (now (released .entry))) (at (now (kept .entry))) n ⌝ }
 {
-    let mut who = NOBODY as usize;
-    let mut i: usize = 0;
-    while i < n {
-        who = with_next(kept, released, g, who, i);
-        i += 1;
-    }
-    who
+    all_words(released);
+    who_of(top(tree))
 }
 
-// The task q runs: its kept priority becomes the user word, and is 0 until it leaves.
-fn run(n: usize, kept: &mut [u8; MAX_TASKS], q: usize) -> Turn
-    requires { ⌜ (n ≤ maxTasks) × (q < maxTasks) × (length (now kept) ≡ maxTasks) ⌝ }
-    ensures { λ r. ⌜ ((w : Words) → turned r (now (kept .exit)) w ≡ runsOn n (now (kept .entry)) w q) ⌝ }
+// The greatest kept priority of the first n tasks.
+fn second_word(
+    n: usize,
+    released: &[u32; MAX_TASKS],
+    kept: &[u8; MAX_TASKS],
+    tree: &[u64; PLACES],
+) -> KernelPriority
+    requires { ⌜ (n ≤ maxTasks) × (now tree ≡ tournamentOf n (now released) (now kept)) ⌝ }
+    ensures { λ r. ⌜ r .0 ≡ secondWord (now (kept .entry)) n ⌝ }
 {
-    let k = kernel_of(kept[q]);
-    kept[q] = 0;
-    Turn {
-        running: q as u8,
-        user: shown(k),
-        next: greatest_kept(n, kept),
-    }
+    all_words(released);
+    all_bytes(kept);
+    kernel_of(word_of(top(tree)))
 }
 
 // Nobody runs.
@@ -101,26 +96,43 @@ fn idle() -> Turn
     }
 }
 
-pub fn switch(n: usize, released: &[u32; MAX_TASKS], kept: &mut [u8; MAX_TASKS]) -> Turn
-    requires { ⌜ (n ≤ maxTasks) × (length (now kept) ≡ maxTasks) ⌝ }
+// The task that is elected runs: its kept priority becomes the user word, and is 0 until it leaves.
+pub fn switch(
+    n: usize,
+    released: &[u32; MAX_TASKS],
+    kept: &mut [u8; MAX_TASKS],
+    tree: &mut [u64; PLACES],
+) -> Turn
+    requires { ⌜ (n ≤ maxTasks) × (length (now kept) ≡ maxTasks) × (now tree ≡ tournamentOf n (now released) (now kept)) ⌝ }
     ensures { λ r. ⌜ ((w : Words) → turned r (now (kept .exit)) w ≡ switched n (now (released .entry)) (now (kept .entry)) w) ⌝ }
+    ensures { λ r. ⌜ now (tree .exit) ≡ tournamentOf n (now (released .entry)) (now (kept .exit)) ⌝ }
 {
-    let g = greatest_kept(n, kept);
-    if g.0 == 0 {
+    let q = elect(n, released, kept, tree);
+    if q == NOBODY {
         return idle();
     }
-    let q = earliest_of(n, kept, released, g.0);
-    run(n, kept, q)
+    let k = kernel_of(kept[q as usize]);
+    keep(n, released, kept, tree, q, KernelPriority(0));
+    Turn {
+        running: q,
+        user: shown(k),
+        next: second_word(n, released, kept, tree),
+    }
 }
 
-// The kernel keeps the word of a task that leaves; of nobody it keeps none.
-pub fn keep(kept: &mut [u8; MAX_TASKS], r: u8, word: UserPriority)
-    requires { ⌜ length (now kept) ≡ maxTasks ⌝ }
-    ensures { λ _. ⌜ (now (kept .exit) ≡ set (now (kept .entry)) r (word .0)) × (length (now (kept .exit)) ≡ maxTasks) ⌝ }
+// Task r leaves with this word, and the kernel switches.
+pub fn leave(
+    n: usize,
+    released: &[u32; MAX_TASKS],
+    kept: &mut [u8; MAX_TASKS],
+    tree: &mut [u64; PLACES],
+    r: u8,
+    word: UserPriority,
+) -> Turn
+    requires { ⌜ (n ≤ maxTasks) × (length (now kept) ≡ maxTasks) × (now tree ≡ tournamentOf n (now released) (now kept)) ⌝ }
+    ensures { λ t. ⌜ ((w : Words) → turned t (now (kept .exit)) w ≡ switched n (now (released .entry)) (set (now (kept .entry)) r (word .0)) w) ⌝ }
+    ensures { λ t. ⌜ now (tree .exit) ≡ tournamentOf n (now (released .entry)) (now (kept .exit)) ⌝ }
 {
-    let x = r as usize;
-    if x >= MAX_TASKS {
-        return;
-    }
-    kept[x] = kernel_byte(recorded(word));
+    keep(n, released, kept, tree, r, recorded(word));
+    switch(n, released, kept, tree)
 }

@@ -9,11 +9,13 @@ use rules::answer::Tested;
 use rules::capacity::MAX_LOCKS;
 use rules::capacity::MAX_TASKS;
 use rules::state::Head;
+use tournament::tree::PLACES;
 ghost use mathlib.Core.Path.{_≡_};
 ghost use Prim.Native.Nat.{_≤_, _<_};
 ghost use lib.ListN.{length};
 ghost use Rattle.rules.specs.Numbers.Capacity.{maxLocks, maxTasks};
 ghost use Rattle.rules.specs.Numbers.Place.{at};
+ghost use Rattle.tournament.specs.Keys.{tournamentOf};
 ghost use Rattle.kernel.specs.Parts.{UnlockAnswered, UnlockDone};
 ghost use Rattle.kernel.specs.Ready.{Counts, UnlockReady};
 
@@ -23,6 +25,7 @@ fn accept(
     n: usize,
     released: &[u32; MAX_TASKS],
     kept: &mut [u8; MAX_TASKS],
+    tree: &mut [u64; PLACES],
     depth: &mut [u8; MAX_TASKS],
     takes: &mut [u64; MAX_TASKS],
     saved: &mut [u64; MAX_TASKS],
@@ -32,9 +35,11 @@ fn accept(
 ) -> Acted
     requires { ⌜ Counts h × (h .running < maxTasks) × (l < maxLocks) ⌝ }
     requires { ⌜ (n ≤ maxTasks) × (0 < at (now depth) (h .running)) × (length (now kept) ≡ maxTasks) ⌝ }
+    requires { ⌜ now tree ≡ tournamentOf n (now released) (now kept) ⌝ }
     ensures { λ r. ⌜ UnlockDone h n l
         (now (released .entry)) (now (kept .entry)) (now (depth .entry)) (now (takes .entry)) (now (saved .entry)) (now (units .entry)) (now (owner .entry))
         r (now (kept .exit)) (now (depth .exit)) (now (takes .exit)) (now (saved .exit)) (now (units .exit)) (now (owner .exit)) ⌝ }
+    ensures { λ r. ⌜ now (tree .exit) ≡ tournamentOf n (now (released .entry)) (now (kept .exit)) ⌝ }
 {
     let x = h.running as usize;
     let y = l as usize;
@@ -43,7 +48,7 @@ fn accept(
     let row = takes[x];
     takes[x] = under_of(row);
     units[y] = 0;
-    let unlocked = after_unlock(h, n, released, kept, saved, owner, l);
+    let unlocked = after_unlock(h, n, released, kept, tree, saved, owner, l);
     let after = unlocked.turn;
     accepted_with_word(h, after, unlocked.call, unlocked.back)
 }
@@ -55,6 +60,7 @@ pub fn unlock(
     m: usize,
     released: &[u32; MAX_TASKS],
     kept: &mut [u8; MAX_TASKS],
+    tree: &mut [u64; PLACES],
     depth: &mut [u8; MAX_TASKS],
     takes: &mut [u64; MAX_TASKS],
     saved: &mut [u64; MAX_TASKS],
@@ -62,14 +68,27 @@ pub fn unlock(
     owner: &mut [u8; MAX_LOCKS],
     l: u8,
 ) -> Acted
-    requires { ⌜ UnlockReady h n m (now kept) ⌝ }
+    requires { ⌜ UnlockReady h n m (now kept) × (now tree ≡ tournamentOf n (now released) (now kept)) ⌝ }
     ensures { λ r. ⌜ UnlockAnswered h n m l
         (now (released .entry)) (now (kept .entry)) (now (depth .entry)) (now (takes .entry)) (now (saved .entry)) (now (units .entry)) (now (owner .entry))
         r (now (kept .exit)) (now (depth .exit)) (now (takes .exit)) (now (saved .exit)) (now (units .exit)) (now (owner .exit)) ⌝ }
+    ensures { λ r. ⌜ now (tree .exit) ≡ tournamentOf n (now (released .entry)) (now (kept .exit)) ⌝ }
 {
     let tested = unlock_refusal(h.running as usize, m, depth, takes, l);
     match tested {
         Tested::Refused(why) => refused(h, why),
-        Tested::Passed => accept(h, n, released, kept, depth, takes, saved, units, owner, l),
+        Tested::Passed => accept(
+            h,
+            n,
+            released,
+            kept,
+            tree,
+            depth,
+            takes,
+            saved,
+            units,
+            owner,
+            l,
+        ),
     }
 }

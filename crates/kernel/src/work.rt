@@ -4,6 +4,8 @@ use crate::counts::accepted;
 use crate::counts::refused;
 use crate::counts::turn_of;
 use crate::refusals::work_refusal;
+use figures::priority::exceeds;
+use figures::priority::kernel_of;
 use figures::row::newest_of;
 use figures::row::under_of;
 use rules::answer::Tested;
@@ -18,7 +20,7 @@ ghost use Rattle.rules.specs.Numbers.Capacity.{maxDelay, maxLocks, maxTasks};
 ghost use Rattle.rules.specs.Numbers.Place.{at, renewed};
 ghost use Rattle.kernel.specs.Work.{chargedRow, waited, waitedBy};
 ghost use Rattle.kernel.specs.Parts.{WorkAnswered, WorkDone};
-ghost use Rattle.kernel.specs.Ready.{Counts, WorkReady};
+ghost use Rattle.kernel.specs.Ready.{Counts, Waiting, WorkReady};
 
 // A sum that sticks at 65,535.
 fn stick(a: u16, b: u16) -> u16
@@ -61,6 +63,26 @@ fn delays(
         let d = delay_of(released[t], base[t], b, delay[t], a);
         delay[t] = d;
         t += 1;
+    }
+}
+
+// The same, and without a walk where the next word is not above b: then nobody of greater base is
+// released (RULES 8.13).
+fn waits(
+    h: Head,
+    n: usize,
+    base: &[u8; MAX_TASKS],
+    released: &[u32; MAX_TASKS],
+    delay: &mut [u16; MAX_TASKS],
+    b: u8,
+    a: u16,
+)
+    requires { ⌜ (n ≤ maxTasks) × Waiting h b (now base) (now released) ⌝ }
+    ensures { λ _. ⌜ now (delay .exit) ≡ renewed (now (delay .entry)) (waited (now (base .entry)) (now (released .entry)) (now (delay .entry)) b a) n ⌝ }
+{
+    let next = h.next;
+    if exceeds(next, kernel_of(b)) {
+        delays(n, base, released, delay, b, a);
     }
 }
 
@@ -107,12 +129,13 @@ fn accept(
     a: u16,
 ) -> Acted
     requires { ⌜ Counts h × (h .running < maxTasks) × (n ≤ maxTasks) × (length (now units) ≡ maxLocks) ⌝ }
+    requires { ⌜ Waiting h (at (now base) (h .running)) (now base) (now released) ⌝ }
     ensures { λ r. ⌜ WorkDone h n a
         (now (base .entry)) (now (released .entry)) (now (delay .entry)) (now (depth .entry)) (now (takes .entry)) (now (units .entry))
         r (now (delay .exit)) (now (units .exit)) ⌝ }
 {
     let x = h.running as usize;
-    delays(n, base, released, delay, base[x], a);
+    waits(h, n, base, released, delay, base[x], a);
     charge(units, takes[x], depth[x], a);
     let turn = turn_of(h);
     accepted(h, turn, false, 0)
@@ -131,7 +154,7 @@ pub fn work(
     units: &mut [u16; MAX_LOCKS],
     a: u16,
 ) -> Acted
-    requires { ⌜ WorkReady h n (now limit) (now units) ⌝ }
+    requires { ⌜ WorkReady h n (now base) (now limit) (now released) (now units) ⌝ }
     ensures { λ r. ⌜ WorkAnswered h n a
         (now (base .entry)) (now (limit .entry)) (now (released .entry)) (now (delay .entry)) (now (depth .entry)) (now (takes .entry)) (now (units .entry))
         r (now (delay .exit)) (now (units .exit)) ⌝ }

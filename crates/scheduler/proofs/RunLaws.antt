@@ -2,12 +2,13 @@
 use mathlib.Core.Path.{_≡_, refl, sym, _∙_, ap, subst}
 use mathlib.Core.Bool.{Bool, true, false}
 use mathlib.Core.List.{List}
-use Prim.Native.Nat.{ℕ, suc, _+_, _-_, _^_, _<_}
+use Prim.Native.Nat.{ℕ, suc, _+_, _-_, _^_, _≤_, _<_}
 use native.Mathlib.Numerals.{add-one}
 use native.Mathlib.Omega.{arith}
 use lib.Dec.{eqb, ltb}
 use lib.ListN.{length}
 use borrow.Author.Tests.{ltb-true, ltb-false, eqb-true}
+use Rattle.rules.specs.Numbers.Capacity.{maxTasks}
 use Rattle.rules.specs.Numbers.Place.{from}
 use Rattle.rules.specs.Soundness.Sound.{SoundAndSized}
 use Rattle.rules.specs.Schedulers.State.{freshOf}
@@ -22,6 +23,7 @@ use Rattle.rules.specs.declared.answer.Stepped.{Stepped}
 use Rattle.rules.specs.declared.answer.Verdict.{Verdict}
 use Rattle.rules.proofs.Numbers.Choice.{if-true, if-false, by-test, untrue}
 use Rattle.rules.proofs.Numbers.Place.{from-same}
+use Rattle.rules.proofs.Books.Obeyed.{few-tasks}
 use Rattle.rules.proofs.Replays.RowBytes.{row-length}
 use Rattle.rules.proofs.Soundness.SoundKept.{act-sound, step-act}
 use Rattle.scheduler.specs.Going.{rowsAfter, stoppedAt, turnedAs, eventIn, eventOn, goesOn, leftFrom, TurnReady, RunReady, Going}
@@ -34,6 +36,10 @@ on-passed v k n e = rw e
 pub on-refused : (v : Verdict) (why : Refusal) (place k n : ℕ) → v ≡ Verdict.Refused why place → false ≡ goesOn v k n
 unfolding goesOn
 on-refused v why place k n e = rw e
+
+-- the tournament that is made at the start
+pub made-tree : (p : Plan) (s : State) (n : ℕ) (rows tree made : List ℕ) → RunReady p s n rows → (p .tasks ≤ maxTasks → made ≡ tree) → made ≡ tree
+made-tree p s n rows tree made R e = e (few-tasks (R .sound .sound .plan))
 
 module _ (p : Plan) (events : ℕ → Event) (n : ℕ) (first : State) (start : List ℕ) where
   pub going-start : RunReady p first n start → n < 2 ^ 64 → Going p events n first start 0 (record { verdict = Verdict.Passed; state = first; rows = start })

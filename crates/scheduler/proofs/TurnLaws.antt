@@ -2,15 +2,17 @@
 use mathlib.Core.Path.{_≡_, refl, sym, _∙_, ap}
 use mathlib.Core.Bool.{Bool}
 use mathlib.Core.List.{List}
-use Prim.Native.Nat.{ℕ, _+_, _*_}
-use lib.ListN.{set}
+use Prim.Native.Nat.{ℕ, _+_, _*_, _≤_}
+use lib.ListN.{length, set}
 use lib.Dec.{eqb}
 use borrow.Author.Tests.{eq-eqb, ne-eqb}
+use Rattle.rules.specs.Numbers.Capacity.{maxLocks}
 use Rattle.rules.specs.Numbers.Choice.{if_then_else_}
 use Rattle.rules.specs.Numbers.Answer.{foundEvent}
 use Rattle.rules.specs.Books.Book.{foundAt}
 use Rattle.rules.specs.Replays.Run.{Ran, withRow}
 use Rattle.rules.specs.Replays.Step.{actOf}
+use Rattle.rules.specs.Soundness.Sound.{SoundAndSized}
 use Rattle.rules.specs.declared.plan.Plan.{Plan}
 use Rattle.rules.specs.declared.state.Head.{Head}
 use Rattle.rules.specs.declared.state.State.{State}
@@ -22,7 +24,7 @@ use Rattle.rules.specs.declared.answer.Found.{Found}
 use Rattle.rules.specs.declared.answer.Stepped.{Stepped}
 use Rattle.rules.specs.declared.answer.Verdict.{Verdict}
 use Rattle.rules.proofs.Numbers.Choice.{if-yes, if-no}
-use Rattle.scheduler.specs.Going.{rowsAfter, stoppedAt, turnedAs, eventIn, eventOn}
+use Rattle.scheduler.specs.Going.{TurnReady, rowsAfter, stoppedAt, turnedAs, eventIn, eventOn}
 
 -- ---- the event at a place
 
@@ -71,6 +73,17 @@ stops-accepted a call k e = rw e
 pub stops-refused : (a : Answer) (why : Refusal) (k : ℕ) → a ≡ Answer.Refused why → Verdict.Refused why k ≡ stoppedAt a k
 unfolding stoppedAt
 stops-refused a why k e = rw e
+
+-- what the act and its row ask for
+module _ (p : Plan) (s : State) (rows : List ℕ) (k : ℕ) (R : TurnReady p s rows k) where
+  pub turn-sound : SoundAndSized p s
+  turn-sound = R .sound
+
+  pub turn-limits : length (p .limit) ≡ maxLocks
+  turn-limits = R .limits
+
+  pub turn-room : k * 4 + 4 ≤ length rows
+  turn-room = R .room
 
 -- the act, its row and what the run then comes to
 pub turn-acts : (p : Plan) (s : State) (k : ℕ) (rows : List ℕ) (e : Event) (r : Stepped) (v : Verdict) (rows₂ : List ℕ) (event : Event) (ran : Ran)

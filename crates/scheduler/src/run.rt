@@ -11,6 +11,7 @@ use rules::plan::Plan;
 use rules::state::Head;
 use rules::state::State;
 use rules::state::fresh;
+use tournament::build::build;
 ghost use mathlib.Core.Path.{_≡_};
 ghost use Rattle.rules.specs.Numbers.Place.{from};
 ghost use Rattle.rules.specs.Replays.Replay.{ranAs};
@@ -30,7 +31,7 @@ fn goes_on(ended: Ended, k: usize, c: usize) -> bool
     }
 }
 
-// The turns of c events, from any sound state.
+// The turns of c events, from any sound state. The tournament is made here, and is nowhere else.
 fn turns(
     h: Head,
     n: usize,
@@ -61,6 +62,7 @@ fn turns(
         (stateWith h (now (released .entry)) (now (kept .entry)) (now (delay .entry)) (now (depth .entry)) (now (takes .entry)) (now (saved .entry))
         (now (units .entry)) (now (owner .entry))) (now (rows .entry)) ⌝ }
 {
+    let mut tree = build(n, released, kept);
     let mut ended = Ended {
         verdict: Verdict::Passed,
         head: h,
@@ -84,6 +86,7 @@ fn turns(
             saved,
             units,
             owner,
+            &mut tree,
             first,
             body,
             rows,

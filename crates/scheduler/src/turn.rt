@@ -10,6 +10,7 @@ use rules::capacity::MAX_LOCKS;
 use rules::capacity::MAX_TASKS;
 use rules::event::Event;
 use rules::state::Head;
+use tournament::tree::PLACES;
 ghost use mathlib.Core.Path.{_≡_};
 ghost use Prim.Native.Nat.{_+_, _*_, _≤_};
 ghost use lib.ListN.{length};
@@ -17,6 +18,7 @@ ghost use Rattle.rules.specs.Numbers.Choice.{if_then_else_};
 ghost use Rattle.rules.specs.Replays.Run.{withRow};
 ghost use Rattle.rules.specs.Replays.Step.{actOf};
 ghost use Rattle.rules.specs.Schedulers.Whole.{planWith, stateWith};
+ghost use Rattle.tournament.specs.Keys.{tournamentOf};
 ghost use Rattle.scheduler.specs.Going.{TurnReady, endedAs, eventIn, eventOn, rowsAfter, stoppedAt, turnedAs};
 
 // What the run has come to, beside the arrays that it is lent.
@@ -117,6 +119,7 @@ pub fn turn(
     saved: &mut [u64; MAX_TASKS],
     units: &mut [u16; MAX_LOCKS],
     owner: &mut [u8; MAX_LOCKS],
+    tree: &mut [u64; PLACES],
     first: Event,
     body: &[u8],
     rows: &mut [u8],
@@ -124,12 +127,14 @@ pub fn turn(
 ) -> Ended
     requires { ⌜ TurnReady (planWith n m (now base) (now ceiling) (now limit) (now uses))
         (stateWith h (now released) (now kept) (now delay) (now depth) (now takes) (now saved) (now units) (now owner)) (now rows) k ⌝ }
+    requires { ⌜ now tree ≡ tournamentOf n (now released) (now kept) ⌝ }
     ensures { λ r. ⌜ endedAs r (now (released .exit)) (now (kept .exit)) (now (delay .exit)) (now (depth .exit)) (now (takes .exit)) (now (saved .exit))
         (now (units .exit)) (now (owner .exit)) (now (rows .exit))
         ≡ turnedAs (actOf (planWith n m (now (base .entry)) (now (ceiling .entry)) (now (limit .entry)) (now (uses .entry)))
         (stateWith h (now (released .entry)) (now (kept .entry)) (now (delay .entry)) (now (depth .entry)) (now (takes .entry)) (now (saved .entry))
         (now (units .entry)) (now (owner .entry)))
         (eventOn first (now (body .entry)) k)) k (now (rows .entry)) ⌝ }
+    ensures { λ r. ⌜ now (tree .exit) ≡ tournamentOf n (now (released .exit)) (now (kept .exit)) ⌝ }
 {
     let e = event_on(first, body, k);
     let acted = act(
@@ -148,6 +153,7 @@ pub fn turn(
         saved,
         units,
         owner,
+        tree,
         e,
     );
     let answer = acted.answer;

@@ -115,6 +115,6 @@ module _ (n : ℕ) (released kept tree : List ℕ) (few : n ≤ maxTasks) (held 
   pub root-elects : (root r : ℕ) → ((x : ℕ) → at released x < 2 ^ 32) → Root tree root → r ≡ whoOf root → r ≡ elected (at released) (at kept) n
   root-elects root r early top e = e ∙ ap whoOf (top _ _ few held) ∙ who-elected (at released) (at kept) n (omega arith) early
 
-  pub root-second : (root r : ℕ) → ((x : ℕ) → at released x < 2 ^ 32) → ((x : ℕ) → at kept x < 2 ^ 8) → Root tree root → r ≡ wordOf root
+  pub root-second : (root k r : ℕ) → ((x : ℕ) → at released x < 2 ^ 32) → ((x : ℕ) → at kept x < 2 ^ 8) → Root tree root → k ≡ wordOf root → r ≡ k
       → r ≡ greatest (at kept) n
-  root-second root r early small top e = e ∙ ap wordOf (top _ _ few held) ∙ word-greatest (at released) (at kept) n (omega arith) early small
+  root-second root k r early small top e g = g ∙ e ∙ ap wordOf (top _ _ few held) ∙ word-greatest (at released) (at kept) n (omega arith) early small

@@ -9,7 +9,7 @@ use native.Mathlib.Nat.{le-antisymm, eq-or-lt-of-le, le-of-suc-le-suc, not-suc-l
 use native.Mathlib.Omega.{arith}
 use lib.Dec.{eqb}
 use lib.ListN.{length, getD, set, take, drop, length-set, replicate, length-replicate, drop-of-length-le}
-use lib.Seq.{getD-set-same, getD-set-other, getD-take, length-take-le, ext-getD}
+use lib.Seq.{set-getD, getD-set-same, getD-set-other, getD-take, length-take-le, ext-getD}
 use borrow.Author.Tests.{eqb-true, eq-eqb, ne-eqb}
 use Rattle.rules.specs.Numbers.Choice.{if_then_else_}
 use Rattle.rules.specs.Numbers.Place.{at, every, any, count, greatest, firstFrom, from, tabulate, renewed, zeros}
@@ -357,6 +357,12 @@ module _ (xs : List ℕ) (f : ℕ → ℕ) where
 
   pub renewed-ends : (n k : ℕ) (ys : List ℕ) → RenewedSoFar n k ys → n ≤ k → ys ≡ renewed xs f n
   renewed-ends n k ys e b = let q : k ≡ n = omega arith in e .1 ∙ ap (renewed xs f) q
+
+-- what is written is what stood there
+pub renewed-same : (xs : List ℕ) (f : ℕ → ℕ) (n : ℕ) → ((x : ℕ) → x < n → f x ≡ at xs x) → renewed xs f n ≡ xs
+unfolding renewed
+renewed-same xs f zero h = refl
+renewed-same xs f (suc k) h = ap₂ (λ ys v. set ys k v) (renewed-same xs f k (λ x l. h x (omega arith))) (h k (omega arith)) ∙ set-getD xs k 0
 
 -- ---- all places from n on are 0
 

@@ -111,3 +111,14 @@ module _ (released key : ℕ → ℕ) where
 
     pub elected-one : (x : ℕ) → x < n → 0 < key x → elected released key n ≢ nobody
     elected-one x l h q = omega (arith, elected-lead (omega (arith, greatest-all key n x l)) .within)
+
+    -- who is above all others is elected, whenever released
+    pub elected-above : (q : ℕ) → q < n → 0 < key q → ((x : ℕ) → x < n → x ≢ q → key x < key q) → elected released key n ≡ q
+    elected-above q l o h = go (ℕ-discrete (elected released key n) q)
+      where
+        L : Lead (greatest key n) n (elected released key n)
+        L = elected-lead (omega (arith, greatest-all key n q l))
+
+        go : Dec (elected released key n ≡ q) → elected released key n ≡ q
+        go (yes e) = e
+        go (no d) = absurd (omega (arith, L .keyed, h (elected released key n) (L .within) d, greatest-all key n q l))

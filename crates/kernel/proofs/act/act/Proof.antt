@@ -9,7 +9,8 @@ pub act-spec : {M : Type 1} → statement M
 act-spec =
     tie.close
     (tie.spec
-    (λ c κs. search needs) (λ c. search exhausted) (λ c. search needs) (λ c κs. search release-ready) (λ c. search needs) (λ c κs. search acquire-ready)
-    (λ c. search needs) (λ c κs. search unlock-ready) (λ c. search needs) (λ c κs. search work-ready) (λ c. search needs) (λ c κs. search finish-ready)
-    (λ c. search needs) (λ c κs. search needs) (λ c κs. search needs) (λ c. search release-acts) (λ c. search acquire-acts) (λ c. search unlock-acts)
-    (λ c. search work-acts) (λ c. search finish-acts) (λ c. search tick-acts))
+    (λ c κs. search needs) (λ c. (search exhausted, search needs)) (λ c. search needs) (λ c κs. (search release-ready, search needs)) (λ c. search needs)
+    (λ c κs. search acquire-ready) (λ c. search needs) (λ c κs. (search unlock-ready, search needs)) (λ c. search needs) (λ c κs. search work-ready)
+    (λ c. search needs) (λ c κs. (search finish-ready, search needs)) (λ c. search needs) (λ c κs. search needs) (λ c κs. search needs)
+    (λ c. (search release-acts, search needs)) (λ c. (search acquire-acts, search needs)) (λ c. (search unlock-acts, search needs))
+    (λ c. (search work-acts, search needs)) (λ c. (search finish-acts, search needs)) (λ c. (search tick-acts, search needs)))

@@ -1,4 +1,5 @@
 -- `kernel::finish::accept` meets its contract. The kernel switches. Assumes nothing.
+use Rattle.tournament.proofs.KeyLaws.{put-idle}
 use Rattle.kernel.proofs.EventLaws.{finish-done}
 use borrow.Author.Needs.{needs}
 use Rattle.kernel.proofs.finish.accept.Statement.{statement}
@@ -8,4 +9,5 @@ pub accept-spec : {M : Type 1} → statement M
 accept-spec =
     tie.close
     (tie.spec
-    (λ c. search needs) (λ c. search needs) (λ c. search needs) (λ c κs. search needs) (λ c κs. search needs) (λ c. search finish-done))
+    (λ c. search needs) (λ c. search needs) (λ c. search needs) (λ c κs. (search needs, search put-idle)) (λ c κs. search needs)
+    (λ c. (search finish-done, search needs)))

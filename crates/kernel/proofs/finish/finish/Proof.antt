@@ -10,6 +10,4 @@ finish-spec =
     tie.close
     (tie.spec
     (λ c. search needs) (λ c κs. search needs) (λ c. search needs) (λ c κs. search needs) (λ c. search needs)
-    (λ c κs. (search needs, search finish-runs, search needs, search needs))
-    (λ c. search refused-so)
-    (λ c. search done-so))
+    (λ c κs. (search needs, search finish-runs, search needs)) (λ c. (search refused-so, search needs)) (λ c. (search done-so, search needs)))

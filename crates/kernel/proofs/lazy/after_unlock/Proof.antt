@@ -9,4 +9,4 @@ after-unlock-spec =
     tie.close
     (tie.spec
     (λ c. search needs) (λ c. search needs) (λ c. search needs) (λ c κs. search needs) (λ c κs. search needs) (λ c. search needs) (λ c. search needs)
-    (λ c. search needs) (λ c κs. search needs) (λ c κs. search needs) (λ c κs. search needs) (λ c. search unlock-calls) (λ c. search unlock-stays))
+    (λ c. search needs) (λ c κs. search needs) (λ c κs. search needs) (λ c. (search unlock-calls, search needs)) (λ c. (search unlock-stays, search needs)))

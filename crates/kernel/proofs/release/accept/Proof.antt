@@ -1,4 +1,5 @@
--- `kernel::release::accept` meets its contract. The kernel switches, or the newcomer waits. Assumes nothing.
+-- `kernel::release::accept` meets its contract. The newcomer arrives. Assumes nothing.
+use Rattle.tournament.proofs.KeyLaws.{put-idle}
 use Rattle.kernel.proofs.EventLaws.{release-done}
 use borrow.Author.Needs.{needs}
 use Rattle.kernel.proofs.release.accept.Statement.{statement}
@@ -9,4 +10,4 @@ accept-spec =
     tie.close
     (tie.spec
     (λ c. search needs) (λ c. search needs) (λ c. search needs) (λ c. search needs) (λ c. search needs) (λ c. search needs) (λ c κs. search needs)
-    (λ c κs. search needs) (λ c κs. search needs) (λ c. search release-done))
+    (λ c κs. (search needs, search put-idle)) (λ c κs. search needs) (λ c. (search release-done, search needs)))

@@ -10,5 +10,5 @@ unlock-spec =
     tie.close
     (tie.spec
     (λ c. search needs) (λ c κs. search needs) (λ c. search needs) (λ c κs. search needs) (λ c. search needs)
-    (λ c κs. ((search needs, search unlock-runs, search unlock-known), (search needs, search unlock-some, search needs)))
-    (λ c. search refused-so) (λ c. search done-so))
+    (λ c κs. ((search needs, search unlock-runs, search unlock-known), ((search needs, search unlock-some, search needs), search needs)))
+    (λ c. (search refused-so, search needs)) (λ c. (search done-so, search needs)))

@@ -10,6 +10,4 @@ work-spec =
     tie.close
     (tie.spec
     (λ c. search needs) (λ c κs. search needs) (λ c. search needs) (λ c κs. search needs) (λ c. search needs)
-    (λ c κs. (search needs, search work-runs, search needs, search needs))
-    (λ c. search refused-so)
-    (λ c. search done-so))
+    (λ c κs. ((search needs, search work-runs, search needs, search needs), search needs)) (λ c. search refused-so) (λ c. search done-so))

@@ -1,16 +1,18 @@
-//! The proved replay against the same one in ordinary Rust, over books of full
-//! length: both must give the same rows and figures; then each is timed. Then
-//! the same of these books written from their records, and of single steps, from
-//! states of the books and from full states.
+//! The proved replay against the same one in ordinary Rust, as it comes and with
+//! the proved one's tree and shortcuts, over books of full length: all must give
+//! the same rows and figures; then each is timed. Then how the time grows, by
+//! books of the same kind with fewer tasks. Then the books written from their
+//! records, and single steps, from states of the books and from full states.
 //!
-//!     bench [--rounds N] BOOK..
+//!     bench [--rounds N] BOOK.. [--growth BOOK..]
 //!
-//! It ends with 0 if both agree on every book, every writing and every step, else
+//! It ends with 0 if all agree on every book, every writing and every step, else
 //! with 1. Times only inform.
 
 mod device;
 mod ordinary;
 mod ordinary_step;
+mod ordinary_tree;
 mod ordinary_write;
 mod scenes;
 mod steps;
@@ -29,6 +31,8 @@ const DEFAULT_ROUNDS: usize = 301;
 fn main() -> ExitCode {
     let mut rounds = DEFAULT_ROUNDS;
     let mut books = Vec::new();
+    let mut growing = Vec::new();
+    let mut grows = false;
     let mut words = std::env::args().skip(1);
     while let Some(word) = words.next() {
         if word == "--rounds" {
@@ -38,15 +42,20 @@ fn main() -> ExitCode {
                 .unwrap_or(DEFAULT_ROUNDS);
             continue;
         }
+        if word == "--growth" {
+            grows = true;
+            continue;
+        }
+        let list = if grows { &mut growing } else { &mut books };
         match std::fs::read(&word) {
-            Ok(book) => books.push((short(&word).to_string(), book)),
+            Ok(book) => list.push((short(&word).to_string(), book)),
             Err(error) => {
                 eprintln!("bench: cannot read {word}: {error}");
                 return ExitCode::from(2);
             }
         }
     }
-    let replays_agree = replays(&books, rounds);
+    let replays_agree = replays(&books, rounds, true) & replays(&growing, rounds, false);
     let writes_agree = writes(&books, rounds);
     let steps_agree = steps(&books, rounds);
     ExitCode::from(u8::from(!(replays_agree && writes_agree && steps_agree)))
@@ -60,25 +69,30 @@ fn head(what: &str, of: &str, rounds: usize) {
     );
 }
 
-/// Whether both agree on the replay of every book.
-fn replays(books: &[(String, Vec<u8>)], rounds: usize) -> bool {
-    head("ns an event", "book", rounds);
+/// Whether all agree on the replay of every book; its parts are timed as well, or
+/// not.
+fn replays(books: &[(String, Vec<u8>)], rounds: usize, parts: bool) -> bool {
+    println!("ns an event: the median of {rounds} rounds (the least); the ratio of the medians");
+    println!(
+        "{:<12} {:<7} {:>16} {:>16} {:>6} {:>16} {:>6}",
+        "book", "", "proved", "ordinary", "ratio", "with the tree", "ratio"
+    );
     let mut agree = true;
     for (name, book) in books {
         match difference(book) {
-            None => measure(name, book, rounds),
+            None => measure(name, book, rounds, parts),
             Some(what) => {
-                println!("{name}: the two differ in {what}");
+                println!("{name}: they differ in {what}");
                 agree = false;
             }
         }
     }
+    println!();
     agree
 }
 
 /// Whether both agree on every book that is written.
 fn writes(books: &[(String, Vec<u8>)], rounds: usize) -> bool {
-    println!();
     head("ns an event", "book", rounds);
     let mut agree = true;
     for (name, book) in books {
@@ -132,44 +146,50 @@ fn short(path: &str) -> &str {
         .trim_end_matches(".book")
 }
 
-/// What the two replays of a book differ in; and whether the book is accepted,
-/// since the time of a refused one says nothing.
+/// What the replays of a book differ in; and whether the book is accepted, since
+/// the time of a refused one says nothing.
 fn difference(book: &[u8]) -> Option<&'static str> {
     let mut proved_rows = vec![0xEE; ROW_SPACE];
-    let mut ordinary_rows = proved_rows.clone();
     let proved = device::replay(book, &mut proved_rows);
-    let ordinary = ordinary::replay(book, &mut ordinary_rows);
-    let refused = ordinary.refused;
-    let plan = device::Plan::of(&ordinary.plan);
     let check = device::check(book, ROW_SPACE);
-    let tests = [
-        (
-            "verdict",
-            (proved.number, proved.place) == (refused.0, refused.1),
-        ),
-        ("acceptance", proved.number == 0),
-        ("rows", proved_rows == ordinary_rows),
-        ("plan", proved.plan == plan),
-        (
-            "check",
-            (check.number, check.place) == (0, 0) && check.plan == plan,
-        ),
-        (
-            "place of the events",
-            ordinary::check(book, ROW_SPACE)
-                .is_ok_and(|checked| checked.events == &book[check.events..]),
-        ),
-    ];
-    let wrong = tests.iter().find(|(_, same)| !same).map(|(what, _)| *what);
-    wrong.or_else(|| proved.state.differs(&ordinary.state))
+    for replay in [ordinary::replay, ordinary_tree::replay] {
+        let mut rows = vec![0xEE; ROW_SPACE];
+        let ordinary = replay(book, &mut rows);
+        let refused = ordinary.refused;
+        let plan = device::Plan::of(&ordinary.plan);
+        let tests = [
+            (
+                "verdict",
+                (proved.number, proved.place) == (refused.0, refused.1),
+            ),
+            ("acceptance", proved.number == 0),
+            ("rows", proved_rows == rows),
+            ("plan", proved.plan == plan),
+            (
+                "check",
+                (check.number, check.place) == (0, 0) && check.plan == plan,
+            ),
+            (
+                "place of the events",
+                ordinary::check(book, ROW_SPACE)
+                    .is_ok_and(|checked| checked.events == &book[check.events..]),
+            ),
+        ];
+        let wrong = tests.iter().find(|(_, same)| !same).map(|(what, _)| *what);
+        let wrong = wrong.or_else(|| proved.state.differs(&ordinary.state));
+        if wrong.is_some() {
+            return wrong;
+        }
+    }
+    None
 }
 
-/// Times both, round by round in turn: the whole replay, the check of the book
+/// Times all, round by round in turn: the whole replay, the check of the book
 /// alone, and by their difference the run of the events.
-fn measure(name: &str, book: &[u8], rounds: usize) {
+fn measure(name: &str, book: &[u8], rounds: usize, parts: bool) {
     let mut rows = vec![0; ROW_SPACE];
     let events = device::replay(book, &mut rows).state.accepted;
-    let mut times = [const { Vec::new() }; 4];
+    let mut times = [const { Vec::new() }; 5];
     for _ in 0..rounds {
         let book = black_box(book);
         times[0].push(time(events, TURNS, || {
@@ -179,32 +199,52 @@ fn measure(name: &str, book: &[u8], rounds: usize) {
             done(ordinary::replay(book, black_box(&mut rows)))
         }));
         times[2].push(time(events, TURNS, || {
-            done(device::check(book, black_box(ROW_SPACE)))
+            done(ordinary_tree::replay(book, black_box(&mut rows)))
         }));
-        times[3].push(time(events, TURNS, || {
-            done(ordinary::check(book, black_box(ROW_SPACE)))
-        }));
+        if parts {
+            times[3].push(time(events, TURNS, || {
+                done(device::check(book, black_box(ROW_SPACE)))
+            }));
+            times[4].push(time(events, TURNS, || {
+                done(ordinary::check(book, black_box(ROW_SPACE)))
+            }));
+        }
     }
-    let [proved, ordinary, proved_check, ordinary_check] = times.map(Figure::of);
-    report(name, "replay", proved, ordinary);
-    report("", "check", proved_check, ordinary_check);
-    report(
-        "",
-        "run",
-        proved.less(proved_check),
-        ordinary.less(ordinary_check),
-    );
+    let [proved, ordinary, tree, proved_check, ordinary_check] = times.map(Figure::of);
+    report_with(name, "replay", proved, ordinary, tree);
+    if parts {
+        report("", "check", proved_check, ordinary_check);
+        report_with(
+            "",
+            "run",
+            proved.less(proved_check),
+            ordinary.less(ordinary_check),
+            tree.less(ordinary_check),
+        );
+    }
 }
 
 fn report(name: &str, part: &str, proved: Figure, ordinary: Figure) {
-    let digits = if proved.median < 1000.0 { 2 } else { 0 };
-    let show = |f: Figure| format!("{:.digits$} ({:.digits$})", f.median, f.least);
-    let ratio = proved.median / ordinary.median;
+    println!("{}", line(name, part, proved, ordinary));
+}
+
+/// The same, and the ordinary one with the tree.
+fn report_with(name: &str, part: &str, proved: Figure, ordinary: Figure, tree: Figure) {
     println!(
-        "{name:<12} {part:<7} {:>16} {:>16} {ratio:>6.2}",
-        show(proved),
-        show(ordinary)
+        "{} {:>16} {:>6.2}",
+        line(name, part, proved, ordinary),
+        tree.show(),
+        proved.median / tree.median
     );
+}
+
+fn line(name: &str, part: &str, proved: Figure, ordinary: Figure) -> String {
+    format!(
+        "{name:<12} {part:<7} {:>16} {:>16} {:>6.2}",
+        proved.show(),
+        ordinary.show(),
+        proved.median / ordinary.median
+    )
 }
 
 /// The whole answer is wanted, so that no part of the work is left out.
@@ -229,12 +269,18 @@ struct Figure {
 }
 
 impl Figure {
+    /// Of the times of all rounds, or of none.
     fn of(mut times: Vec<f64>) -> Figure {
         times.sort_by(f64::total_cmp);
         Figure {
-            median: times[times.len() / 2],
-            least: times[0],
+            median: times.get(times.len() / 2).copied().unwrap_or(0.0),
+            least: times.first().copied().unwrap_or(0.0),
         }
+    }
+
+    fn show(self) -> String {
+        let digits = if self.median < 1000.0 { 2 } else { 0 };
+        format!("{:.digits$} ({:.digits$})", self.median, self.least)
     }
 
     fn less(self, other: Figure) -> Figure {

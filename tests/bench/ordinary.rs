@@ -222,7 +222,7 @@ impl State {
         Ok(call)
     }
 
-    fn runner(&self) -> Result<usize, u8> {
+    pub fn runner(&self) -> Result<usize, u8> {
         let task = usize::from(self.running);
         if task < MOST_TASKS {
             Ok(task)
@@ -250,7 +250,7 @@ impl State {
         Ok(false)
     }
 
-    fn acquire(&mut self, plan: &Plan, lock: usize) -> Result<bool, u8> {
+    pub fn acquire(&mut self, plan: &Plan, lock: usize) -> Result<bool, u8> {
         let task = self.runner()?;
         if lock >= plan.locks {
             return Err(13);

@@ -7,7 +7,7 @@ use crate::crane;
 use crate::damage;
 use crate::draft::Draft;
 use crate::event::Event;
-use crate::plan::{Plan, MOST_EVENTS};
+use crate::plan::{Plan, MOST_EVENTS, MOST_TASKS};
 use crate::plans;
 use crate::random::Random;
 use crate::replay::{replay, Outcome};
@@ -175,13 +175,21 @@ pub fn long(seed: u64, number: u64) -> Case {
 pub const FULL_LENGTH: [&str; 3] = ["crane", "contended", "plain"];
 
 /// A full-length book of one of these kinds, all of it accepted, from a fixed
-/// seed; nothing for another kind.
+/// seed; nothing for another kind. A contended or a plain one may have fewer
+/// tasks than can be: `contended-4`.
 pub fn full_length(kind: &str) -> Option<Case> {
     let random = &mut Random::new(2001);
-    let (plan, style) = match kind {
-        "crane" => (crane::plan(), None),
-        "contended" => (plans::contended(random), Some(&walk::CONTENDED)),
-        "plain" => (plans::plain(random), Some(&walk::PLAIN)),
+    let (name, tasks) = match kind.split_once('-') {
+        None => (kind, MOST_TASKS),
+        Some((name, tasks)) => (name, tasks.parse().ok()?),
+    };
+    if !(4..=MOST_TASKS).contains(&tasks) {
+        return None;
+    }
+    let (plan, style) = match name {
+        "crane" if name == kind => (crane::plan(), None),
+        "contended" => (plans::contended_of(random, tasks), Some(&walk::CONTENDED)),
+        "plain" => (plans::plain_of(random, tasks), Some(&walk::PLAIN)),
         _ => return None,
     };
     let events = match style {

@@ -80,7 +80,7 @@ const USAGE: &str = "\
 usage: judge [OPTION..] -- COMMAND ARGS..
        judge --self [OPTION..]
        judge --kernel [OPTION..] -- KERNEL ARGS.. -- COMMAND ARGS..
-       judge --write crane|contended|plain FILE
+       judge --write crane|contended[-TASKS]|plain[-TASKS] FILE
        judge --ways
 --seed N    of all that is generated (1)
 --count N   short books (20000)

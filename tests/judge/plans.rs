@@ -65,27 +65,31 @@ pub fn deep(random: &mut Random) -> Plan {
     build(random, &shape)
 }
 
-/// How many bases a contended plan has, and the first ceiling of a lock there.
+/// The most bases that a contended plan has, and the first ceiling of a lock there.
 const LEVELS: usize = 12;
 const FIRST_CEILING: usize = 3;
 
-/// As many tasks and locks as can be: tasks of each base in turn, and each lock
-/// shared by about a third of the tasks up to its ceiling, which is never one
-/// of the lowest.
+/// As many tasks and locks as can be, contended.
 pub fn contended(random: &mut Random) -> Plan {
-    let bases: Vec<u8> = (0..MOST_TASKS)
-        .map(|task| (task % LEVELS) as u8 + 1)
-        .collect();
+    contended_of(random, MOST_TASKS)
+}
+
+/// So many tasks, three or more, and as many locks as can be: tasks of each base
+/// in turn, and each lock shared by about a third of the tasks up to its ceiling,
+/// which is never one of the lowest.
+pub fn contended_of(random: &mut Random, tasks: usize) -> Plan {
+    let levels = LEVELS.min(tasks);
+    let bases: Vec<u8> = (0..tasks).map(|task| (task % levels) as u8 + 1).collect();
     let mut locks = Vec::new();
     let mut uses = Vec::new();
     for lock in 0..MOST_LOCKS {
-        let ceiling = FIRST_CEILING + lock % (LEVELS - FIRST_CEILING + 1);
+        let ceiling = FIRST_CEILING + lock % (levels - FIRST_CEILING + 1);
         locks.push(Lock {
             ceiling: ceiling as u8,
             limit: random.between(20, 200) as u16,
         });
         // Two sure users: one at the ceiling and one below it.
-        let turn = LEVELS * random.below(MOST_TASKS / LEVELS);
+        let turn = levels * random.below(tasks / levels);
         let at_ceiling = turn + ceiling - 1;
         let below = turn + random.below(ceiling - 1);
         for (task, base) in bases.iter().enumerate() {
@@ -99,19 +103,21 @@ pub fn contended(random: &mut Random) -> Plan {
     Plan { bases, locks, uses }
 }
 
-/// A plain plan has two tasks for each lock.
-const _: () = assert!(MOST_TASKS >= 2 * MOST_LOCKS);
-
-/// As many tasks and locks as can be, and each lock with two users of equal
-/// base: its ceiling raises nobody, and no lock is ever waited for.
+/// As many tasks and locks as can be, plain.
 pub fn plain(random: &mut Random) -> Plan {
-    let mut bases: Vec<u8> = (0..MOST_TASKS)
-        .map(|_| random.between(1, 24) as u8)
-        .collect();
+    plain_of(random, MOST_TASKS)
+}
+
+/// So many tasks, as many locks as can be with two tasks for each, and each lock
+/// with two users of equal base: its ceiling raises nobody, and no lock is ever
+/// waited for.
+pub fn plain_of(random: &mut Random, tasks: usize) -> Plan {
+    let mut bases: Vec<u8> = (0..tasks).map(|_| random.between(1, 24) as u8).collect();
+    let count = MOST_LOCKS.min(tasks / 2);
     let mut locks = Vec::new();
     let mut uses = Vec::new();
-    for lock in 0..MOST_LOCKS {
-        let user = lock * (MOST_TASKS / MOST_LOCKS);
+    for lock in 0..count {
+        let user = lock * (tasks / count);
         bases[user + 1] = bases[user];
         locks.push(Lock {
             ceiling: bases[user],

@@ -14,8 +14,8 @@ use Rattle.rules.specs.declared.priority.KernelPriority.{KernelPriority}
 use Rattle.rules.specs.declared.priority.UserPriority.{UserPriority}
 use Rattle.rules.proofs.Numbers.Place.{none-past}
 use Rattle.rules.proofs.Schedulers.Elect.{elected-lead, elected-some}
-use Rattle.tournament.specs.Keys.{keyOf, tournamentOf}
-use Rattle.tournament.proofs.KeyLaws.{Put, put-kept}
+use Rattle.tournament.specs.Keys.{keyOf, tournamentOf, rootOf}
+use Rattle.tournament.proofs.KeyLaws.{Put, PutRoot, put-kept, put-root}
 use Rattle.kernel.specs.Lent.{turned, idleTurn}
 use Rattle.kernel.specs.declared.switch.Turn.{Turn}
 
@@ -31,13 +31,13 @@ kept-past kept t v e h = sym (set-past kept t v (omega arith))
 
 -- ---- the tournament follows what is kept
 
-pub keep-past : (n : ℕ) (released kept tree : List ℕ) (t v : ℕ) → length kept ≡ maxTasks → maxTasks ≤ t → tree ≡ tournamentOf n released kept
-    → tree ≡ tournamentOf n released (set kept t v)
-keep-past n released kept tree t v e h g = g ∙ ap (tournamentOf n released) (kept-past kept t v e h)
+module _ (n : ℕ) (released kept tree : List ℕ) (t v key : ℕ) (few : n ≤ maxTasks) (sized : length kept ≡ maxTasks) (l : t < maxTasks)
+    (held : tree ≡ tournamentOf n released kept) (keyed : key ≡ keyOf v (at released t) t) where
+  pub keep-puts : (tree₂ : List ℕ) → Put n tree tree₂ t key → tree₂ ≡ tournamentOf n released (set kept t v)
+  keep-puts = put-kept n released kept tree few held t v key (omega arith) keyed
 
-pub keep-puts : (n : ℕ) (released kept tree tree₂ : List ℕ) (t v b key : ℕ) → n ≤ maxTasks → length kept ≡ maxTasks → t < maxTasks
-    → tree ≡ tournamentOf n released kept → b ≡ v → key ≡ keyOf b (at released t) t → Put n tree tree₂ t key → tree₂ ≡ tournamentOf n released (set kept t b)
-keep-puts n released kept tree tree₂ t v b key few e l g q k put = put-kept n released kept tree few g t b key tree₂ (omega arith) k put
+  pub keep-root : (r : ℕ) → PutRoot n tree t key r → r ≡ rootOf n released (set kept t v)
+  keep-root = put-root n released kept tree few held t v key (omega arith) keyed
 
 -- ---- q is elected
 
@@ -49,14 +49,13 @@ module _ (n : ℕ) (released kept : List ℕ) (few : n ≤ maxTasks) (sized : le
       none : greatest (at kept) n ≡ 0
       none = ⊎-elim (λ g. g) (λ o. absurd (omega (arith, elected-lead (at released) (at kept) n (omega arith) o .within))) (eq-zero-or-pos (greatest (at kept) n))
 
-  pub found-place : q ≢ nobody → q < maxTasks
-  found-place d = rw named (omega (arith, elected-lead (at released) (at kept) n (omega arith)
-      (elected-some (at released) (at kept) n (omega arith) (λ z. d (named ∙ z))) .within))
-
-  pub found-runs : (k : ℕ) (kept₂ : List ℕ) (t : Turn) → kept₂ ≡ set kept q 0 → t .running ≡ q → k ≡ at kept q → t .user .0 ≡ k
-      → t .next .0 ≡ secondWord kept₂ n → (w : Words) → turned t kept₂ w ≡ switched n released kept w
+  pub found-runs : q ≢ nobody → (k : KernelPriority) (kept₂ : List ℕ) (t : Turn) → kept₂ ≡ set kept q 0 → t .running ≡ q → k .0 ≡ secondWord kept n
+      → t .user .0 ≡ k .0 → t .next .0 ≡ secondWord kept₂ n → (w : Words) → turned t kept₂ w ≡ switched n released kept w
   unfolding switched runsOn
-  found-runs k kept₂ t e a b u c w = rw (← named, a, u, b, c, e)
+  found-runs d k kept₂ t e a b u c w = rw (← named, a, u, b ∙ sym top, c, e)
+    where
+      top : at kept q ≡ secondWord kept n
+      top = rw named (elected-lead (at released) (at kept) n (omega arith) (elected-some (at released) (at kept) n (omega arith) (λ z. d (named ∙ z))) .keyed)
 
 -- ---- a task leaves, and the kernel keeps v for it
 

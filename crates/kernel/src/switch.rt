@@ -23,7 +23,7 @@ ghost use Rattle.rules.specs.Numbers.Capacity.{maxTasks};
 ghost use Rattle.rules.specs.Numbers.Place.{at};
 ghost use Rattle.rules.specs.Schedulers.Elect.{elected};
 ghost use Rattle.rules.specs.Schedulers.Lazy.{Words, secondWord, switched};
-ghost use Rattle.tournament.specs.Keys.{tournamentOf};
+ghost use Rattle.tournament.specs.Keys.{rootOf, tournamentOf};
 ghost use Rattle.kernel.specs.Lent.{idleTurn, turned};
 
 // Who runs after a switch, and the two words.
@@ -33,7 +33,8 @@ pub struct Turn {
     pub next: KernelPriority,
 }
 
-// The kernel keeps a priority for task t, and the tournament follows; for nobody it keeps none.
+// The kernel keeps a priority for task t, and the tournament follows; for nobody it keeps none. The
+// tournament's root is the answer.
 pub fn keep(
     n: usize,
     released: &[u32; MAX_TASKS],
@@ -41,48 +42,43 @@ pub fn keep(
     tree: &mut [u64; PLACES],
     t: u8,
     priority: KernelPriority,
-)
+) -> u64
     requires { ⌜ (n ≤ maxTasks) × (length (now kept) ≡ maxTasks) × (now tree ≡ tournamentOf n (now released) (now kept)) ⌝ }
-    ensures { λ _. ⌜ (now (kept .exit) ≡ set (now (kept .entry)) t (priority .0)) × (length (now (kept .exit)) ≡ maxTasks) ⌝ }
-    ensures { λ _. ⌜ now (tree .exit) ≡ tournamentOf n (now (released .entry)) (now (kept .exit)) ⌝ }
+    ensures { λ r. ⌜ (now (kept .exit) ≡ set (now (kept .entry)) t (priority .0)) × (length (now (kept .exit)) ≡ maxTasks) ⌝ }
+    ensures { λ r. ⌜ (now (tree .exit) ≡ tournamentOf n (now (released .entry)) (now (kept .exit))) × (r ≡ rootOf n (now (released .entry)) (now (kept .exit))) ⌝ }
 {
     let x = t as usize;
     if x >= MAX_TASKS {
-        return;
+        return top(tree);
     }
     let byte = kernel_byte(priority);
     kept[x] = byte;
     let key = key_of(byte, released[x], t);
-    put(tree, n, x, key);
+    put(tree, n, x, key)
 }
 
-// Of the first n tasks the one of greatest kept priority, ties to the earlier release.
-fn elect(
-    n: usize,
-    released: &[u32; MAX_TASKS],
-    kept: &[u8; MAX_TASKS],
-    tree: &[u64; PLACES],
-) -> u8
-    requires { ⌜ (n ≤ maxTasks) × (now tree ≡ tournamentOf n (now released) (now kept)) ⌝ }
+// Of the first n tasks the one of greatest kept priority, ties to the earlier release, by the root.
+fn elect(n: usize, released: &[u32; MAX_TASKS], kept: &[u8; MAX_TASKS], root: u64) -> u8
+    requires { ⌜ (n ≤ maxTasks) × (root ≡ rootOf n (now released) (now kept)) ⌝ }
     ensures { λ r. ⌜ r ≡ elected (at (now (released .entry))) (at (now (kept .entry))) n ⌝ }
 {
     all_words(released);
-    who_of(top(tree))
+    who_of(root)
 }
 
-// The greatest kept priority of the first n tasks.
+// The greatest kept priority of the first n tasks, by the root.
 fn second_word(
     n: usize,
     released: &[u32; MAX_TASKS],
     kept: &[u8; MAX_TASKS],
-    tree: &[u64; PLACES],
+    root: u64,
 ) -> KernelPriority
-    requires { ⌜ (n ≤ maxTasks) × (now tree ≡ tournamentOf n (now released) (now kept)) ⌝ }
+    requires { ⌜ (n ≤ maxTasks) × (root ≡ rootOf n (now released) (now kept)) ⌝ }
     ensures { λ r. ⌜ r .0 ≡ secondWord (now (kept .entry)) n ⌝ }
 {
     all_words(released);
     all_bytes(kept);
-    kernel_of(word_of(top(tree)))
+    kernel_of(word_of(root))
 }
 
 // Nobody runs.
@@ -97,6 +93,31 @@ fn idle() -> Turn
 }
 
 // The task that is elected runs: its kept priority becomes the user word, and is 0 until it leaves.
+fn run(
+    n: usize,
+    released: &[u32; MAX_TASKS],
+    kept: &mut [u8; MAX_TASKS],
+    tree: &mut [u64; PLACES],
+    root: u64,
+) -> Turn
+    requires { ⌜ (n ≤ maxTasks) × (length (now kept) ≡ maxTasks) × (now tree ≡ tournamentOf n (now released) (now kept)) ⌝ }
+    requires { ⌜ root ≡ rootOf n (now released) (now kept) ⌝ }
+    ensures { λ r. ⌜ ((w : Words) → turned r (now (kept .exit)) w ≡ switched n (now (released .entry)) (now (kept .entry)) w) ⌝ }
+    ensures { λ r. ⌜ now (tree .exit) ≡ tournamentOf n (now (released .entry)) (now (kept .exit)) ⌝ }
+{
+    let q = elect(n, released, kept, root);
+    if q == NOBODY {
+        return idle();
+    }
+    let k = second_word(n, released, kept, root);
+    let second = keep(n, released, kept, tree, q, KernelPriority(0));
+    Turn {
+        running: q,
+        user: shown(k),
+        next: second_word(n, released, kept, second),
+    }
+}
+
 pub fn switch(
     n: usize,
     released: &[u32; MAX_TASKS],
@@ -107,17 +128,8 @@ pub fn switch(
     ensures { λ r. ⌜ ((w : Words) → turned r (now (kept .exit)) w ≡ switched n (now (released .entry)) (now (kept .entry)) w) ⌝ }
     ensures { λ r. ⌜ now (tree .exit) ≡ tournamentOf n (now (released .entry)) (now (kept .exit)) ⌝ }
 {
-    let q = elect(n, released, kept, tree);
-    if q == NOBODY {
-        return idle();
-    }
-    let k = kernel_of(kept[q as usize]);
-    keep(n, released, kept, tree, q, KernelPriority(0));
-    Turn {
-        running: q,
-        user: shown(k),
-        next: second_word(n, released, kept, tree),
-    }
+    let root = top(tree);
+    run(n, released, kept, tree, root)
 }
 
 // Task r leaves with this word, and the kernel switches.
@@ -133,6 +145,6 @@ pub fn leave(
     ensures { λ t. ⌜ ((w : Words) → turned t (now (kept .exit)) w ≡ switched n (now (released .entry)) (set (now (kept .entry)) r (word .0)) w) ⌝ }
     ensures { λ t. ⌜ now (tree .exit) ≡ tournamentOf n (now (released .entry)) (now (kept .exit)) ⌝ }
 {
-    keep(n, released, kept, tree, r, recorded(word));
-    switch(n, released, kept, tree)
+    let root = keep(n, released, kept, tree, r, recorded(word));
+    run(n, released, kept, tree, root)
 }

@@ -6,7 +6,7 @@ use Prim.Native.Nat.{ℕ, suc, _+_, _-_, _^_, _≤_, _<_}
 use native.Mathlib.Numerals.{add-one}
 use native.Mathlib.Omega.{arith}
 use lib.Dec.{eqb, ltb}
-use lib.ListN.{length}
+use lib.ListN.{length, replicate}
 use borrow.Author.Tests.{ltb-true, ltb-false, eqb-true}
 use Rattle.rules.specs.Numbers.Capacity.{maxTasks}
 use Rattle.rules.specs.Numbers.Place.{from}
@@ -26,6 +26,7 @@ use Rattle.rules.proofs.Numbers.Place.{from-same}
 use Rattle.rules.proofs.Books.Obeyed.{few-tasks}
 use Rattle.rules.proofs.Replays.RowBytes.{row-length}
 use Rattle.rules.proofs.Soundness.SoundKept.{act-sound, step-act}
+use Rattle.tournament.specs.Tree.{places}
 use Rattle.scheduler.specs.Going.{rowsAfter, stoppedAt, turnedAs, eventIn, eventOn, goesOn, leftFrom, TurnReady, RunReady, Going}
 
 -- whether it goes on, by the verdict
@@ -37,9 +38,13 @@ pub on-refused : (v : Verdict) (why : Refusal) (place k n : ℕ) → v ≡ Verdi
 unfolding goesOn
 on-refused v why place k n e = rw e
 
--- the tournament that is made at the start
-pub made-tree : (p : Plan) (s : State) (n : ℕ) (rows tree made : List ℕ) → RunReady p s n rows → (p .tasks ≤ maxTasks → made ≡ tree) → made ≡ tree
-made-tree p s n rows tree made R e = e (few-tasks (R .sound .sound .plan))
+-- the tournament that is made at the start, in an array of zeros
+abbrev zeros : List ℕ
+zeros = replicate places 0
+
+pub made-tree : (p : Plan) (s : State) (n : ℕ) (rows tree made : List ℕ) → RunReady p s n rows
+    → (p .tasks ≤ maxTasks → zeros ≡ zeros → made ≡ tree) → made ≡ tree
+made-tree p s n rows tree made R e = e (few-tasks (R .sound .sound .plan)) refl
 
 module _ (p : Plan) (events : ℕ → Event) (n : ℕ) (first : State) (start : List ℕ) where
   pub going-start : RunReady p first n start → n < 2 ^ 64 → Going p events n first start 0 (record { verdict = Verdict.Passed; state = first; rows = start })

@@ -12,6 +12,7 @@ use rules::state::Head;
 use rules::state::State;
 use rules::state::fresh;
 use tournament::build::build;
+use tournament::tree::PLACES;
 ghost use mathlib.Core.Path.{_≡_};
 ghost use Rattle.rules.specs.Numbers.Place.{from};
 ghost use Rattle.rules.specs.Replays.Replay.{ranAs};
@@ -62,7 +63,8 @@ fn turns(
         (stateWith h (now (released .entry)) (now (kept .entry)) (now (delay .entry)) (now (depth .entry)) (now (takes .entry)) (now (saved .entry))
         (now (units .entry)) (now (owner .entry))) (now (rows .entry)) ⌝ }
 {
-    let mut tree = build(n, released, kept);
+    let mut tree = [0u64; PLACES];
+    build(n, released, kept, &mut tree);
     let mut ended = Ended {
         verdict: Verdict::Passed,
         head: h,

@@ -16,7 +16,7 @@ use Rattle.rules.proofs.Numbers.Place.{greatest-all, greatest-least, greatest-s
 use Rattle.rules.proofs.Schedulers.Rules.{earlier-nobody, earlier-later, earlier-sooner}
 use Rattle.rules.proofs.Schedulers.Elect.{Lead, earliest-within, elected-none, elected-lead}
 use Rattle.tournament.specs.Tree.{treeOf}
-use Rattle.tournament.specs.Keys.{orderOf, keyOf, keysOf, whoOf, wordOf, tournamentOf}
+use Rattle.tournament.specs.Keys.{orderOf, keyOf, keysOf, whoOf, wordOf, tournamentOf, rootOf}
 use Rattle.tournament.proofs.KeyLaws.{key-none, key-some}
 
 -- ---- ties go to the lower number, so the election by release numbers is that by orders, of which no two are equal
@@ -105,16 +105,18 @@ module _ (released kept : ℕ → ℕ) (n : ℕ) (few : n ≤ nobody) (early : (
       ))
       (eq-zero-or-pos root)
 
--- ---- the tables, and the tournament beside them
+-- ---- the tables
 
--- what is read at the root
-abbrev pub Root : List ℕ → ℕ → Type 0
-Root tree root = (n : ℕ) (f : ℕ → ℕ) → n ≤ maxTasks → tree ≡ treeOf n f → root ≡ greatest f n
+module _ (n : ℕ) (released kept : List ℕ) (few : n ≤ maxTasks) (root : ℕ) (says : root ≡ rootOf n released kept) where
+  pub root-elects : (r : ℕ) → ((x : ℕ) → at released x < 2 ^ 32) → r ≡ whoOf root → r ≡ elected (at released) (at kept) n
+  root-elects r early e = e ∙ ap whoOf says ∙ who-elected (at released) (at kept) n (omega arith) early
 
-module _ (n : ℕ) (released kept tree : List ℕ) (few : n ≤ maxTasks) (held : tree ≡ tournamentOf n released kept) where
-  pub root-elects : (root r : ℕ) → ((x : ℕ) → at released x < 2 ^ 32) → Root tree root → r ≡ whoOf root → r ≡ elected (at released) (at kept) n
-  root-elects root r early top e = e ∙ ap whoOf (top _ _ few held) ∙ who-elected (at released) (at kept) n (omega arith) early
+  pub root-second : (k r : ℕ) → ((x : ℕ) → at released x < 2 ^ 32) → ((x : ℕ) → at kept x < 2 ^ 8) → k ≡ wordOf root → r ≡ k → r ≡ greatest (at kept) n
+  root-second k r early small e g = g ∙ e ∙ ap wordOf says ∙ word-greatest (at released) (at kept) n (omega arith) early small
 
-  pub root-second : (root k r : ℕ) → ((x : ℕ) → at released x < 2 ^ 32) → ((x : ℕ) → at kept x < 2 ^ 8) → Root tree root → k ≡ wordOf root → r ≡ k
-      → r ≡ greatest (at kept) n
-  root-second root k r early small top e g = g ∙ e ∙ ap wordOf (top _ _ few held) ∙ word-greatest (at released) (at kept) n (omega arith) early small
+-- what is read at the top of a tree, and of a tournament: its root
+abbrev pub Top : List ℕ → ℕ → Type 0
+Top tree r = (n : ℕ) (f : ℕ → ℕ) → n ≤ maxTasks → tree ≡ treeOf n f → r ≡ greatest f n
+
+pub top-root : (n : ℕ) (released kept tree : List ℕ) (r : ℕ) → n ≤ maxTasks → tree ≡ tournamentOf n released kept → Top tree r → r ≡ rootOf n released kept
+top-root n released kept tree r few held top = top n _ few held

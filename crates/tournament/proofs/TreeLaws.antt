@@ -12,7 +12,7 @@ use borrow.Author.Tests.{eq-eqb, ne-eqb, lt-ltb, le-ltb}
 use Rattle.rules.specs.Numbers.Capacity.{maxTasks}
 use Rattle.rules.specs.Numbers.Place.{at, greatest}
 use Rattle.rules.proofs.Numbers.Choice.{if-true, if-false, at-or, lt-or-le}
-use Rattle.rules.proofs.Numbers.Place.{greatest-all, greatest-least, length-from, getD-tabulate}
+use Rattle.rules.proofs.Numbers.Place.{greatest-all, greatest-least, greatest-ext, length-from, getD-tabulate}
 use Rattle.tournament.specs.Tree.{places, inner, keyAt, nodeOf, treeOf, changed}
 
 -- ---- f, but v at t
@@ -150,10 +150,6 @@ module _ (n : ℕ) where
             (λ (q : n ≤ i - inner n). key-past f i q ∙ sym (key-past (changed f t v) i q))
             (lt-or-le (i - inner n) n)
 
-    -- a key past the last changes nothing
-    pub put-past : (t v : ℕ) → n ≤ t → (f : ℕ → ℕ) (tree : List ℕ) → tree ≡ treeOf n f → tree ≡ treeOf n (changed f t v)
-    put-past t v h f tree e = e ∙ tree-ext f (changed f t v) (λ x l. sym (changed-other f t v x (λ q. omega arith)))
-
     -- place p is made the greater of the two below it: the one above it is the next
     climb-node : (f : ℕ → ℕ) (tree : List ℕ) (i p v : ℕ) → 0 < i → i ≤ 2 * inner n → p ≡ (i - 1) / 2 → v ≡ max (at tree (2 * p + 1)) (at tree (2 * p + 2))
         → SettledAt (NotAbove i) f tree → SettledAt (NotAbove p) f (set tree p v)
@@ -177,17 +173,6 @@ module _ (n : ℕ) where
       where
         p : ℕ
         p = (i - 1) / 2
-
-    pub climb-ends : (old : List ℕ) (t key i v : ℕ) (tree : List ℕ) → t < n → ClimbedSoFar (inner n + t) (set old (inner n + t) key) i v tree → i ≤ 0
-        → (f : ℕ → ℕ) → old ≡ treeOf n f → tree ≡ treeOf n (changed f t key)
-    climb-ends old t key i v tree b (_, s) z f e = settled-tree (changed f t key) tree (record {
-      sized = S .sized;
-      key = S .key;
-      node = λ j l _. S .node j l (λ q. omega arith, λ q. omega arith);
-    })
-      where
-        S : SettledAt (NotAbove i) (changed f t key) tree
-        S = s (changed f t key) (rw e (key-put f t key b)) .0
 
     -- ---- the root
 
@@ -226,6 +211,36 @@ module _ (n : ℕ) where
             (λ (q : i < inner n). omega (arith, node-inner f levels i q, under levels (2 * i + 1), under levels (2 * i + 2)))
             (λ (q : inner n ≤ i). rw (node-key f (suc levels) i q) (key i))
             (lt-or-le i (inner n))
+
+-- ---- what a put comes to
+
+module _ (n : ℕ) (few : n ≤ maxTasks) (t key : ℕ) (f : ℕ → ℕ) where
+  -- a tree of the changed keys has the greatest of them at its root
+  root-changed : (tree : List ℕ) (r : ℕ) → r ≡ at tree 0 → tree ≡ treeOf n (changed f t key) → r ≡ greatest (changed f t key) n
+  root-changed tree r g e = g ∙ ap (λ xs. at xs 0) e ∙ root-greatest n few (changed f t key)
+
+  -- a key past the last changes nothing
+  pub put-past : n ≤ t → (tree : List ℕ) → tree ≡ treeOf n f → tree ≡ treeOf n (changed f t key)
+  put-past h tree e = e ∙ tree-ext n few f (changed f t key) (λ x l. sym (changed-other f t key x (λ q. omega arith)))
+
+  pub put-past-root : n ≤ t → (tree : List ℕ) (r : ℕ) → tree ≡ treeOf n f → r ≡ at tree 0 → r ≡ greatest (changed f t key) n
+  put-past-root h tree r e g = root-changed tree r g (put-past h tree e)
+
+  module _ (old : List ℕ) (i v : ℕ) (tree : List ℕ) (b : t < n) (C : ClimbedSoFar n (inner n + t) (set old (inner n + t) key) i v tree) (z : i ≤ 0)
+      (e : old ≡ treeOf n f) where
+    pub climb-ends : tree ≡ treeOf n (changed f t key)
+    climb-ends =
+        let S : SettledAt n (NotAbove n i) (changed f t key) tree = C .1 (changed f t key) (rw e (key-put n few f t key b)) .0 in
+        settled-tree n few (changed f t key) tree (record {
+          sized = S .sized;
+          key = S .key;
+          node = λ j l _. S .node j l (λ h. omega arith, λ h. omega arith);
+        })
+
+    pub climb-root : v ≡ greatest (changed f t key) n
+    climb-root =
+        let o : i ≡ 0 = omega arith in
+        root-changed tree v (sym (C .1 (changed f t key) (rw e (key-put n few f t key b)) .1) ∙ ap (at tree) o) climb-ends
 
 pub climb-start : (n t key : ℕ) (old : List ℕ) → n ≤ maxTasks → t < n → ClimbedSoFar n (inner n + t) (set old (inner n + t) key) (inner n + t) key (set old (inner n + t) key)
 climb-start n t key old few l = (omega arith, λ f s. (s, getD-set-same old (inner n + t) key 0 (omega (arith, s .sized, length-set old (inner n + t) key))))

@@ -4,7 +4,7 @@ use Prim.Native.Nat.{ℕ, _+_, _*_, _-_, _/_, _%_, _^_}
 use lib.Dec.{eqb}
 use Rattle.rules.specs.Numbers.Capacity.{nobody}
 use Rattle.rules.specs.Numbers.Choice.{if_then_else_}
-use Rattle.rules.specs.Numbers.Place.{at}
+use Rattle.rules.specs.Numbers.Place.{at, greatest}
 use Rattle.tournament.specs.Tree.{treeOf}
 
 -- of two tasks the one of lesser order goes first; release numbers are below 2^32 and tasks below 2^8
@@ -29,3 +29,7 @@ wordOf key = key / 2 ^ 40 % 2 ^ 8
 -- the tournament of the first n tasks, by their release numbers and kept priorities
 abbrev pub tournamentOf : ℕ → List ℕ → List ℕ → List ℕ
 tournamentOf n released kept = treeOf n (keysOf (at released) (at kept))
+
+-- its root: the greatest of their keys
+abbrev pub rootOf : ℕ → List ℕ → List ℕ → ℕ
+rootOf n released kept = greatest (keysOf (at released) (at kept)) n

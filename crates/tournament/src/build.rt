@@ -5,10 +5,11 @@ use crate::tree::greater;
 use rules::capacity::MAX_TASKS;
 ghost use mathlib.Core.Path.{_≡_};
 ghost use Prim.Native.Nat.{_<_, _≤_, _*_, _-_};
+ghost use lib.ListN.{replicate};
 ghost use Rattle.rules.specs.Numbers.Capacity.{maxTasks};
 ghost use Rattle.rules.specs.Numbers.Place.{at};
 ghost use Rattle.tournament.specs.Keys.{keysOf, tournamentOf};
-ghost use Rattle.tournament.specs.Tree.{nodeFrom};
+ghost use Rattle.tournament.specs.Tree.{nodeFrom, places};
 
 // What place i holds: the greater of the two below it, or a key.
 fn node(
@@ -28,21 +29,25 @@ fn node(
     key_of(kept[t], released[t], t as u8)
 }
 
-// From the last place down to the root.
-pub fn build(n: usize, released: &[u32; MAX_TASKS], kept: &[u8; MAX_TASKS]) -> [u64; PLACES]
-    ensures { λ r. ⌜ (n ≤ maxTasks → r ≡ tournamentOf n (now (released .entry)) (now (kept .entry))) ⌝ }
+// In an array of zeros, from the last place down to the root.
+pub fn build(
+    n: usize,
+    released: &[u32; MAX_TASKS],
+    kept: &[u8; MAX_TASKS],
+    tree: &mut [u64; PLACES],
+)
+    ensures { λ _. ⌜ (n ≤ maxTasks → now (tree .entry) ≡ replicate places 0
+        → now (tree .exit) ≡ tournamentOf n (now (released .entry)) (now (kept .entry))) ⌝ }
 {
-    let mut tree = [0u64; PLACES];
     if n == 0 {
-        return tree;
+        return;
     }
     if MAX_TASKS < n {
-        return tree;
+        return;
     }
     let mut i = 2 * n - 1;
     while i > 0 {
         i -= 1;
-        tree[i] = node(n, released, kept, &tree, i);
+        tree[i] = node(n, released, kept, tree, i);
     }
-    tree
 }

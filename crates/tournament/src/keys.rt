@@ -6,11 +6,12 @@ ghost use Rattle.tournament.specs.Keys.{keyOf, whoOf, wordOf};
 pub fn key_of(kept: u8, released: u32, t: u8) -> u64
     ensures { λ r. ⌜ r ≡ keyOf kept released t ⌝ }
 {
+    let order = (released as u64) * 256 + t as u64;
+    let key = (kept as u64) * 1099511627776 + (1099511627775 - order);
     if kept == 0 {
         return 0;
     }
-    let order = (released as u64) * 256 + t as u64;
-    (kept as u64) * 1099511627776 + (1099511627775 - order)
+    key
 }
 
 // The task of a key, and nobody of the key 0.

@@ -17,16 +17,24 @@ pub fn greater(a: u64, b: u64) -> u64
     a
 }
 
-// The key of t is another: what stands above it follows. Places 2p + 1 and 2p + 2 stand below p, so
-// 4p + 3 - i stands beside i. What was stored last is at hand in v.
-pub fn put(tree: &mut [u64; PLACES], n: usize, t: usize, key: u64)
-    ensures { λ _. ⌜ ((f : ℕ → ℕ) → n ≤ maxTasks → now (tree .entry) ≡ treeOf n f → now (tree .exit) ≡ treeOf n (changed f t key)) ⌝ }
+// The greatest key.
+pub fn top(tree: &[u64; PLACES]) -> u64
+    ensures { λ r. ⌜ ((n : ℕ) (f : ℕ → ℕ) → n ≤ maxTasks → now (tree .entry) ≡ treeOf n f → r ≡ greatest f n) ⌝ }
+{
+    tree[0]
+}
+
+// The key of t is another: what stands above it follows, and the greatest key is the answer. Places
+// 2p + 1 and 2p + 2 stand below p, so 4p + 3 - i stands beside i. What was stored last is at hand in v.
+pub fn put(tree: &mut [u64; PLACES], n: usize, t: usize, key: u64) -> u64
+    ensures { λ r. ⌜ ((f : ℕ → ℕ) → n ≤ maxTasks → now (tree .entry) ≡ treeOf n f → now (tree .exit) ≡ treeOf n (changed f t key)) ⌝ }
+    ensures { λ r. ⌜ ((f : ℕ → ℕ) → n ≤ maxTasks → now (tree .entry) ≡ treeOf n f → r ≡ greatest (changed f t key) n) ⌝ }
 {
     if MAX_TASKS < n {
-        return;
+        return 0;
     }
     if n <= t {
-        return;
+        return tree[0];
     }
     let mut i = n - 1 + t;
     let mut v = key;
@@ -37,11 +45,5 @@ pub fn put(tree: &mut [u64; PLACES], n: usize, t: usize, key: u64)
         tree[p] = v;
         i = p;
     }
-}
-
-// The greatest key.
-pub fn top(tree: &[u64; PLACES]) -> u64
-    ensures { λ r. ⌜ ((n : ℕ) (f : ℕ → ℕ) → n ≤ maxTasks → now (tree .entry) ≡ treeOf n f → r ≡ greatest f n) ⌝ }
-{
-    tree[0]
+    v
 }

@@ -8,4 +8,4 @@ pub elect-spec : {M : Type 1} → statement M
 elect-spec =
     tie.close
     (tie.spec
-    (λ c κs. search needs) (λ c κs. search needs) (λ c κs. search needs) (λ c. search root-elects))
+    (λ c κs. search needs) (λ c κs. search needs) (λ c. search root-elects))

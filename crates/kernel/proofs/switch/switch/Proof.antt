@@ -1,5 +1,5 @@
--- `kernel::switch::switch` meets its contract. Nobody runs, or the one that is elected. Assumes nothing.
-use Rattle.kernel.proofs.SwitchLaws.{none-runs, found-place, found-runs}
+-- `kernel::switch::switch` meets its contract. The root is at the top. Assumes nothing.
+use Rattle.tournament.proofs.Election.{top-root}
 use borrow.Author.Needs.{needs}
 use Rattle.kernel.proofs.switch.switch.Statement.{statement}
 use Rattle.kernel.proofs.switch.switch.Tie as tie
@@ -8,5 +8,4 @@ pub switch-spec : {M : Type 1} → statement M
 switch-spec =
     tie.close
     (tie.spec
-    (λ c κs. search needs) (λ c κs. search needs) (λ c. (λ w. search none-runs, search needs)) (λ c. search needs) (λ c. search found-place)
-    (λ c κs. search needs) (λ c κs. search needs) (λ c κs. search needs) (λ c κs. search needs) (λ c. (λ w. search found-runs, search needs)))
+    (λ c κs. search needs) (λ c κs. (search needs, search top-root)) (λ c. search needs))

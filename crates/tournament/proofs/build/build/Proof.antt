@@ -8,7 +8,7 @@ use Rattle.tournament.proofs.build.build.Statement.{statement}
 use Rattle.tournament.proofs.build.build.Tie as tie
 
 abbrev Inv-loop : tie.InvT-loop
-Inv-loop n released kept tree₀ i₀ tree i = BuiltSoFar n (keysOf (at released) (at kept)) i tree
+Inv-loop n released kept tree₀ i₀ tree i = BuiltSoFar n (keysOf (at released) (at kept)) tree₀ i tree
 
 abbrev μ-loop : tie.MeasureT-loop
 μ-loop n released kept tree₀ i₀ tree i = i
@@ -17,5 +17,6 @@ pub build-spec : {M : Type 1} → statement M
 build-spec =
     tie.close
     (tie.spec
-    Inv-loop μ-loop (λ c. λ few. search build-none) (λ c. λ few. search too-many) (λ c. search needs) (λ c. search needs) (λ c. search build-start) (λ c. search needs)
-    (λ c κs. search needs) (λ c. search needs) (λ c. search needs) (λ c. search needs) (λ c. search build-next) (λ c. λ few. search build-ends))
+    Inv-loop μ-loop (λ c. λ few z. search build-none) (λ c. λ few z. search too-many) (λ c. search needs) (λ c. search needs) (λ c. search build-start)
+    (λ c. search needs) (λ c κs. search needs) (λ c. search needs) (λ c. search needs) (λ c. search needs) (λ c. search build-next)
+    (λ c. λ few z. search build-ends))

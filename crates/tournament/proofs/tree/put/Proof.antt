@@ -1,5 +1,5 @@
 -- `tournament::tree::put` meets its contract. Each turn puts one place right. Assumes nothing.
-use Rattle.tournament.proofs.TreeLaws.{ClimbedSoFar, too-many, put-past, climb-start, climb-next, climb-ends}
+use Rattle.tournament.proofs.TreeLaws.{ClimbedSoFar, too-many, put-past, put-past-root, climb-start, climb-next, climb-ends, climb-root}
 use borrow.Author.Needs.{needs}
 use Rattle.tournament.proofs.tree.put.Statement.{statement}
 use Rattle.tournament.proofs.tree.put.Tie as tie
@@ -14,7 +14,7 @@ pub put-spec : {M : Type 1} → statement M
 put-spec =
     tie.close
     (tie.spec
-    Inv-loop μ-loop (λ c. λ f few e. search too-many) (λ c. λ f few e. search put-past) (λ c. search needs) (λ c. search needs) (λ c. search needs)
-    (λ c. search needs) (λ c. search climb-start) (λ c. search needs) (λ c. search needs) (λ c. search needs) (λ c. search needs)
+    Inv-loop μ-loop (λ c. (λ f few e. search too-many, λ f few e. search too-many)) (λ c. search needs) (λ c. (λ f few e. search put-past, λ f few e. search put-past-root)) (λ c. search needs) (λ c. search needs)
+    (λ c. search needs) (λ c. search needs) (λ c. search climb-start) (λ c. search needs) (λ c. search needs) (λ c. search needs) (λ c. search needs)
     (λ c. search needs) (λ c. search needs) (λ c κs. search needs) (λ c. search needs) (λ c. search needs) (λ c. search needs)
-    (λ c. search climb-next) (λ c. λ f few e. search climb-ends))
+    (λ c. search climb-next) (λ c. (λ f few e. search climb-ends, λ f few e. search climb-root)))

@@ -1,0 +1,214 @@
+//! The same replay in ordinary Rust once more, with what the proved one has: a
+//! tournament of the tasks' keys beside the arrays, as deep as the plan needs,
+//! and the shortcuts of sound states.
+
+use crate::ordinary::{check, Plan, Refused, Replayed, State, MOST_ACCEPTED, MOST_TASKS, NOBODY};
+
+const PLACES: usize = 2 * MOST_TASKS - 1;
+
+/// A state and its tournament: place i holds the greater of places 2i + 1 and
+/// 2i + 2, and the key of task t stands at place tasks - 1 + t.
+struct Quick {
+    state: State,
+    tree: [u64; PLACES],
+}
+
+/// The greater kept priority goes first, then the earlier release, then the lower
+/// number; 0 where nothing is kept.
+fn key(kept: u8, released: u32, task: usize) -> u64 {
+    if kept == 0 {
+        return 0;
+    }
+    let order = u64::from(released) << 8 | task as u64;
+    (u64::from(kept) << 40) + ((1 << 40) - 1 - order)
+}
+
+impl Quick {
+    fn fresh() -> Quick {
+        Quick {
+            state: State::fresh(),
+            tree: [0; PLACES],
+        }
+    }
+
+    fn act(&mut self, plan: &Plan, record: &[u8]) -> Result<bool, u8> {
+        if self.state.accepted >= MOST_ACCEPTED {
+            return Err(11);
+        }
+        let call = match record[0] {
+            1 => self.release(plan, usize::from(record[1])),
+            2 => self.state.acquire(plan, usize::from(record[1])),
+            3 => self.unlock(plan, usize::from(record[1])),
+            4 => self.work(plan, u16::from_le_bytes([record[2], record[3]])),
+            5 => self.finish(plan),
+            _ => Ok(false),
+        }?;
+        self.state.accepted += 1;
+        Ok(call)
+    }
+
+    fn release(&mut self, plan: &Plan, task: usize) -> Result<bool, u8> {
+        let state = &mut self.state;
+        if task >= plan.tasks {
+            return Err(13);
+        }
+        if state.released[task] != 0 {
+            return Err(14);
+        }
+        state.released[task] = state.accepted + 1;
+        state.delay[task] = 0;
+        let base = plan.base[task];
+        if base <= state.user {
+            state.next = state.next.max(base);
+            self.keep(plan.tasks, task, base);
+        } else if base > state.next {
+            let user = state.user;
+            self.keep(plan.tasks, usize::from(self.state.running), user);
+            self.state.running = task as u8;
+            self.state.user = base;
+            self.state.next = self.state.next.max(user);
+        } else {
+            self.keep(plan.tasks, task, base);
+            self.leave(plan.tasks);
+        }
+        Ok(false)
+    }
+
+    fn unlock(&mut self, plan: &Plan, lock: usize) -> Result<bool, u8> {
+        let state = &mut self.state;
+        let task = state.runner()?;
+        if lock >= plan.locks {
+            return Err(13);
+        }
+        let depth = usize::from(state.held[task]);
+        if depth == 0 || usize::from(state.open[task][depth - 1]) != lock {
+            return Err(19);
+        }
+        state.held[task] -= 1;
+        let before = state.user;
+        state.user = state.saved[task][depth - 1];
+        state.open[task][depth - 1] = 0;
+        state.saved[task][depth - 1] = 0;
+        state.units[lock] = 0;
+        state.owner[lock] = 0;
+        state.eager += u32::from(state.user != before);
+        let call = state.user < state.next;
+        if call {
+            state.lazy += 1;
+            self.leave(plan.tasks);
+        }
+        Ok(call)
+    }
+
+    fn work(&mut self, plan: &Plan, amount: u16) -> Result<bool, u8> {
+        let state = &mut self.state;
+        if amount == 0 {
+            return Err(20);
+        }
+        let task = state.runner()?;
+        let open = &state.open[task][..usize::from(state.held[task])];
+        let would_pass = |&lock: &u8| {
+            let lock = usize::from(lock);
+            u32::from(state.units[lock]) + u32::from(amount) > u32::from(plan.limit[lock])
+        };
+        if open.iter().any(would_pass) {
+            return Err(21);
+        }
+        for &lock in open {
+            state.units[usize::from(lock)] += amount;
+        }
+        let base = plan.base[task];
+        if state.next <= base {
+            return Ok(false);
+        }
+        let others = plan.base[..plan.tasks]
+            .iter()
+            .zip(&state.released[..plan.tasks]);
+        for (delay, (&other, &released)) in state.delay[..plan.tasks].iter_mut().zip(others) {
+            let more = delay.saturating_add(amount);
+            *delay = if released != 0 && base < other {
+                more
+            } else {
+                *delay
+            };
+        }
+        Ok(false)
+    }
+
+    fn finish(&mut self, plan: &Plan) -> Result<bool, u8> {
+        let task = self.state.runner()?;
+        if self.state.held[task] != 0 {
+            return Err(22);
+        }
+        self.state.released[task] = 0;
+        self.switch(plan.tasks);
+        Ok(false)
+    }
+
+    /// The kernel keeps a priority for a task, and the tournament follows.
+    fn keep(&mut self, tasks: usize, task: usize, priority: u8) {
+        if task >= tasks.min(MOST_TASKS) {
+            return;
+        }
+        self.state.kept[task] = priority;
+        let mut greater = key(priority, self.state.released[task], task);
+        let mut place = tasks - 1 + task;
+        self.tree[place] = greater;
+        while place > 0 {
+            let above = (place - 1) / 2;
+            greater = greater.max(self.tree[4 * above + 3 - place]);
+            self.tree[above] = greater;
+            place = above;
+        }
+    }
+
+    /// The running task leaves with its word, and the kernel switches.
+    fn leave(&mut self, tasks: usize) {
+        self.keep(tasks, usize::from(self.state.running), self.state.user);
+        self.switch(tasks);
+    }
+
+    /// The task at the root runs, and who is at the root then is next.
+    fn switch(&mut self, tasks: usize) {
+        let root = self.tree[0];
+        if root == 0 {
+            (self.state.running, self.state.user, self.state.next) = (NOBODY, 0, 0);
+            return;
+        }
+        let who = !(root as u8);
+        self.keep(tasks, usize::from(who), 0);
+        self.state.running = who;
+        self.state.user = (root >> 40) as u8;
+        self.state.next = (self.tree[0] >> 40) as u8;
+    }
+}
+
+fn run(plan: &Plan, events: &[u8], quick: &mut Quick, rows: &mut [u8]) -> Result<(), Refused> {
+    let turns = events.chunks_exact(4).zip(rows.chunks_exact_mut(4));
+    for (place, (record, row)) in turns.enumerate() {
+        match quick.act(plan, record) {
+            Ok(call) => {
+                let state = &quick.state;
+                row.copy_from_slice(&[state.running, state.user, state.next, call as u8]);
+            }
+            Err(number) => return Err(Refused(number, place)),
+        }
+    }
+    Ok(())
+}
+
+pub fn replay(book: &[u8], rows: &mut [u8]) -> Replayed {
+    let mut quick = Quick::fresh();
+    let (refused, plan) = match check(book, rows.len()) {
+        Err(refused) => (refused, Plan::blank()),
+        Ok(checked) => {
+            let ran = run(&checked.plan, checked.events, &mut quick, rows);
+            (ran.err().unwrap_or(Refused(0, 0)), checked.plan)
+        }
+    };
+    Replayed {
+        refused,
+        plan,
+        state: quick.state,
+    }
+}

@@ -1,8 +1,10 @@
 -- A tournament of n keys in an array. Place i, where i < n - 1, holds the greater of what places 2i + 1 and 2i + 2 hold; from place n - 1 on stand the keys;
 -- so place 0 holds the greatest. The tree is as deep as n keys need. Assumes nothing.
+use mathlib.Core.Path.{_≡_}
 use mathlib.Core.List.{List}
-use Prim.Native.Nat.{ℕ, zero, suc, _+_, _*_, _-_, max}
+use Prim.Native.Nat.{ℕ, zero, suc, _+_, _*_, _-_, _≤_, _<_, max}
 use lib.Dec.{eqb, ltb}
+use lib.ListN.{length}
 use Rattle.rules.specs.Numbers.Capacity.{maxTasks}
 use Rattle.rules.specs.Numbers.Choice.{if_then_else_}
 use Rattle.rules.specs.Numbers.Place.{at, tabulate}
@@ -28,9 +30,9 @@ nodeOf n f (suc levels) i = if ltb i (inner n) then max (nodeOf n f levels (2 * 
 unfoldable pub treeOf : ℕ → (ℕ → ℕ) → List ℕ
 treeOf n f = tabulate places (nodeOf n f n)
 
--- what place i of a tree of the keys f is to hold, by what the two places below it hold
-unfoldable pub nodeFrom : ℕ → (ℕ → ℕ) → List ℕ → ℕ → ℕ
-nodeFrom n f tree i = if ltb i (inner n) then max (at tree (2 * i + 1)) (at tree (2 * i + 2)) else keyAt n f i
+-- an array whose places from i on hold what they hold in the tree
+abbrev pub TreeFrom : ℕ → (ℕ → ℕ) → ℕ → List ℕ → Type 0
+TreeFrom n f i tree = (length tree ≡ places) × ((j : ℕ) → i ≤ j → j < places → at tree j ≡ at (treeOf n f) j)
 
 -- f, but v at t
 unfoldable pub changed : (ℕ → ℕ) → ℕ → ℕ → ℕ → ℕ

@@ -55,7 +55,7 @@ module _ (n t : ℕ) (h : Head) (base : KernelPriority) (released kept : List �
   unfolding afterRelease waits
   release-waits y A kept₂ next k g w =
       let q : next .0 ≡ greatest (at (set kept t (base .0))) n =
-          g ∙ ap (λ v. max v (base .0)) (A .next) ∙ sym (greatest-set kept n t (base .0) (A .none) (A .known) (omega (arith, A .few, A .sized, A .known))) in
+      g ∙ ap (λ v. max v (base .0)) (A .next) ∙ sym (greatest-set kept n t (base .0) (A .none) (A .known) (omega (arith, A .few, A .sized, A .known))) in
       rw (k, q) (sym (if-false (ltb (h .user .0) (base .0)) _ _ (sym said ∙ y)))
 
 -- ---- acquire

@@ -1,11 +1,13 @@
 -- Of every function that another crate or a host in another language can call: any two results that its contract allows for the same arguments are equal.
--- a are the arguments, b and c what is lent as it was left. Assumes nothing.
-use mathlib.Core.Path.{_≡_, sym, _∙_, ap}
+-- a are the arguments, b and c what is lent as it was left. Two functions that change a lent tournament ask that it is one. Assumes nothing.
+use mathlib.Core.Path.{_≡_, sym, _∙_, ap, ap₂}
 use mathlib.Core.Bool.{Bool}
 use mathlib.Core.List.{List}
-use Prim.Native.Nat.{ℕ}
+use Prim.Native.Nat.{ℕ, _≤_}
 use contract.Lifetimes.{Lfts}
 use denote.Ref.{now}
+use lib.ListN.{replicate}
+use Rattle.rules.specs.Numbers.Capacity.{maxTasks}
 use Rattle.rules.specs.Books.Write.{Wrote, wroteWith}
 use Rattle.rules.specs.Replays.Run.{Ran}
 use Rattle.rules.specs.Replays.Replay.{ranAs}
@@ -24,6 +26,8 @@ use Rattle.device.specs.declared.check.DeviceCheck.{DeviceCheck}
 use Rattle.device.specs.declared.step.DeviceStep.{DeviceStep}
 use Rattle.device.specs.declared.replay.DeviceReplay.{DeviceReplay}
 use Rattle.device.specs.declared.write.DeviceWrite.{DeviceWrite}
+use Rattle.tournament.specs.Tree.{places, treeOf}
+use Rattle.tournament.specs.Keys.{tournamentOf}
 use Rattle.kernel.specs.Lent.{steppedAs}
 use Rattle.kernel.specs.declared.acted.Acted.{Acted}
 use Rattle.scheduler.proofs.replay.Reads as replay
@@ -54,6 +58,7 @@ use Rattle.figures.proofs.priority.user_byte.Reads as user-byte
 use Rattle.figures.proofs.priority.shown.Reads as shown
 use Rattle.figures.proofs.priority.recorded.Reads as recorded
 use Rattle.figures.proofs.priority.above.Reads as above
+use Rattle.figures.proofs.priority.exceeds.Reads as exceeds
 use Rattle.figures.proofs.priority.calls_for.Reads as calls-for
 use Rattle.figures.proofs.priority.raised.Reads as raised
 use Rattle.figures.proofs.priority.higher.Reads as higher
@@ -69,6 +74,13 @@ use Rattle.figures.proofs.spare.spare8.Reads as spare8
 use Rattle.figures.proofs.spare.spare16.Reads as spare16
 use Rattle.figures.proofs.spare.spare32.Reads as spare32
 use Rattle.figures.proofs.spare.spare64.Reads as spare64
+use Rattle.tournament.proofs.tree.greater.Reads as greater
+use Rattle.tournament.proofs.tree.top.Reads as top
+use Rattle.tournament.proofs.tree.put.Reads as put
+use Rattle.tournament.proofs.keys.key_of.Reads as key-of
+use Rattle.tournament.proofs.keys.who_of.Reads as who-of
+use Rattle.tournament.proofs.keys.word_of.Reads as word-of
+use Rattle.tournament.proofs.build.build.Reads as build
 use Rattle.plan.proofs.count.count_fault.Reads as count-fault
 use Rattle.plan.proofs.load.Reads as load
 use Rattle.plan.proofs.bound.Reads as bound
@@ -162,6 +174,9 @@ one-recorded a b c r q h k = same-kernel r q (h ∙ sym k)
 
 pub one-above : (a : _) (b c : _) (r q : Bool) → above.Post tt a r b → above.Post tt a q c → r ≡ q
 one-above a b c r q h k = h ∙ sym k
+
+pub one-exceeds : (a : _) (b c : _) (r q : Bool) → exceeds.Post tt a r b → exceeds.Post tt a q c → r ≡ q
+one-exceeds a b c r q h k = h ∙ sym k
 
 pub one-calls-for : (a : _) (b c : _) (r q : Bool) → calls-for.Post tt a r b → calls-for.Post tt a q c → r ≡ q
 one-calls-for a b c r q h k = h ∙ sym k
@@ -295,12 +310,42 @@ one-recorder-write κs a b c r q h k = (h .0 ∙ sym (k .0), h .1 ∙ sym (k .1)
 pub one-report : (κs : Lfts 3) (a : _) (b c : _) (r q : ℕ) → report.Post κs a r b → report.Post κs a q c → (r ≡ q) × (now (b .0) ≡ now (c .0))
 one-report κs a b c r q h k = (h .1 ∙ sym (k .1), h .0 ∙ sym (k .0))
 
--- the answer, the head and every array that the act was lent to change, put together as a step
-pub one-act : (κs : Lfts 12) (a : _) (b c : _) (r q : Acted) → act.Post κs a r b → act.Post κs a q c
-    → steppedAs r (now (b .1 .1 .1 .1 .1 .1 .1 .0)) (now (b .1 .1 .1 .1 .1 .1 .1 .1 .0)) (now (b .1 .1 .1 .1 .1 .1 .1 .1 .1 .0))
+-- ---- the tournament
+
+pub one-greater : (a : _) (b c : _) (r q : ℕ) → greater.Post tt a r b → greater.Post tt a q c → r ≡ q
+one-greater a b c r q h k = h ∙ sym k
+
+pub one-key-of : (a : _) (b c : _) (r q : ℕ) → key-of.Post tt a r b → key-of.Post tt a q c → r ≡ q
+one-key-of a b c r q h k = h ∙ sym k
+
+pub one-who-of : (a : _) (b c : _) (r q : ℕ) → who-of.Post tt a r b → who-of.Post tt a q c → r ≡ q
+one-who-of a b c r q h k = h ∙ sym k
+
+pub one-word-of : (a : _) (b c : _) (r q : ℕ) → word-of.Post tt a r b → word-of.Post tt a q c → r ≡ q
+one-word-of a b c r q h k = h ∙ sym k
+
+pub one-top : (κs : Lfts 1) (a : _) (b c : _) (r q : ℕ) → top.Post κs a r b → top.Post κs a q c → r ≡ q
+one-top κs a b c r q h k = h ∙ sym k
+
+pub one-put : (κs : Lfts 1) (a : _) (b c : _) (r q : ℕ) → put.Post κs a r b → put.Post κs a q c → (f : ℕ → ℕ) → a .1 .0 ≤ maxTasks → now (a .0) ≡ treeOf (a .1 .0) f
+    → (r ≡ q) × (now (b .0) ≡ now (c .0))
+one-put κs a b c r q h k f few e = (h .1 f few e ∙ sym (k .1 f few e), h .0 f few e ∙ sym (k .0 f few e))
+
+pub one-build : (κs : Lfts 3) (a : _) (b c : _) (r q : _) → build.Post κs a r b → build.Post κs a q c → a .0 ≤ maxTasks → now (a .1 .1 .1 .0) ≡ replicate places 0
+    → now (b .1 .1 .1 .0) ≡ now (c .1 .1 .1 .0)
+one-build κs a b c r q h k few e = h few e ∙ sym (k few e)
+
+-- the answer, the head and every array that the act was lent to change, put together as a step; and the tournament
+pub one-act : (κs : Lfts 13) (a : _) (b c : _) (r q : Acted) → act.Post κs a r b → act.Post κs a q c
+    → (steppedAs r (now (b .1 .1 .1 .1 .1 .1 .1 .0)) (now (b .1 .1 .1 .1 .1 .1 .1 .1 .0)) (now (b .1 .1 .1 .1 .1 .1 .1 .1 .1 .0))
     (now (b .1 .1 .1 .1 .1 .1 .1 .1 .1 .1 .0)) (now (b .1 .1 .1 .1 .1 .1 .1 .1 .1 .1 .1 .0)) (now (b .1 .1 .1 .1 .1 .1 .1 .1 .1 .1 .1 .1 .0))
     (now (b .1 .1 .1 .1 .1 .1 .1 .1 .1 .1 .1 .1 .1 .0)) (now (b .1 .1 .1 .1 .1 .1 .1 .1 .1 .1 .1 .1 .1 .1 .0))
     ≡ steppedAs q (now (c .1 .1 .1 .1 .1 .1 .1 .0)) (now (c .1 .1 .1 .1 .1 .1 .1 .1 .0)) (now (c .1 .1 .1 .1 .1 .1 .1 .1 .1 .0))
     (now (c .1 .1 .1 .1 .1 .1 .1 .1 .1 .1 .0)) (now (c .1 .1 .1 .1 .1 .1 .1 .1 .1 .1 .1 .0)) (now (c .1 .1 .1 .1 .1 .1 .1 .1 .1 .1 .1 .1 .0))
-    (now (c .1 .1 .1 .1 .1 .1 .1 .1 .1 .1 .1 .1 .1 .0)) (now (c .1 .1 .1 .1 .1 .1 .1 .1 .1 .1 .1 .1 .1 .1 .0))
-one-act κs a b c r q h k = h ∙ sym k
+    (now (c .1 .1 .1 .1 .1 .1 .1 .1 .1 .1 .1 .1 .1 .0)) (now (c .1 .1 .1 .1 .1 .1 .1 .1 .1 .1 .1 .1 .1 .1 .0)))
+    × (now (b .1 .1 .1 .1 .1 .1 .1 .1 .1 .1 .1 .1 .1 .1 .1 .0) ≡ now (c .1 .1 .1 .1 .1 .1 .1 .1 .1 .1 .1 .1 .1 .1 .1 .0))
+one-act κs a b c r q h k = (
+  h .0 ∙ sym (k .0),
+  h .1 ∙ ap₂ (tournamentOf (a .1 .0)) (ap (λ (x : Stepped). x .state .released) (h .0 ∙ sym (k .0))) (ap (λ (x : Stepped). x .state .kept) (h .0 ∙ sym (k .0)))
+      ∙ sym (k .1),
+)

@@ -49,10 +49,13 @@ module _ (n : ℕ) (released kept : ℕ → ℕ) where
   pub lay-next : (old : List ℕ) (t v : ℕ) (tree : List ℕ) → n ≤ maxTasks → LaidSoFar old t tree → 0 < t → v ≡ keyOf (kept (t - 1)) (released (t - 1)) (t - 1)
       → LaidSoFar old (t - 1) (set tree (n - 1 + (t - 1)) v)
   unfolding keysOf
-  lay-next old t v tree few (b, h) o g = (omega arith, λ z. from-next n (keysOf released kept) (inner n + (t - 1)) v tree (omega arith)
-      (let q : inner n + t ≡ inner n + (t - 1) + 1 = omega arith in rw q at h z)
-      (g ∙ sym (tree-key n (keysOf released kept) (inner n + (t - 1)) (omega arith) (omega arith)
-      ∙ key-in n (keysOf released kept) (inner n + (t - 1)) (omega arith) ∙ ap (keysOf released kept) (omega arith))))
+  lay-next old t v tree few (b, h) o g = (
+    omega arith,
+    λ z. from-next n (keysOf released kept) (inner n + (t - 1)) v tree (omega arith)
+        (let q : inner n + t ≡ inner n + (t - 1) + 1 = omega arith in rw q at h z)
+        (g ∙ sym (tree-key n (keysOf released kept) (inner n + (t - 1)) (omega arith) (omega arith)
+        ∙ key-in n (keysOf released kept) (inner n + (t - 1)) (omega arith) ∙ ap (keysOf released kept) (omega arith))),
+  )
 
   pub lay-ends : (old : List ℕ) (t : ℕ) (tree : List ℕ) → LaidSoFar old t tree → t ≤ 0 → old ≡ replicate places 0 → TreeFrom n (keysOf released kept) (inner n) tree
   lay-ends old t tree (b, h) o z = let q : inner n + t ≡ inner n = omega arith in rw q at h z
@@ -68,9 +71,12 @@ module _ (n : ℕ) where
 
   pub raise-next : (old : List ℕ) (i v : ℕ) (tree : List ℕ) → n ≤ maxTasks → RaisedSoFar old i tree → 0 < i
       → v ≡ max (at tree (2 * (i - 1) + 1)) (at tree (2 * (i - 1) + 2)) → RaisedSoFar old (i - 1) (set tree (i - 1) v)
-  raise-next old i v tree few (b, h) o g = (omega arith, λ f s. let (e, k) = h f s in from-next n f (i - 1) v tree (omega arith)
-      (let q : i ≡ i - 1 + 1 = omega arith in rw q at h f s)
-      (g ∙ ap₂ max (k (2 * (i - 1) + 1) (omega arith) (omega arith)) (k (2 * (i - 1) + 2) (omega arith) (omega arith)) ∙ sym (tree-inner n f few (i - 1) (omega arith))))
+  raise-next old i v tree few (b, h) o g = (
+    omega arith,
+    λ f s. let (e, k) = h f s in from-next n f (i - 1) v tree (omega arith)
+        (let q : i ≡ i - 1 + 1 = omega arith in rw q at h f s)
+        (g ∙ ap₂ max (k (2 * (i - 1) + 1) (omega arith) (omega arith)) (k (2 * (i - 1) + 2) (omega arith) (omega arith)) ∙ sym (tree-inner n f few (i - 1) (omega arith))),
+  )
 
   pub raise-ends : (old : List ℕ) (i : ℕ) (tree : List ℕ) → RaisedSoFar old i tree → i ≤ 0 → (f : ℕ → ℕ) → TreeFrom n f (inner n) old → tree ≡ treeOf n f
   raise-ends old i tree (b, h) o f s = let q : i ≡ 0 = omega arith in from-all n f tree (rw q at h f s)

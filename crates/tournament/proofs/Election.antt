@@ -15,8 +15,8 @@ use Rattle.rules.proofs.Numbers.Choice.{lt-or-le}
 use Rattle.rules.proofs.Numbers.Place.{greatest-all, greatest-least, greatest-some}
 use Rattle.rules.proofs.Schedulers.Rules.{earlier-nobody, earlier-later, earlier-sooner}
 use Rattle.rules.proofs.Schedulers.Elect.{Lead, earliest-within, elected-none, elected-lead}
-use Rattle.tournament.specs.Tree.{treeOf}
 use Rattle.tournament.specs.Keys.{orderOf, keyOf, keysOf, whoOf, wordOf, tournamentOf, rootOf}
+use Rattle.tournament.proofs.TreeLaws.{root-greatest}
 use Rattle.tournament.proofs.KeyLaws.{key-none, key-some}
 
 -- ---- ties go to the lower number, so the election by release numbers is that by orders, of which no two are equal
@@ -114,9 +114,6 @@ module _ (n : ℕ) (released kept : List ℕ) (few : n ≤ maxTasks) (root : ℕ
   pub root-second : (k r : ℕ) → ((x : ℕ) → at released x < 2 ^ 32) → ((x : ℕ) → at kept x < 2 ^ 8) → k ≡ wordOf root → r ≡ k → r ≡ greatest (at kept) n
   root-second k r early small e g = g ∙ e ∙ ap wordOf says ∙ word-greatest (at released) (at kept) n (omega arith) early small
 
--- what is read at the top of a tree, and of a tournament: its root
-abbrev pub Top : List ℕ → ℕ → Type 0
-Top tree r = (n : ℕ) (f : ℕ → ℕ) → n ≤ maxTasks → tree ≡ treeOf n f → r ≡ greatest f n
-
-pub top-root : (n : ℕ) (released kept tree : List ℕ) (r : ℕ) → n ≤ maxTasks → tree ≡ tournamentOf n released kept → Top tree r → r ≡ rootOf n released kept
-top-root n released kept tree r few held top = top n _ few held
+-- what stands at the top of a tournament
+pub top-root : (n : ℕ) (released kept tree : List ℕ) (r : ℕ) → n ≤ maxTasks → tree ≡ tournamentOf n released kept → r ≡ at tree 0 → r ≡ rootOf n released kept
+top-root n released kept tree r few held e = e ∙ ap (λ xs. at xs 0) held ∙ root-greatest n few (keysOf (at released) (at kept))

@@ -166,10 +166,13 @@ module _ (n : ℕ) where
 
     pub climb-next : (i₀ i v d : ℕ) (old tree : List ℕ) → ClimbedSoFar i₀ old i v tree → 0 < i → d ≡ max v (at tree (4 * ((i - 1) / 2) + 3 - i))
         → ClimbedSoFar i₀ old ((i - 1) / 2) d (set tree ((i - 1) / 2) d)
-    climb-next i₀ i v d old tree (b, s) o h = (omega arith, λ f q. let (S, g) = s f q in (
-      climb-node f tree i p d o b refl (h ∙ ap (λ x. max x (at tree (4 * p + 3 - i))) (sym g) ∙ pair tree p i o refl) S,
-      getD-set-same tree p d 0 (omega (arith, S .sized)),
-    ))
+    climb-next i₀ i v d old tree (b, s) o h = (
+      omega arith,
+      λ f q. let (S, g) = s f q in (
+        climb-node f tree i p d o b refl (h ∙ ap (λ x. max x (at tree (4 * p + 3 - i))) (sym g) ∙ pair tree p i o refl) S,
+        getD-set-same tree p d 0 (omega (arith, S .sized)),
+      ),
+    )
       where
         p : ℕ
         p = (i - 1) / 2
@@ -248,6 +251,3 @@ climb-start n t key old few l = (omega arith, λ f s. (s, getD-set-same old (inn
 -- there is no room for more tasks than a plan may have
 pub too-many : (n : ℕ) → n ≤ maxTasks → maxTasks < n → ⊥
 too-many n h l = omega arith
-
-pub root-read : (tree : List ℕ) (r : ℕ) → r ≡ at tree 0 → (n : ℕ) (f : ℕ → ℕ) → n ≤ maxTasks → tree ≡ treeOf n f → r ≡ greatest f n
-root-read tree r h n f few e = h ∙ ap (λ xs. at xs 0) e ∙ root-greatest n few f

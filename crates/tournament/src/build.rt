@@ -13,12 +13,7 @@ ghost use Rattle.tournament.specs.Keys.{keysOf, tournamentOf};
 ghost use Rattle.tournament.specs.Tree.{TreeFrom, inner, places, treeOf};
 
 // The places of the keys.
-fn lay(
-    n: usize,
-    released: &[u32; MAX_TASKS],
-    kept: &[u8; MAX_TASKS],
-    tree: &mut [u64; PLACES],
-)
+fn lay(n: usize, released: &[u32; MAX_TASKS], kept: &[u8; MAX_TASKS], tree: &mut [u64; PLACES])
     requires { ⌜ (0 < n) × (n ≤ maxTasks) ⌝ }
     ensures { λ _. ⌜ (now (tree .entry) ≡ replicate places 0
         → TreeFrom n (keysOf (at (now (released .entry))) (at (now (kept .entry)))) (inner n) (now (tree .exit))) ⌝ }

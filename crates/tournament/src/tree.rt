@@ -3,7 +3,7 @@ use rules::capacity::MAX_TASKS;
 ghost use mathlib.Core.Path.{_≡_};
 ghost use Prim.Native.Nat.{ℕ, _≤_, max};
 ghost use Rattle.rules.specs.Numbers.Capacity.{maxTasks};
-ghost use Rattle.rules.specs.Numbers.Place.{greatest};
+ghost use Rattle.rules.specs.Numbers.Place.{at, greatest};
 ghost use Rattle.tournament.specs.Tree.{changed, treeOf};
 
 pub const PLACES: usize = 2 * MAX_TASKS - 1;
@@ -17,9 +17,9 @@ pub fn greater(a: u64, b: u64) -> u64
     a
 }
 
-// The greatest key.
+// The root.
 pub fn top(tree: &[u64; PLACES]) -> u64
-    ensures { λ r. ⌜ ((n : ℕ) (f : ℕ → ℕ) → n ≤ maxTasks → now (tree .entry) ≡ treeOf n f → r ≡ greatest f n) ⌝ }
+    ensures { λ r. ⌜ r ≡ at (now (tree .entry)) 0 ⌝ }
 {
     tree[0]
 }

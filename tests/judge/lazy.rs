@@ -145,10 +145,10 @@ impl<'p> Lazy<'p> {
             Wrong::ReleaseAtOrAbove => base >= self.user_word.0,
             _ => base > self.user_word.0,
         };
-        if switches {
-            self.switch();
-        } else {
-            self.set_next_word();
+        match self.wrong {
+            Wrong::NewcomerRuns if switches => self.switch_to(Some(task)),
+            _ if switches => self.switch(),
+            _ => self.set_next_word(),
         }
         Ok(false)
     }
@@ -255,6 +255,10 @@ impl<'p> Lazy<'p> {
     /// stays at its greatest value when it gets there.
     fn delay_others(&mut self, worker: usize, amount: u16) {
         let base_of_worker = self.plan.bases[worker];
+        let one_above = base_of_worker.saturating_add(1);
+        if self.wrong == Wrong::SparedByOne && self.next_word.0 <= one_above {
+            return;
+        }
         for (figures, base) in self.tasks.iter_mut().zip(&self.plan.bases) {
             if figures.release_number != 0 && base_of_worker < *base {
                 let sum = u32::from(figures.delay) + u32::from(amount);
@@ -289,10 +293,15 @@ impl<'p> Lazy<'p> {
     /// the released tasks has the greatest kept priority is next, and of equal
     /// ones the one released first. While a task runs, nothing is kept for it.
     fn switch(&mut self) {
+        self.switch_to(None);
+    }
+
+    /// The same, or to a task that is named, which only a wrong way does.
+    fn switch_to(&mut self, named: Option<usize>) {
         if let Some(leaving) = self.running {
             self.tasks[leaving].kept = Kept(self.user_word.0);
         }
-        let chosen = self.elect();
+        let chosen = named.or_else(|| self.elect());
         if self.wrong == Wrong::Tail && self.running != chosen {
             // The preempted task counts as if this event had released it.
             if let Some(leaving) = self.running {

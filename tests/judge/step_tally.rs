@@ -22,7 +22,7 @@ const LEAST_MET: usize = 20;
 type IsMet = fn(&Trial, &Outcome) -> bool;
 
 #[rustfmt::skip] // a line each
-const RULES: [(&str, IsMet); 13] = [
+const RULES: [(&str, IsMet); 17] = [
     ("accepted with a lazy call", accepted_with_call),
     ("accepted without a lazy call", accepted_without_call),
     ("an unlock that calls with the priority unchanged", call_of_equal),
@@ -31,6 +31,10 @@ const RULES: [(&str, IsMet); 13] = [
     ("an unlock that is an eager call", lowering),
     ("an unlock that is no eager call", lowering_nothing),
     ("a release that switches, and not to the newcomer", other_than_newcomer),
+    ("a newcomer above both words", above_both),
+    ("a newcomer above the user word, at the next word", at_the_next_word),
+    ("work with the next word at the worker's base", spared_at_base),
+    ("work that delays, with the next word one above the worker's base", delays_by_one),
     ("a delay that sticks", delay_sticks),
     ("an accepted event while another task is more urgent", not_the_best_runs),
     ("19 for an older open lock", older_lock),
@@ -186,6 +190,48 @@ fn other_than_newcomer(trial: &Trial, outcome: &Outcome) -> bool {
     };
     let runs = outcome.stepped.after.get(RUNNING, 0);
     is_accepted(outcome) && runs != trial.given.get(RUNNING, 0) && runs != u64::from(task)
+}
+
+/// The base of a newcomer that an accepted release brings, if it is above the user
+/// word, and the next word before.
+fn switching(trial: &Trial, outcome: &Outcome) -> Option<(u64, u64)> {
+    let Event::Release(task) = trial.event else {
+        return None;
+    };
+    if !is_accepted(outcome) {
+        return None;
+    }
+    let base = u64::from(trial.given.plan().bases[usize::from(task)]);
+    Some((base, trial.given.get(NEXT, 0))).filter(|_| base > trial.given.get(USER, 0))
+}
+
+fn above_both(trial: &Trial, outcome: &Outcome) -> bool {
+    switching(trial, outcome).is_some_and(|(base, next)| base > next)
+}
+
+fn at_the_next_word(trial: &Trial, outcome: &Outcome) -> bool {
+    switching(trial, outcome).is_some_and(|(base, next)| base == next)
+}
+
+/// How far the next word is above the base of a task that works, and whether a
+/// delay grew.
+fn working(trial: &Trial, outcome: &Outcome) -> Option<(i64, bool)> {
+    let worker = trial.given.running().filter(|_| is_accepted(outcome))?;
+    let Event::Work(_) = trial.event else {
+        return None;
+    };
+    let base = i64::from(trial.given.plan().bases[worker]);
+    let tasks = trial.given.get(TASKS, 0) as usize;
+    let grew = |task| outcome.stepped.after.get(DELAY, task) > trial.given.get(DELAY, task);
+    Some((trial.given.get(NEXT, 0) as i64 - base, (0..tasks).any(grew)))
+}
+
+fn spared_at_base(trial: &Trial, outcome: &Outcome) -> bool {
+    working(trial, outcome) == Some((0, false))
+}
+
+fn delays_by_one(trial: &Trial, outcome: &Outcome) -> bool {
+    working(trial, outcome) == Some((1, true))
 }
 
 /// The sum would be more than a delay can be.

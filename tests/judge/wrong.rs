@@ -23,6 +23,11 @@ pub enum Wrong {
     Newest,
     /// A release switches also where the base equals the user word.
     ReleaseAtOrAbove,
+    /// A release that switches brings in the newcomer, whoever else is kept.
+    NewcomerRuns,
+    /// Work is nobody's delay where the next word is at most one above the
+    /// worker's base.
+    SparedByOne,
     /// A lock that another task has open can be acquired.
     No17,
     /// A work of 0 is like any other work.
@@ -48,13 +53,15 @@ pub enum Wrong {
 }
 
 /// The wrong ways under the names of the command line.
-pub const WRONG_WAYS: [(&str, Wrong); 17] = [
+pub const WRONG_WAYS: [(&str, Wrong); 19] = [
     ("tail", Wrong::Tail),
     ("at-or-above", Wrong::AtOrAbove),
     ("gives-way", Wrong::GivesWay),
     ("base", Wrong::Base),
     ("newest", Wrong::Newest),
     ("release-at-or-above", Wrong::ReleaseAtOrAbove),
+    ("newcomer-runs", Wrong::NewcomerRuns),
+    ("spared-by-one", Wrong::SparedByOne),
     ("no-17", Wrong::No17),
     ("no-20", Wrong::No20),
     ("delay-wraps", Wrong::DelayWraps),

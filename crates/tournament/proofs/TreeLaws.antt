@@ -164,12 +164,13 @@ module _ (n : ℕ) where
         other : (j : ℕ) → j ≢ p → at (set tree p v) j ≡ at tree j
         other j d = getD-set-other tree p j v 0 d
 
-    pub climb-next : (i₀ i v d : ℕ) (old tree : List ℕ) → ClimbedSoFar i₀ old i v tree → 0 < i → d ≡ max v (at tree (4 * ((i - 1) / 2) + 3 - i))
+    -- where a place k stands before i, i is not the root
+    pub climb-next : (k i₀ i v d : ℕ) (old tree : List ℕ) → ClimbedSoFar i₀ old i v tree → k < i → d ≡ max v (at tree (4 * ((i - 1) / 2) + 3 - i))
         → ClimbedSoFar i₀ old ((i - 1) / 2) d (set tree ((i - 1) / 2) d)
-    climb-next i₀ i v d old tree (b, s) o h = (
+    climb-next k i₀ i v d old tree (b, s) l h = (
       omega arith,
       λ f q. let (S, g) = s f q in (
-        climb-node f tree i p d o b refl (h ∙ ap (λ x. max x (at tree (4 * p + 3 - i))) (sym g) ∙ pair tree p i o refl) S,
+        climb-node f tree i p d (omega arith) b refl (h ∙ ap (λ x. max x (at tree (4 * p + 3 - i))) (sym g) ∙ pair tree p i (omega arith) refl) S,
         getD-set-same tree p d 0 (omega (arith, S .sized)),
       ),
     )

@@ -1,5 +1,5 @@
 -- What passes the tests of an event has what its accepted code asks for; and a sound state has what the event asks for. Assumes nothing.
-use mathlib.Core.Path.{_≡_, refl, sym, _∙_}
+use mathlib.Core.Path.{_≡_, sym, _∙_}
 use mathlib.Core.Bool.{Bool, true, false, not, _||_}
 use mathlib.Core.List.{List}
 use Prim.Native.Nat.{ℕ, _+_, _≤_, _<_, _^_}
@@ -13,15 +13,15 @@ use Rattle.rules.specs.Numbers.Place.{at}
 use Rattle.rules.specs.Numbers.Row.{newest, has}
 use Rattle.rules.specs.Numbers.Choice.{if_then_else_}
 use Rattle.rules.specs.Numbers.Refusal.{numberOf, firstTrue, testFor}
-use Rattle.rules.specs.Schedulers.Figures.{Figures, figuresOf, holds, rankOf}
+use Rattle.rules.specs.Schedulers.Figures.{Figures, figuresOf, holds}
 use Rattle.rules.specs.Schedulers.EventRefusals.{releaseOrder, acquireOrder, unlockOrder, workOrder, finishOrder}
-use Rattle.rules.specs.Soundness.Sound.{keptOf, savedOf, SoundAndSized}
+use Rattle.rules.specs.Soundness.Sound.{savedOf, SoundAndSized}
 use Rattle.rules.specs.declared.plan.Plan.{Plan}
 use Rattle.rules.specs.declared.state.Head.{Head}
 use Rattle.rules.specs.declared.state.State.{State}
 use Rattle.rules.specs.declared.answer.Tested.{Tested}
 use Rattle.rules.specs.declared.refusal.Refusal.the-variants.{NobodyRuns, Unknown, AlreadyReleased, RowFull, NotNewest, PastLimit}
-use Rattle.rules.proofs.Numbers.Choice.{either, or-false, untrue, not-so}
+use Rattle.rules.proofs.Numbers.Choice.{or-false, untrue, not-so}
 use Rattle.rules.proofs.Soundness.Shortcuts.{kept-none, kept-running, next-greatest, idle-word, newcomer-other, waiting}
 use Rattle.rules.proofs.Numbers.Row.{saves-places}
 use Rattle.rules.proofs.Books.Obeyed.{few-tasks, few-locks, base-byte, ceiling-byte}

@@ -2,7 +2,7 @@
 use mathlib.Core.Path.{_≡_, refl, sym, _∙_, ap, ap₂}
 use mathlib.Core.Logic.{_≢_, ⊎-elim}
 use mathlib.Core.List.{List}
-use Prim.Native.Nat.{ℕ, zero, suc, _+_, _*_, _-_, _/_, _%_, _^_, _≤_, _<_}
+use Prim.Native.Nat.{ℕ, zero, suc, _+_, _*_, _-_, _/_, _^_, _≤_, _<_}
 use native.Mathlib.Nat.{le-antisymm, eq-zero-or-pos}
 use native.Mathlib.Decide.{ℕ-discrete}
 use native.Mathlib.Omega.{arith}
@@ -15,7 +15,7 @@ use Rattle.rules.proofs.Numbers.Choice.{lt-or-le}
 use Rattle.rules.proofs.Numbers.Place.{greatest-all, greatest-least, greatest-some}
 use Rattle.rules.proofs.Schedulers.Rules.{earlier-nobody, earlier-later, earlier-sooner}
 use Rattle.rules.proofs.Schedulers.Elect.{Lead, earliest-within, elected-none, elected-lead}
-use Rattle.tournament.specs.Keys.{orderOf, keyOf, keysOf, whoOf, wordOf, tournamentOf, rootOf}
+use Rattle.tournament.specs.Keys.{orderOf, keysOf, whoOf, wordOf, tournamentOf, rootOf}
 use Rattle.tournament.proofs.TreeLaws.{root-greatest}
 use Rattle.tournament.proofs.KeyLaws.{key-none, key-some}
 

@@ -12,7 +12,7 @@ use borrow.Author.Tests.{eq-eqb, ne-eqb, lt-ltb, le-ltb}
 use Rattle.rules.specs.Numbers.Capacity.{maxTasks}
 use Rattle.rules.specs.Numbers.Place.{at, greatest}
 use Rattle.rules.proofs.Numbers.Choice.{if-true, if-false, at-or, lt-or-le}
-use Rattle.rules.proofs.Numbers.Place.{greatest-all, greatest-least, greatest-ext, length-from, getD-tabulate}
+use Rattle.rules.proofs.Numbers.Place.{greatest-all, greatest-least, length-from, getD-tabulate}
 use Rattle.tournament.specs.Tree.{places, inner, keyAt, nodeOf, treeOf, changed}
 
 -- ---- f, but v at t

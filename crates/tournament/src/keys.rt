@@ -1,13 +1,17 @@
-// A task's key in the tournament.
+// A task's key in the tournament: its kept priority, then the complement of its release number and of
+// its own number, 32 and 8 bits.
 use rules::capacity::NOBODY;
 ghost use mathlib.Core.Path.{_≡_};
 ghost use Rattle.tournament.specs.Keys.{keyOf, whoOf, wordOf};
+
+// What stands below a kept priority in a key is below this, 2 ^ 40.
+const ORDERS: u64 = 1099511627776;
 
 pub fn key_of(kept: u8, released: u32, t: u8) -> u64
     ensures { λ r. ⌜ r ≡ keyOf kept released t ⌝ }
 {
     let order = (released as u64) * 256 + t as u64;
-    let key = (kept as u64) * 1099511627776 + (1099511627775 - order);
+    let key = (kept as u64) * ORDERS + (ORDERS - 1 - order);
     if kept == 0 {
         return 0;
     }
@@ -25,5 +29,5 @@ pub fn who_of(key: u64) -> u8
 pub fn word_of(key: u64) -> u8
     ensures { λ r. ⌜ r ≡ wordOf key ⌝ }
 {
-    (key / 1099511627776 % 256) as u8
+    (key / ORDERS % 256) as u8
 }

@@ -1,30 +1,30 @@
 -- What a sound state lets a scheduler leave out: first as laws of tables and numbers, then of the state. Assumes nothing.
-use mathlib.Core.Path.{_≡_, refl, sym, _∙_, ap, subst}
+use mathlib.Core.Path.{_≡_, sym, _∙_, ap}
 use mathlib.Core.Logic.{_≢_, ⊎-elim}
 use mathlib.Core.List.{List}
-use Prim.Native.Nat.{ℕ, _+_, _≤_, _<_, max}
+use Prim.Native.Nat.{ℕ, _≤_, _<_, max}
 use native.Mathlib.Omega.{arith}
-use lib.Dec.{eqb, ltb}
+use lib.Dec.{ltb}
 use lib.ListN.{length, set, length-set}
 use lib.Seq.{getD-set-same, getD-set-other, ext-getD}
 use borrow.Author.Tests.{lt-ltb, le-ltb}
 use Rattle.rules.specs.Numbers.Capacity.{maxTasks, nobody}
-use Rattle.rules.specs.Numbers.Place.{at, greatest, renewed}
+use Rattle.rules.specs.Numbers.Place.{at, greatest}
 use Rattle.rules.specs.Schedulers.Elect.{elected}
-use Rattle.rules.specs.Schedulers.Figures.{Figures, figuresOf, rankOf}
+use Rattle.rules.specs.Schedulers.Figures.{Figures, figuresOf}
 use Rattle.rules.specs.Schedulers.FiguresAfter.{delayed, figuresAfter}
 use Rattle.rules.specs.Schedulers.Lazy.{Words, wordsOf, runsOn, switched, waits, afterRelease, wordsAfter}
-use Rattle.rules.specs.Soundness.Shortcuts.{Rests, Shortcuts}
+use Rattle.rules.specs.Soundness.Shortcuts.{Shortcuts}
 use Rattle.rules.specs.Soundness.Sound.{keptOf, SoundAndSized}
 use Rattle.rules.specs.Replays.Step.{afterOf}
 use Rattle.rules.specs.declared.plan.Plan.{Plan}
 use Rattle.rules.specs.declared.state.State.{State}
-use Rattle.rules.specs.declared.event.Event.the-variants.{Release, Work}
+use Rattle.rules.specs.declared.event.Event.the-variants.{Release}
 use Rattle.rules.proofs.Numbers.Choice.{if-true, if-false, at-or, lt-or-le}
 use Rattle.rules.proofs.Numbers.Place.{greatest-all, greatest-ext, greatest-set, renewed-same, none-past}
 use Rattle.rules.proofs.Books.Obeyed.{few-tasks}
 use Rattle.rules.proofs.Schedulers.Elect.{elected-above}
-use Rattle.rules.proofs.Schedulers.Rules.{rank-in, rank-out, base-priority, kept-own, kept-other, Counts, delayed-same}
+use Rattle.rules.proofs.Schedulers.Rules.{rank-in, rank-out, base-priority, kept-own, kept-other, delayed-same}
 
 -- ---- a newcomer t of base b above both words; task r of user word u leaves, or nobody
 

@@ -8,5 +8,5 @@ pub key-of-spec : {M : Type 1} → statement M
 key-of-spec =
     tie.close
     (tie.spec
-    (λ c. search needs) (λ c. search needs) (λ c. search needs) (λ c. search needs) (λ c. search needs) (λ c. search key-none)
+    (λ c. search needs) (λ c. search needs) (λ c. search needs) (λ c. search needs) (λ c. search needs) (λ c. search needs) (λ c. search key-none)
     (λ c. search key-some))

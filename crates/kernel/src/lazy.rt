@@ -52,8 +52,8 @@ pub fn after_release(
     let user = h.user;
     let next = h.next;
     if above(base, user) {
+        let leaving = recorded(user);
         if exceeds(base, next) {
-            let leaving = recorded(user);
             keep(n, released, kept, tree, h.running, leaving);
             return Turn {
                 running: t,

@@ -34,7 +34,8 @@ ghost use Rattle.kernel.specs.Parts.{UnlockWords};
 ghost use Rattle.kernel.specs.Ready.{Arrives};
 
 // Release: the kernel keeps the newcomer t's base. It switches where the user word is strictly below
-// that base, and only there; a newcomer above the next word too is the one that runs (RULES 8.13).
+// that base, and only there. A newcomer above the next word too is the one that runs, so it is not kept
+// first (RULES 8.13).
 pub fn after_release(
     h: Head,
     n: usize,

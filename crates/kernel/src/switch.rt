@@ -118,6 +118,7 @@ fn run(
     }
 }
 
+// The same, with the root as it stands.
 pub fn switch(
     n: usize,
     released: &[u32; MAX_TASKS],

@@ -104,9 +104,6 @@ module _ (n : ℕ) where
   ClimbedSoFar i₀ old i v tree = (i ≤ 2 * inner n) × ((f : ℕ → ℕ) → SettledAt (NotAbove i₀) f old → SettledAt (NotAbove i) f tree × (at tree i ≡ v))
 
   module _ (few : n ≤ maxTasks) where
-    pub tree-settled : (f : ℕ → ℕ) → SettledAt All f (treeOf n f)
-    tree-settled f = record { sized = tree-length f; key = tree-key f; node = λ i l _. tree-inner f few i l }
-
     pub settled-tree : (f : ℕ → ℕ) (tree : List ℕ) → SettledAt All f tree → tree ≡ treeOf n f
     settled-tree f tree s = ext-getD 0 tree (treeOf n f) (s .sized ∙ sym (tree-length f))
         (λ i l. go n i (omega arith) (omega (arith, s .sized)) ∙ sym (tree-at f i (omega (arith, s .sized))))

@@ -39,7 +39,7 @@ module _ (n t : ℕ) (h : Head) (base : KernelPriority) (released kept : List �
         → (w : Words) → turned after kept₃ w ≡ afterRelease n released (set kept t (base .0)) (base .0) (turned (turnOf h) kept w)
     release-switches kept₂ kept₃ after k e w = e w ∙ ap (λ ks. switched n released (set ks (h .running) (h .user .0)) w) k ∙ arrives w
 
-    -- and so it is above the next word; v is the leaving task's priority
+    -- and it is above the next word too; v is the leaving task's priority
     pub release-runs : (m : Bool) → m ≡ ltb (h .next .0) (base .0) → m ≡ true → Arrives h n kept t
         → (v next : KernelPriority) (user : UserPriority) (kept₂ : List ℕ) → v .0 ≡ h .user .0 → kept₂ ≡ set kept (h .running) (v .0)
         → user .0 ≡ base .0 → next .0 ≡ max (h .next .0) (v .0) → (w : Words) → turned (record { running = t; user = user; next = next }) kept₂ w

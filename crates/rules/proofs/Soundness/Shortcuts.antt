@@ -8,7 +8,7 @@ use lib.Dec.{ltb}
 use lib.ListN.{length, set, length-set}
 use lib.Seq.{getD-set-same, getD-set-other, ext-getD}
 use borrow.Author.Tests.{lt-ltb, le-ltb}
-use Rattle.rules.specs.Numbers.Capacity.{maxTasks, nobody}
+use Rattle.rules.specs.Numbers.Capacity.{maxTasks}
 use Rattle.rules.specs.Numbers.Place.{at, greatest}
 use Rattle.rules.specs.Schedulers.Elect.{elected}
 use Rattle.rules.specs.Schedulers.Figures.{Figures, figuresOf}
@@ -121,11 +121,11 @@ module _ {p : Plan} {s : State} (S : SoundAndSized p s) where
   unfolding afterOf wordsAfter figuresAfter afterRelease waits
   shortcuts = record {
     waits = λ t o h. ap (λ (w : Words). w .next) (if-false (ltb (s .head .user .0) (at (p .base) t)) _ _ (le-ltb (s .head .user .0) (at (p .base) t) h))
-        ∙ greatest-set (s .kept) (p .tasks) t (at (p .base) t) (kept-none t (o .out)) (o .known) (omega (arith, few, S .wordsSized .kept, o .known))
+        ∙ greatest-set (s .kept) (p .tasks) t (at (p .base) t) (kept-none t (o .unreleased)) (o .known) (omega (arith, few, S .wordsSized .kept, o .known))
         ∙ ap (λ v. max v (at (p .base) t)) (sym next-greatest);
     runs = λ t o h k. let e : wordsAfter p _ (wordsOf s) (Release t) ≡ _ = if-true (ltb (s .head .user .0) (at (p .base) t)) _ _ (lt-ltb (s .head .user .0) (at (p .base) t) h)
-        ∙ newcomer-runs (p .tasks) t (at (p .base) t) r (s .head .user .0) _ (s .kept) few (S .wordsSized .kept) (o .known) (kept-none t (o .out))
-        (newcomer-other t (o .known) (o .out)) kept-running idle-word h (omega (arith, next-greatest)) (wordsOf s) in
+        ∙ newcomer-runs (p .tasks) t (at (p .base) t) r (s .head .user .0) _ (s .kept) few (S .wordsSized .kept) (o .known) (kept-none t (o .unreleased))
+        (newcomer-other t (o .known) (o .unreleased)) kept-running idle-word h (omega (arith, next-greatest)) (wordsOf s) in
         (ap (λ (w : Words). w .running) e, ap (λ (w : Words). w .user) e, ap (λ (w : Words). w .next) e ∙ ap (λ v. max v (s .head .user .0)) (sym next-greatest));
     spares = λ a h. renewed-same (s .delay) (delayed p f r a) (p .tasks)
         (λ x l. delayed-same p f r a x (λ c. omega (arith, waiting x (c .out) (c .lower), c .lower)));

@@ -8,10 +8,10 @@ use Rattle.rules.specs.declared.plan.Plan.{Plan}
 use Rattle.rules.specs.declared.state.State.{State}
 use Rattle.rules.specs.declared.event.Event.the-variants.{Release, Work}
 
--- a task of the plan that is not released, and may arrive
+-- a task of the plan that is not released, so that it may arrive
 pub record Rests (p : Plan) (s : State) (t : ℕ) : Type 0 where
   pub known : t < p .tasks
-  pub out : at (s .released) t ≡ 0
+  pub unreleased : at (s .released) t ≡ 0
 
 pub record Shortcuts (p : Plan) (s : State) : Type 0 where
   -- a newcomer whose base is not above the user word: the next word is the greater of itself and that base

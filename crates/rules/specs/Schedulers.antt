@@ -7,4 +7,5 @@ pub mod Elect
 pub mod EventRefusals
 pub mod FiguresAfter
 pub mod Eager
+pub mod Protocol
 pub mod Lazy

@@ -5,5 +5,6 @@ pub mod capacity;
 pub mod event;
 pub mod plan;
 pub mod priority;
+pub mod protocol;
 pub mod refusal;
 pub mod state;

@@ -20,6 +20,7 @@ use Rattle.rules.specs.Replays.Replay.{replayAs, replayOf}
 use Rattle.rules.specs.Demands.Demand1.{stepTests, StepRefuses, Judged, LoadRefuses, bookChecks, BookRefuses, Untouched, ReplayRefuses}
 use Rattle.rules.specs.Demands.Demand1.{writerChecks, WriteRefuses, Demand1}
 use Rattle.rules.specs.declared.plan.Plan.{Plan}
+use Rattle.rules.specs.declared.protocol.Protocol.{Protocol}
 use Rattle.rules.specs.declared.state.State.{State}
 use Rattle.rules.specs.declared.refusal.Refusal.{Refusal}
 use Rattle.rules.specs.declared.refusal.Refusal.the-variants.{WrongCount}
@@ -49,8 +50,8 @@ module _ (s after : State) (call : Bool) where
   no-call Tested.Passed h = absurd (omega arith)
   no-call (Tested.Refused why) h = refl
 
-module _ (p : Plan) (s : State) where
-  tests-once : (e : Event) → once ofTest (stepTests p s e) ≡ true
+module _ (pr : Protocol) (p : Plan) (s : State) where
+  tests-once : (e : Event) → once ofTest (stepTests pr p s e) ≡ true
   unfolding testsOf releaseOrder acquireOrder unlockOrder workOrder finishOrder among once numberOf
   tests-once (Release t) = refl
   tests-once (Acquire l) = refl
@@ -62,25 +63,25 @@ module _ (p : Plan) (s : State) where
   module _ (e : Event) where
     -- the step is answered by all tests in their order, 10 among them
     abbrev tested : Tested
-    tested = firstTrue (stepTests p s e)
+    tested = firstTrue (stepTests pr p s e)
 
-    step-is : stepOf p s e ≡ answered tested s (afterOf p s e) (lazyCall (wordsOf s) e)
+    step-is : stepOf pr p s e ≡ answered tested s (afterOf pr p s e) (lazyCall (wordsOf s) e)
     unfolding stepOf actOf answered refusalOf firstTrue if_then_else_
-    step-is = by-test (soundTest p s) (λ q. rw q refl) (λ q. rw q refl)
+    step-is = by-test (soundTest pr p s) (λ q. rw q refl) (λ q. rw q refl)
 
-    step-number : answerNumber (stepOf p s e .answer) ≡ testedNumber tested
-    step-number = rw step-is (answered-number tested s (afterOf p s e) (lazyCall (wordsOf s) e))
+    step-number : answerNumber (stepOf pr p s e .answer) ≡ testedNumber tested
+    step-number = rw step-is (answered-number tested s (afterOf pr p s e) (lazyCall (wordsOf s) e))
 
-    step-refuses : StepRefuses p s e (stepOf p s e)
+    step-refuses : StepRefuses pr p s e (stepOf pr p s e)
     unfolding testedNumber
     step-refuses = record {
       exactly = λ why.
           let given = number-given tested why in
-          let exact = given-exactly (stepTests p s e) (tests-once e) why in
+          let exact = given-exactly (stepTests pr p s e) (tests-once e) why in
           (λ q. exact .0 (given .0 (sym step-number ∙ q)), λ q. step-number ∙ given .1 (exact .1 q));
       accepts = (λ q. none-refused tested (sym step-number ∙ q), λ q. step-number ∙ ap testedNumber q);
-      same = λ h. rw step-is (same-state s (afterOf p s e) (lazyCall (wordsOf s) e) tested (rw step-number at h));
-      quiet = λ h. rw step-is (no-call s (afterOf p s e) (lazyCall (wordsOf s) e) tested (rw step-number at h));
+      same = λ h. rw step-is (same-state s (afterOf pr p s e) (lazyCall (wordsOf s) e) tested (rw step-number at h));
+      quiet = λ h. rw step-is (no-call s (afterOf pr p s e) (lazyCall (wordsOf s) e) tested (rw step-number at h));
     }
 
 -- ---- 1 to 9, of records and of books
@@ -137,11 +138,11 @@ module _ (b : List ℕ) (room : ℕ) where
         blank = λ _. refl;
       }
 
-replay-refuses : (b rows : List ℕ) → ReplayRefuses b rows (replayOf b rows)
+replay-refuses : (pr : Protocol) (b rows : List ℕ) → ReplayRefuses b rows (replayOf pr b rows)
 unfolding replayOf replayAs verdictNumber
-replay-refuses b rows = go (checkOf b (length rows))
+replay-refuses pr b rows = go (checkOf b (length rows))
   where
-    go : (v : Verdict) → 0 < verdictNumber v → Untouched rows v (replayAs v (planIn b) (eventsOf b) rows)
+    go : (v : Verdict) → 0 < verdictNumber v → Untouched rows v (replayAs pr v (planIn b) (eventsOf b) rows)
     go Verdict.Passed h = absurd (omega arith)
     go (Verdict.Refused why place) h = record { number = refl; place = refl; state = refl; bytes = refl }
 

@@ -3,25 +3,27 @@ use mathlib.Core.Path.{_≡_, refl, sym, _∙_, ap, ap₂, subst}
 use mathlib.Core.Logic.{_≢_, ⊎-elim, _↔_}
 use mathlib.Core.Bool.{true}
 use mathlib.Core.List.{List}
-use Prim.Native.Nat.{ℕ, _≤_}
+use Prim.Native.Nat.{ℕ, _≤_, _<_}
 use native.Mathlib.Nat.{eq-zero-or-pos}
 use native.Mathlib.Omega.{arith}
 use borrow.Author.Tests.{eqb-false, leb-false, not-false}
 use Rattle.rules.specs.Numbers.Capacity.{nobody}
 use Rattle.rules.specs.Numbers.Choice.{if_then_else_}
-use Rattle.rules.specs.Numbers.Place.{at}
+use Rattle.rules.specs.Numbers.Place.{at, greatest}
 use Rattle.rules.specs.Numbers.Refusal.{numberOf, testFor, testsBefore, Given}
 use Rattle.rules.specs.Books.Plan.{Obeys, declares}
 use Rattle.rules.specs.Schedulers.Figures.{Figures, figuresOf, rankOf}
 use Rattle.rules.specs.Schedulers.EventRefusals.{testsOf, releaseOrder, acquireOrder, unlockOrder, workOrder, finishOrder, allTests, refusalOf}
 use Rattle.rules.specs.Schedulers.Eager.{runningOf, eagerTest}
 use Rattle.rules.specs.Schedulers.Lazy.{wordsOf, callsFor, backOf, lazyCall}
-use Rattle.rules.specs.Soundness.Sound.{keptOf, savedOf}
+use Rattle.rules.specs.Soundness.Sound.{keptOf, savedOf, SoundSecond}
 use Rattle.rules.specs.Replays.Step.{afterOf, answered, actOf, stepOf}
 use Rattle.rules.specs.Numbers.Answer.{passes, testedNumber, answerNumber, answerCalls}
-use Rattle.rules.specs.Demands.History.{eventAt, eagerAt, lazyAt, acceptedAt}
-use Rattle.rules.specs.Demands.Demand2.{NextWord, Outranked, Demand2}
+use Rattle.rules.specs.Demands.History.{eventAt, eagerAt, lazyAt, runnerAt, acceptedAt, restoredOf, kernelAt}
+use Rattle.rules.specs.Demands.Demand2.{Covers, NextWord, Outranked, SecondRule, FirstRule, OwnRule, Demand2}
 use Rattle.rules.specs.declared.plan.Plan.{Plan}
+use Rattle.rules.specs.declared.protocol.Protocol.{Protocol}
+use Rattle.rules.specs.declared.protocol.Protocol.the-variants.{Second, First}
 use Rattle.rules.specs.declared.state.State.{State}
 use Rattle.rules.specs.declared.answer.Tested.{Tested}
 use Rattle.rules.specs.declared.refusal.Refusal.the-variants.{Unsound, NobodyRuns, Unknown, NotDeclared, OpenElsewhere}
@@ -30,13 +32,13 @@ use Rattle.rules.specs.declared.event.Event.the-variants.{Release, Acqui
 use Rattle.rules.proofs.Numbers.Choice.{if-true, if-false, by-test, either, untrue, at-or}
 use Rattle.rules.proofs.Numbers.Place.{greatest-least}
 use Rattle.rules.proofs.Numbers.Order.{passes-so, among, once, none-holds, never-given, given-holds, number-given}
-use Rattle.rules.proofs.Schedulers.Rules.{rank-out, rank-in, kept-own, kept-other}
+use Rattle.rules.proofs.Schedulers.Rules.{call-below, below-call, rank-out, rank-in, kept-own, kept-other}
 use Rattle.rules.proofs.Soundness.SoundKept.{step-act}
 use Rattle.rules.proofs.Demands.History.{eager-counted}
 use Rattle.rules.proofs.Demands.EagerRuled.{Ruled, runs-best, some-runs, not-elsewhere, ruledAt}
-use Rattle.rules.proofs.Demands.Follow.{Follows, same-test, next-above, follows, same-figures, same-running}
+use Rattle.rules.proofs.Demands.Follow.{Follows, same-test, follows, same-figures, same-running}
 use Rattle.rules.proofs.Replays.OneStep.{answered-number}
-use Rattle.rules.proofs.Demands.Calls.{call-some, some-call, lazy-counted}
+use Rattle.rules.proofs.Demands.Calls.{back-is, call-some, some-call, KernelIs, kernel-is, lazy-counted}
 
 -- ---- no event is refused with 10 or 17
 
@@ -82,81 +84,127 @@ module _ {p : Plan} (O : Obeys p) {f : Figures} (R : Ruled p f) where
 
 -- ---- one place
 
-module _ {p : Plan} {s : State} (F : Follows p s) where
+module _ {pr : Protocol} {p : Plan} {s : State} (F : Follows pr p s) where
   abbrev f : Figures
   f = figuresOf s
 
-  answers-by : (e : Event) → answerNumber (stepOf p s e .answer) ≡ testedNumber (eagerTest p f e)
+  answers-by : (e : Event) → answerNumber (stepOf pr p s e .answer) ≡ testedNumber (eagerTest p f e)
   unfolding actOf
-  answers-by e = rw (step-act (F .sound) e, same-test F e) (answered-number (refusalOf p f (s .head .running) e) s (afterOf p s e) (lazyCall (wordsOf s) e))
+  answers-by e = rw (step-act (F .sound) e, same-test F e) (answered-number (refusalOf p f (s .head .running) e) s (afterOf pr p s e) (lazyCall (wordsOf s) e))
 
   -- the calls of an event that is accepted, and of one that is refused
-  calls-by : (e : Event) (t : Tested) → answerCalls (answered t s (afterOf p s e) (lazyCall (wordsOf s) e) .answer)
+  calls-by : (e : Event) (t : Tested) → answerCalls (answered t s (afterOf pr p s e) (lazyCall (wordsOf s) e) .answer)
       ≡ (if passes t then (if lazyCall (wordsOf s) e then 1 else 0) else 0)
   unfolding answered answerCalls passes if_then_else_
   calls-by e Tested.Passed = refl
   calls-by e (Tested.Refused why) = refl
 
-  calls-are : (e : Event) → answerCalls (stepOf p s e .answer) ≡ (if passes (eagerTest p f e) then (if lazyCall (wordsOf s) e then 1 else 0) else 0)
+  calls-are : (e : Event) → answerCalls (stepOf pr p s e .answer) ≡ (if passes (eagerTest p f e) then (if lazyCall (wordsOf s) e then 1 else 0) else 0)
   unfolding actOf
   calls-are e = rw (step-act (F .sound) e, same-test F e) (calls-by e (refusalOf p f (s .head .running) e))
 
-  calls-few : (e : Event) → answerCalls (stepOf p s e .answer) ≤ 1
+  calls-few : (e : Event) → answerCalls (stepOf pr p s e .answer) ≤ 1
   calls-few e = rw (calls-are e) (either (λ n. n ≤ 1) _ _ 0 (either (λ n. n ≤ 1) _ 1 0 (omega arith) (omega arith)) (omega arith))
 
-  acquire-by : (l : ℕ) → answerCalls (stepOf p s (Acquire l) .answer) ≡ 0
+  acquire-by : (l : ℕ) → answerCalls (stepOf pr p s (Acquire l) .answer) ≡ 0
   unfolding lazyCall if_then_else_
   acquire-by l = calls-are (Acquire l) ∙ by-test (passes (eagerTest p f (Acquire l))) (λ e. rw e) (λ e. rw e)
 
-  unlock-by : (l : ℕ) → passes (eagerTest p f (Unlock l)) ≡ true → (answerCalls (stepOf p s (Unlock l) .answer) ≡ 1) ↔ Outranked p f (runningOf p f) l
+  -- an accepted unlock is a call exactly where the rule says so; X is what the rule comes to
+  unlock-by : (l : ℕ) (X : Type 0) → passes (eagerTest p f (Unlock l)) ≡ true
+      → (refusalOf p f (s .head .running) (Unlock l) ≡ Tested.Passed
+      → (callsFor (backOf (wordsOf s)) (s .head .next .0) ≡ true → X) × (X → callsFor (backOf (wordsOf s)) (s .head .next .0) ≡ true))
+      → (answerCalls (stepOf pr p s (Unlock l) .answer) ≡ 1) ↔ X
   unfolding lazyCall
-  unlock-by l a =
+  unlock-by l X a rule =
       let z : refusalOf p f (s .head .running) (Unlock l) ≡ Tested.Passed = sym (same-test F (Unlock l)) ∙ passes-so _ a in
-      let c : answerCalls (stepOf p s (Unlock l) .answer) ≡ (if callsFor (backOf (wordsOf s)) (s .head .next .0) then 1 else 0) = calls-are (Unlock l)
+      let c : answerCalls (stepOf pr p s (Unlock l) .answer) ≡ (if callsFor (backOf (wordsOf s)) (s .head .next .0) then 1 else 0) = calls-are (Unlock l)
       ∙ if-true _ _ 0 a in
-      rw (← F .running) (
-        λ q. by-test (callsFor (backOf (wordsOf s)) (s .head .next .0)) (λ e. call-some F l z e)
+      (
+        λ q. by-test (callsFor (backOf (wordsOf s)) (s .head .next .0)) (λ e. rule z .0 e)
             (λ e. absurd (omega (arith, c, if-false {A = ℕ} (callsFor (backOf (wordsOf s)) (s .head .next .0)) 1 0 e))),
-        λ q. c ∙ if-true _ 1 0 (some-call F l z q),
+        λ q. c ∙ if-true _ 1 0 (rule z .1 q),
       )
 
-  next-by : NextWord p f (runningOf p f) (s .head .next .0)
+  -- by either protocol: where the second word is strictly above the restored priority, so always where another released task is
+  unlock-word : (l : ℕ) → passes (eagerTest p f (Unlock l)) ≡ true → (answerCalls (stepOf pr p s (Unlock l) .answer) ≡ 1) ↔ (restoredOf p f l < s .head .next .0)
+  unlock-word l a = unlock-by l (restoredOf p f l < s .head .next .0) a (λ z.
+      let b : backOf (wordsOf s) ≡ restoredOf p f l = rw (← F .running) (back-is F l z) in
+      (λ e. omega (arith, call-below (backOf (wordsOf s)) (s .head .next .0) e), λ q. below-call (backOf (wordsOf s)) (s .head .next .0) (omega arith)))
+
+  unlock-outranked : (l : ℕ) → passes (eagerTest p f (Unlock l)) ≡ true → Outranked p f (runningOf p f) l → answerCalls (stepOf pr p s (Unlock l) .answer) ≡ 1
+  unlock-outranked l a (y, m, u, h) = unlock-word l a .1 (omega (arith, F .covers y (rw (F .running) m) u))
+
+-- ---- the second protocol
+
+module _ {p : Plan} {s : State} (F : Follows Second p s) where
+  abbrev g : Figures
+  g = figuresOf s
+
+  second-unlock : (l : ℕ) → passes (eagerTest p g (Unlock l)) ≡ true
+      → (answerCalls (stepOf Second p s (Unlock l) .answer) ≡ 1) ↔ Outranked p g (runningOf p g) l
+  second-unlock l a = rw (← F .running) (unlock-by F l (Outranked p g (s .head .running) l) a (λ z. (call-some F l z, some-call F l z)))
+
+  next-by : NextWord p g (runningOf p g) (s .head .next .0)
+  unfolding SoundSecond
   next-by = rw (← F .running) (record {
-    all = next-above F;
-    least = λ v h. rw (F .sound .sound .words .next) (greatest-least (keptOf p f (s .head .running)) v (p .tasks)
-        (λ y l. at-or (λ y. keptOf p f (s .head .running) y ≤ v) (s .head .running)
-        (omega (arith, kept-own p f (s .head .running)))
-        (λ y m. ⊎-elim (λ z. omega (arith, kept-other p f (s .head .running) y m, rank-in p f y z))
-        (λ o. omega (arith, kept-other p f (s .head .running) y m, rank-out p f y o, h y m o)) (eq-zero-or-pos (at (f .released) y))) y));
+    all = F .covers;
+    least = λ v h.
+        let n : s .head .next .0 ≡ greatest (keptOf p g (s .head .running)) (p .tasks) = F .sound .sound .words .next in
+        rw n (greatest-least (keptOf p g (s .head .running)) v (p .tasks)
+        (λ y l. at-or (λ y. keptOf p g (s .head .running) y ≤ v) (s .head .running)
+        (omega (arith, kept-own p g (s .head .running)))
+        (λ y m. ⊎-elim (λ z. omega (arith, kept-other p g (s .head .running) y m, rank-in p g y z))
+        (λ o. omega (arith, kept-other p g (s .head .running) y m, rank-out p g y o, h y m o)) (eq-zero-or-pos (at (g .released) y))) y));
   })
 
 -- ---- every place
 
-pub demand2 : {p : Plan} → Obeys p → (es : List Event) (k : ℕ) → Demand2 p es k
-unfolding acceptedAt
-demand2 {p} O es k =
-    let F : Follows p (lazyAt p es k) = follows O es k in
-    let E : figuresOf (lazyAt p es k) ≡ eagerAt p es k = same-figures O es k in
+module _ {p : Plan} (O : Obeys p) (es : List Event) (k : ℕ) where
+  -- the event at place k is accepted by the lazy scheduler's figures
+  accepted-here : (pr : Protocol) (l : ℕ) → eventAt es k ≡ Unlock l → acceptedAt p es k ≡ true → passes (eagerTest p (figuresOf (lazyAt pr p es k)) (Unlock l)) ≡ true
+  unfolding acceptedAt
+  accepted-here pr l q a = rw (same-figures pr O es k) (subst (λ e. passes (eagerTest p (eagerAt p es k) e) ≡ true) q a)
+
+  own-rule : (pr : Protocol) → OwnRule pr p es k
+  unfolding OwnRule KernelIs
+  own-rule Second = record {
+    next = rw (← same-figures Second O es k) (next-by (follows Second O es k));
+    unlock = λ l q a. rw (q, ← same-figures Second O es k) (second-unlock (follows Second O es k) l (accepted-here Second l q a));
+  }
+  own-rule First = record {
+    kernel = sym (kernel-is First O es k);
+    unlock = λ l q a. rw (q, ← same-figures First O es k, kernel-is First O es k) (unlock-word (follows First O es k) l (accepted-here First l q a));
+    outranked = λ l q a r. rw q (unlock-outranked (follows First O es k) l (accepted-here First l q a)
+        (subst (λ (f : Figures). Outranked p f (runningOf p f) l) (sym (same-figures First O es k)) r));
+  }
+
+pub demand2 : (pr : Protocol) {p : Plan} → Obeys p → (es : List Event) (k : ℕ) → Demand2 pr p es k
+demand2 pr {p} O es k =
+    let F : Follows pr p (lazyAt pr p es k) = follows pr O es k in
+    let E : figuresOf (lazyAt pr p es k) ≡ eagerAt p es k = same-figures pr O es k in
     let R : Ruled p (eagerAt p es k) = ruledAt O es k in
     let e : Event = eventAt es k in
-    let number : answerNumber (stepOf p (lazyAt p es k) e .answer) ≡ testedNumber (eagerTest p (eagerAt p es k) e) = answers-by F e
+    let number : answerNumber (stepOf pr p (lazyAt pr p es k) e .answer) ≡ testedNumber (eagerTest p (eagerAt p es k) e) = answers-by F e
     ∙ ap (λ f. testedNumber (eagerTest p f e)) E in
     record {
       figures = E;
-      running = same-running O es k;
+      running = same-running pr O es k;
       foremost = λ n. let b = runs-best O R n in record { released = b .out; greatest = b .top; earliest = b .tie };
       idle = idle-by O R;
-      user = F .sound .sound .words .user ∙ ap₂ (rankOf p) E (same-running O es k);
-      next = rw (← E) (next-by F);
-      kept = λ x. F .sound .sound .words .kept x ∙ ap₂ (λ f r. keptOf p f r x) E (same-running O es k);
+      user = F .sound .sound .words .user ∙ ap₂ (rankOf p) E (same-running pr O es k);
+      covers = subst (λ (f : Figures). Covers p f (runningOf p f) (lazyAt pr p es k .head .next .0)) E
+          (rw (← F .running) (F .covers));
+      atMost = F .atMost;
+      kept = λ x. F .sound .sound .words .kept x ∙ ap₂ (λ f r. keptOf p f r x) E (same-running pr O es k);
       saved = λ x. F .sound .sound .words .saved x ∙ ap (λ f. savedOf p f x) E;
       answers = number;
       oneHolder = R .figured .alone;
       no10 = λ q. never10 p (eagerAt p es k) e (sym number ∙ q);
       no17 = λ q. never17 O R e (sym number ∙ q);
-      unlock = λ l q a. rw (q, ← E) (unlock-by F l (rw E (subst (λ e. passes (eagerTest p (eagerAt p es k) e) ≡ true) q a)));
+      rule = own-rule O es k pr;
       calls = calls-few F e;
       acquire = λ l q. rw q (acquire-by F l);
-      lazy = lazy-counted O es k;
+      lazy = lazy-counted pr O es k;
       eager = ap (λ (f : Figures). f .eager) E ∙ eager-counted p es k;
     }

@@ -19,6 +19,7 @@ use Rattle.rules.specs.Demands.History.{eventAt, eagerAt, lazyAt, runner
 use Rattle.rules.specs.Demands.Job.{Accepted, Does, Section, Job, LowerWork, lowerUnits, lowerTotal}
 use Rattle.rules.specs.Demands.Demand3.{OneSection, Demand3, SectionsAreOpen}
 use Rattle.rules.specs.declared.plan.Plan.{Plan}
+use Rattle.rules.specs.declared.protocol.Protocol.{Protocol}
 use Rattle.rules.specs.declared.event.Event.{Event}
 use Rattle.rules.specs.declared.event.Event.the-variants.{Release, Acquire, Unlock, Finish}
 use Rattle.rules.proofs.Numbers.Choice.{if-true, if-false, by-test, untrue, and-true, true-and, lt-or-le}
@@ -42,8 +43,8 @@ module _ {p : Plan} (O : Obeys p) (es : List Event) where
   lateAt (suc k) = late-step O (ruledAt O es k) (lateAt k) (eventAt es k)
 
   -- the figures of both schedulers are the same
-  pub delays-same : (k t : ℕ) → at (lazyAt p es k .delay) t ≡ at (eagerAt p es k .delay) t
-  delays-same k t = ap (λ (f : Figures). at (f .delay) t) (same-figures O es k)
+  pub delays-same : (pr : Protocol) (k t : ℕ) → at (lazyAt pr p es k .delay) t ≡ at (eagerAt p es k .delay) t
+  delays-same pr k t = ap (λ (f : Figures). at (f .delay) t) (same-figures pr O es k)
 
   -- ---- jobs
 
@@ -272,16 +273,16 @@ module _ {p : Plan} (O : Obeys p) (es : List Event) where
       (λ a. delay-history k t ∙ sym (if-false _ (delayNext p (eagerAt p es k) (eventAt es k) t (delayCount p es t k)) _ a))
 
   -- the figure in the state is that count
-  pub delay-counted : (k t : ℕ) → at (lazyAt p es k .delay) t ≡ delayCount p es t k
-  delay-counted k t = delays-same k t ∙ delay-history k t
+  pub delay-counted : (pr : Protocol) (k t : ℕ) → at (lazyAt pr p es k .delay) t ≡ delayCount p es t k
+  delay-counted pr k t = delays-same pr k t ∙ delay-history k t
 
 -- every job of every list of events from a fresh start
-pub demand3 : {p : Plan} → Obeys p → (es : List Event) (t i : ℕ) → Accepted p es i (Release t) → Demand3 p es t i
-demand3 {p} O es t i B = record {
+pub demand3 : (pr : Protocol) {p : Plan} → Obeys p → (es : List Event) (t i : ℕ) → Accepted p es i (Release t) → Demand3 pr p es t i
+demand3 pr {p} O es t i B = record {
   oneSection = one-section O es t i B;
   noneAfter = none-after O es t i B;
   units = units O es t i B;
   bounded = λ k J. omega (arith, counted O es t i B k J, lateAt O es k .bounded t);
-  counted = λ k J. delays-same O es k t ∙ counted O es t i B k J;
-  reported = λ k n J D h f. delays-same O es n t ∙ rests O es t i B k J D n h f .1;
+  counted = λ k J. delays-same O es pr k t ∙ counted O es t i B k J;
+  reported = λ k n J D h f. delays-same O es pr n t ∙ rests O es t i B k J D n h f .1;
 }

@@ -16,6 +16,7 @@ use Rattle.rules.specs.Replays.Run.{Ran, runFrom}
 use Rattle.rules.specs.Replays.Replay.{replayAs, replayOf}
 use Rattle.rules.specs.Demands.Demand3.{worstCase}
 use Rattle.rules.specs.Demands.Replayed.{RanUpTo, BookReaches, Promised}
+use Rattle.rules.specs.declared.protocol.Protocol.{Protocol}
 use Rattle.rules.specs.declared.answer.Verdict.{Verdict}
 use Rattle.rules.specs.declared.refusal.Refusal.the-variants.{ShortRows}
 use Rattle.rules.specs.declared.event.Event.{Event}
@@ -36,13 +37,13 @@ module _ (b rows : List ℕ) where
       ltb-false (length rows) (countAt b 3 * 4) (clean-for (eventChecks b (length rows)) (passed-events b (length rows) passed) ShortRows 0 (omega arith)),
     )
 
-    replay-runs : replayOf b rows ≡ runFrom (planIn b) (eventsOf b) 0 freshOf rows
+    replay-runs : (pr : Protocol) → replayOf pr b rows ≡ runFrom pr (planIn b) (eventsOf b) 0 freshOf rows
     unfolding replayOf replayAs
-    replay-runs = ap (λ v. replayAs v (planIn b) (eventsOf b) rows) passed
+    replay-runs pr = ap (λ v. replayAs pr v (planIn b) (eventsOf b) rows) passed
 
 -- the book of the list that reaches the bound
-book-reaches : (b : List ℕ) (room : ℕ) → checkOf b room ≡ Verdict.Passed → Obeys (planIn b) → (t : ℕ) → t < planIn b .tasks → BookReaches b t
-book-reaches b room passed O t h =
+book-reaches : (pr : Protocol) (b : List ℕ) (room : ℕ) → checkOf b room ≡ Verdict.Passed → Obeys (planIn b) → (t : ℕ) → t < planIn b .tasks → BookReaches pr b t
+book-reaches pr b room passed O t h =
     let es : List Event = worstCase (planIn b) t in
     let few : length es ≤ maxEvents = omega (arith, worst-few O t h) in
     let same : eventsOf (withEvents b es) ≡ es = events-same b es (worst-recorded O t h) in
@@ -54,14 +55,14 @@ book-reaches b room passed O t h =
           let fit : length es * 4 ≤ length rows = rw same at fits in
           let accepted : checkOf (withEvents b es) (length rows) ≡ Verdict.Passed = accepted-with b es (worst-recorded O t h) room passed few
           (length rows) fit in
-          rw (replay-runs (withEvents b es) rows accepted, same, plan-same b es) (worst-reaches O t h rows fit);
+          rw (replay-runs (withEvents b es) rows accepted pr, same, plan-same b es) (worst-reaches O t h pr rows fit);
     }
 
 -- every book, with every row space
-pub replayed : (b rows : List ℕ) → Promised b rows
-replayed b rows = record {
+pub replayed : (pr : Protocol) (b rows : List ℕ) → Promised pr b rows
+replayed pr b rows = record {
   ran = λ z. let e = check-passes b (length rows) z in
-      subst (λ (ran : Ran). RanUpTo (planIn b) (eventsOf b) rows ran (ran .state .head .accepted)) (sym (replay-runs b rows e))
-      (ran-up-to (passed-obeys b (length rows) e) (eventsOf b) rows (rows-fit b rows e));
-  reached = λ z. let e = check-passes b (length rows) z in book-reaches b (length rows) e (passed-obeys b (length rows) e);
+      subst (λ (ran : Ran). RanUpTo pr (planIn b) (eventsOf b) rows ran (ran .state .head .accepted)) (sym (replay-runs b rows e pr))
+      (ran-up-to pr (passed-obeys b (length rows) e) (eventsOf b) rows (rows-fit b rows e));
+  reached = λ z. let e = check-passes b (length rows) z in book-reaches pr b (length rows) e (passed-obeys b (length rows) e);
 }

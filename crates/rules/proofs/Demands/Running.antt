@@ -18,10 +18,12 @@ use Rattle.rules.specs.Schedulers.Lazy.{wordsOf, lazyCall}
 use Rattle.rules.specs.Replays.Step.{stepOf}
 use Rattle.rules.specs.Numbers.Answer.{passes, testedNumber, answerNumber, answerCalls, verdictNumber, verdictPlace}
 use Rattle.rules.specs.Replays.Run.{Ran, withRow, onward, runFrom}
-use Rattle.rules.specs.Demands.History.{eventAt, eagerAt, lazyAt, acceptedAt, callsDue}
-use Rattle.rules.specs.Demands.Demand2.{Demand2}
-use Rattle.rules.specs.Demands.Replayed.{RowAt, RanUpTo}
+use Rattle.rules.specs.Demands.History.{eventAt, eagerAt, lazyAt, acceptedAt, callsDue, kernelAt, callsAt}
+use Rattle.rules.specs.Demands.Demand2.{OwnRule, Demand2}
+use Rattle.rules.specs.Demands.Replayed.{OwnRow, RowAt, RanUpTo}
 use Rattle.rules.specs.declared.plan.Plan.{Plan}
+use Rattle.rules.specs.declared.protocol.Protocol.{Protocol}
+use Rattle.rules.specs.declared.protocol.Protocol.the-variants.{Second, First}
 use Rattle.rules.specs.declared.state.Head.{Head}
 use Rattle.rules.specs.declared.state.State.{State}
 use Rattle.rules.specs.declared.answer.Answer.{Answer}
@@ -32,8 +34,8 @@ use Rattle.rules.specs.declared.event.Event.the-variants.{Tick}
 use Rattle.rules.proofs.Numbers.Choice.{lt-or-le}
 use Rattle.rules.proofs.Numbers.Refusals.{numbered}
 use Rattle.rules.proofs.Numbers.Place.{below}
-use Rattle.rules.proofs.Demands.Follow.{same-test, follows, same-figures}
-use Rattle.rules.proofs.Demands.Calls.{due}
+use Rattle.rules.proofs.Demands.Follow.{follows, same-figures, same-tests}
+use Rattle.rules.proofs.Demands.Calls.{due, kernel-is}
 use Rattle.rules.proofs.Demands.Demand2.{demand2}
 use Rattle.rules.proofs.Demands.Fair.{fair}
 use Rattle.rules.proofs.Demands.History.{passedAt, all-counted}
@@ -41,74 +43,79 @@ use Rattle.rules.proofs.Demands.Jobs.{lateAt, delays-same, delay-counte
 use Rattle.rules.proofs.Replays.RowBytes.{row-length, row-other, row-running, row-user, row-next, row-call}
 use Rattle.rules.proofs.Replays.OneStep.{step-accepts, step-refused, step-call}
 
+-- what is the protocol's own of a row: its second word by the place after it, and its call by the place before it
+own-row : (pr : Protocol) (p : Plan) (es : List Event) (k : ℕ) → OwnRule pr p es (suc k) → OwnRule pr p es k → acceptedAt p es k ≡ true
+    → OwnRow pr p es k (lazyAt pr p es (suc k) .head .next .0) (answerCalls (stepOf pr p (lazyAt pr p es k) (eventAt es k) .answer))
+unfolding OwnRule OwnRow
+own-row Second p es k after before a = record { others = after .next; unlock = λ l e. before .unlock l e a }
+own-row First p es k after before a = record { kernel = after .kernel; unlock = λ l e. before .unlock l e a; outranked = λ l e. before .outranked l e a }
+
 -- the run has come to place k, and the row bytes are xs; at the start they were rows
-record SoFar (p : Plan) (es : List Event) (rows : List ℕ) (k : ℕ) (xs : List ℕ) : Type 0 where
+record SoFar (pr : Protocol) (p : Plan) (es : List Event) (rows : List ℕ) (k : ℕ) (xs : List ℕ) : Type 0 where
   accepted : (j : ℕ) → j < k → acceptedAt p es j ≡ true
-  written : (j : ℕ) → j < k → RowAt p es j (at xs (j * 4)) (at xs (j * 4 + 1)) (at xs (j * 4 + 2)) (at xs (j * 4 + 3))
+  written : (j : ℕ) → j < k → RowAt pr p es j (at xs (j * 4)) (at xs (j * 4 + 1)) (at xs (j * 4 + 2)) (at xs (j * 4 + 3))
   stay : (i : ℕ) → k * 4 ≤ i → at xs i ≡ at rows i
   size : length xs ≡ length rows
 
 -- the run ends at place a
-record Ends (p : Plan) (es : List Event) (rows : List ℕ) (ran : Ran) (a : ℕ) : Type 0 where
+record Ends (pr : Protocol) (p : Plan) (es : List Event) (rows : List ℕ) (ran : Ran) (a : ℕ) : Type 0 where
   within : a ≤ length es
-  soFar : SoFar p es rows a (ran .rows)
-  state : ran .state ≡ lazyAt p es a
+  soFar : SoFar pr p es rows a (ran .rows)
+  state : ran .state ≡ lazyAt pr p es a
   passed : a ≡ length es → ran .verdict ≡ Verdict.Passed
-  refused : a < length es → (why : Refusal) × (ran .verdict ≡ Verdict.Refused why a) × (stepOf p (lazyAt p es a) (eventAt es a) .answer ≡ Answer.Refused why)
+  refused : a < length es → (why : Refusal) × (ran .verdict ≡ Verdict.Refused why a) × (stepOf pr p (lazyAt pr p es a) (eventAt es a) .answer ≡ Answer.Refused why)
 
-module _ {p : Plan} (O : Obeys p) (es : List Event) (rows : List ℕ) (room : length es * 4 ≤ length rows) where
-  -- both schedulers accept the same events
-  same-test-at : (k : ℕ) → eagerTest p (eagerAt p es k) (eventAt es k) ≡ refusalOf p (figuresOf (lazyAt p es k)) (lazyAt p es k .head .running) (eventAt es k)
-  same-test-at k = ap (λ f. eagerTest p f (eventAt es k)) (sym (same-figures O es k)) ∙ same-test (follows O es k) (eventAt es k)
-
-  accepts-at : (k : ℕ) → acceptedAt p es k ≡ true → (call : Bool) × (stepOf p (lazyAt p es k) (eventAt es k) .answer ≡ Answer.Accepted call)
+module _ (pr : Protocol) {p : Plan} (O : Obeys p) (es : List Event) (rows : List ℕ) (room : length es * 4 ≤ length rows) where
+  accepts-at : (k : ℕ) → acceptedAt p es k ≡ true → (call : Bool) × (stepOf pr p (lazyAt pr p es k) (eventAt es k) .answer ≡ Answer.Accepted call)
   accepts-at k a = (
-    lazyCall (wordsOf (lazyAt p es k)) (eventAt es k),
-    step-accepts (follows O es k .sound) (eventAt es k)
-        (sym (same-test-at k) ∙ passedAt p es k a),
+    lazyCall (wordsOf (lazyAt pr p es k)) (eventAt es k),
+    step-accepts (follows pr O es k .sound) (eventAt es k)
+        (sym (same-tests pr O es k) ∙ passedAt p es k a),
   )
 
   -- an accepted event
-  module _ (k : ℕ) (h : k < length es) (call : Bool) (said : stepOf p (lazyAt p es k) (eventAt es k) .answer ≡ Answer.Accepted call) where
+  module _ (k : ℕ) (h : k < length es) (call : Bool) (said : stepOf pr p (lazyAt pr p es k) (eventAt es k) .answer ≡ Answer.Accepted call) where
     accepted-here : acceptedAt p es k ≡ true
     unfolding acceptedAt passes
-    accepted-here = ap passes (same-test-at k ∙ step-call (follows O es k .sound) (eventAt es k) call said .0)
+    accepted-here = ap passes (same-tests pr O es k ∙ step-call (follows pr O es k .sound) (eventAt es k) call said .0)
 
-    calls-here : answerCalls (stepOf p (lazyAt p es k) (eventAt es k) .answer) ≡ (if call then 1 else 0)
+    calls-here : answerCalls (stepOf pr p (lazyAt pr p es k) (eventAt es k) .answer) ≡ (if call then 1 else 0)
     unfolding answerCalls
     calls-here = ap answerCalls said
 
-    due-here : (if call then 1 else 0) ≡ callsDue p (eagerAt p es k) (eventAt es k)
+    due-here : (if call then 1 else 0) ≡ callsAt pr p es k
     due-here =
-        let (z, c) = step-call (follows O es k .sound) (eventAt es k) call said in
-        ap (λ c. if c then 1 else 0) c ∙ due (follows O es k) (eventAt es k) z ∙ ap (λ f. callsDue p f (eventAt es k)) (same-figures O es k)
+        let (z, c) = step-call (follows pr O es k .sound) (eventAt es k) call said in
+        ap (λ c. if c then 1 else 0) c ∙ due (follows pr O es k) (kernelAt p es k) (kernel-is pr O es k) (eventAt es k) z
+        ∙ ap (λ f. callsDue pr p f (kernelAt p es k) (eventAt es k)) (same-figures pr O es k)
 
-    row-here : (xs : List ℕ) → length xs ≡ length rows → let ys = withRow xs k (lazyAt p es (suc k) .head) call in RowAt p es k (at ys (k * 4))
+    row-here : (xs : List ℕ) → length xs ≡ length rows → let ys = withRow xs k (lazyAt pr p es (suc k) .head) call in RowAt pr p es k (at ys (k * 4))
         (at ys (k * 4 + 1)) (at ys (k * 4 + 2)) (at ys (k * 4 + 3))
     row-here xs z =
-        let w : Head = lazyAt p es (suc k) .head in
-        let D : Demand2 p es (suc k) = demand2 O es (suc k) in
+        let w : Head = lazyAt pr p es (suc k) .head in
+        let D : Demand2 pr p es (suc k) = demand2 pr O es (suc k) in
         let fits : k * 4 + 4 ≤ length xs = omega arith in
         rw (row-running xs k w call fits, row-user xs k w call fits, row-next xs k w call fits, row-call xs k w call fits) (record {
           runs = D .running;
           foremost = rw (D .running) (D .foremost);
           idle = rw (D .running) (D .idle);
           own = D .user;
-          others = D .next;
+          covers = D .covers;
+          atMost = D .atMost;
           due = due-here;
-          once = rw (← calls-here) (demand2 O es k .calls);
-          unlock = λ l e. rw (← calls-here) (demand2 O es k .unlock l e accepted-here);
-          acquire = λ l e. sym calls-here ∙ demand2 O es k .acquire l e;
+          once = rw (← calls-here) (demand2 pr O es k .calls);
+          rule = rw (← calls-here) (own-row pr p es k (D .rule) (demand2 pr O es k .rule) accepted-here);
+          acquire = λ l e. sym calls-here ∙ demand2 pr O es k .acquire l e;
         })
 
-    further : (xs : List ℕ) → SoFar p es rows k xs → SoFar p es rows (suc k) (withRow xs k (lazyAt p es (suc k) .head) call)
+    further : (xs : List ℕ) → SoFar pr p es rows k xs → SoFar pr p es rows (suc k) (withRow xs k (lazyAt pr p es (suc k) .head) call)
     further xs S =
-        let other : (i : ℕ) → (k * 4 ≤ i → i < k * 4 + 4 → ⊥) → at (withRow xs k (lazyAt p es (suc k) .head) call) i
-        ≡ at xs i = row-other xs k (lazyAt p es (suc k) .head) call in
-        let ys : List ℕ = withRow xs k (lazyAt p es (suc k) .head) call in
+        let other : (i : ℕ) → (k * 4 ≤ i → i < k * 4 + 4 → ⊥) → at (withRow xs k (lazyAt pr p es (suc k) .head) call) i
+        ≡ at xs i = row-other xs k (lazyAt pr p es (suc k) .head) call in
+        let ys : List ℕ = withRow xs k (lazyAt pr p es (suc k) .head) call in
         record {
           accepted = below (λ j. acceptedAt p es j ≡ true) k (S .accepted) accepted-here;
-          written = below (λ j. RowAt p es j (at ys (j * 4)) (at ys (j * 4 + 1)) (at ys (j * 4 + 2)) (at ys (j * 4 + 3))) k
+          written = below (λ j. RowAt pr p es j (at ys (j * 4)) (at ys (j * 4 + 1)) (at ys (j * 4 + 2)) (at ys (j * 4 + 3))) k
               (λ j q. rw (
                 other (j * 4) (λ u v. omega arith),
                 other (j * 4 + 1) (λ u v. omega arith),
@@ -117,26 +124,26 @@ module _ {p : Plan} (O : Obeys p) (es : List Event) (rows : List ℕ) (room : le
               ) (S .written j q))
               (row-here xs (S .size));
           stay = λ i q. other i (λ u v. omega arith) ∙ S .stay i (omega arith);
-          size = row-length xs k (lazyAt p es (suc k) .head) call ∙ S .size;
+          size = row-length xs k (lazyAt pr p es (suc k) .head) call ∙ S .size;
         }
 
   -- the event at place k, where `rest` runs after it
-  turn : (k : ℕ) (xs : List ℕ) (rest : List Event) → k < length es → SoFar p es rows k xs
-      → ((ys : List ℕ) → SoFar p es rows (suc k) ys → (a : ℕ) × Ends p es rows (runFrom p rest (suc k) (lazyAt p es (suc k)) ys) a)
-      → (a : ℕ) × Ends p es rows (onward (stepOf p (lazyAt p es k) (eventAt es k) .answer) (stepOf p (lazyAt p es k) (eventAt es k) .state) k xs
-      (runFrom p rest (suc k))) a
+  turn : (k : ℕ) (xs : List ℕ) (rest : List Event) → k < length es → SoFar pr p es rows k xs
+      → ((ys : List ℕ) → SoFar pr p es rows (suc k) ys → (a : ℕ) × Ends pr p es rows (runFrom pr p rest (suc k) (lazyAt pr p es (suc k)) ys) a)
+      → (a : ℕ) × Ends pr p es rows (onward (stepOf pr p (lazyAt pr p es k) (eventAt es k) .answer) (stepOf pr p (lazyAt pr p es k) (eventAt es k) .state) k xs
+      (runFrom pr p rest (suc k))) a
   unfolding onward lazyAt answerNumber
-  turn k xs rest h S on = go (stepOf p (lazyAt p es k) (eventAt es k) .answer) refl
+  turn k xs rest h S on = go (stepOf pr p (lazyAt pr p es k) (eventAt es k) .answer) refl
     where
-      go : (answer : Answer) → stepOf p (lazyAt p es k) (eventAt es k) .answer ≡ answer
-          → (a : ℕ) × Ends p es rows (onward answer (stepOf p (lazyAt p es k) (eventAt es k) .state) k xs (runFrom p rest (suc k))) a
-      go (Answer.Accepted call) e = on (withRow xs k (lazyAt p es (suc k) .head) call) (further k h call e xs S)
+      go : (answer : Answer) → stepOf pr p (lazyAt pr p es k) (eventAt es k) .answer ≡ answer
+          → (a : ℕ) × Ends pr p es rows (onward answer (stepOf pr p (lazyAt pr p es k) (eventAt es k) .state) k xs (runFrom pr p rest (suc k))) a
+      go (Answer.Accepted call) e = on (withRow xs k (lazyAt pr p es (suc k) .head) call) (further k h call e xs S)
       go (Answer.Refused why) e = (
         k,
         record {
           within = omega arith;
           soFar = S;
-          state = step-refused (follows O es k .sound) (eventAt es k) why e;
+          state = step-refused (follows pr O es k .sound) (eventAt es k) why e;
           passed = λ q. absurd (omega arith);
           refused = λ _. (why, refl, e);
         },
@@ -144,9 +151,9 @@ module _ {p : Plan} (O : Obeys p) (es : List Event) (rows : List ℕ) (room : le
 
   -- the run from place k on comes to an end
   abbrev Ending : ℕ → List ℕ → Type 0
-  Ending k xs = (a : ℕ) × Ends p es rows (runFrom p (drop k es) k (lazyAt p es k) xs) a
+  Ending k xs = (a : ℕ) × Ends pr p es rows (runFrom pr p (drop k es) k (lazyAt pr p es k) xs) a
 
-  run-none : (k : ℕ) (xs : List ℕ) → k ≡ length es → SoFar p es rows k xs → Ending k xs
+  run-none : (k : ℕ) (xs : List ℕ) → k ≡ length es → SoFar pr p es rows k xs → Ending k xs
   unfolding runFrom
   run-none k xs h S =
       rw (drop-of-length-le es {i = k} (omega arith)) (
@@ -160,30 +167,30 @@ module _ {p : Plan} (O : Obeys p) (es : List Event) (rows : List ℕ) (room : le
         },
       )
 
-  run-one : (k : ℕ) (xs : List ℕ) → k < length es → SoFar p es rows k xs → ((ys : List ℕ) → SoFar p es rows (suc k) ys → Ending (suc k) ys) → Ending k xs
+  run-one : (k : ℕ) (xs : List ℕ) → k < length es → SoFar pr p es rows k xs → ((ys : List ℕ) → SoFar pr p es rows (suc k) ys → Ending (suc k) ys) → Ending k xs
   unfolding runFrom
   run-one k xs h S on = rw (drop-cons es k Tick h) (turn k xs (drop (suc k) es) h S on)
 
   -- where n events are left
-  run : (n k : ℕ) (xs : List ℕ) → k + n ≡ length es → SoFar p es rows k xs → Ending k xs
+  run : (n k : ℕ) (xs : List ℕ) → k + n ≡ length es → SoFar pr p es rows k xs → Ending k xs
   run zero k xs h S = run-none k xs (omega arith) S
   run (suc n) k xs h S = run-one k xs (omega arith) S (λ ys. run n (suc k) ys (omega arith))
 
-  module _ (ran : Ran) (a : ℕ) (E : Ends p es rows ran a) where
+  module _ (ran : Ran) (a : ℕ) (E : Ends pr p es rows ran a) where
     count-said : ran .state .head .accepted ≡ a
-    count-said = ap (λ (s : State). s .head .accepted) (E .state) ∙ ap (λ (f : Figures). f .accepted) (demand2 O es a .figures)
+    count-said = ap (λ (s : State). s .head .accepted) (E .state) ∙ ap (λ (f : Figures). f .accepted) (demand2 pr O es a .figures)
         ∙ all-counted p es a (E .soFar .accepted)
 
-    delay-said : (t : ℕ) → at (ran .state .delay) t ≡ at (lazyAt p es a .delay) t
+    delay-said : (t : ℕ) → at (ran .state .delay) t ≡ at (lazyAt pr p es a .delay) t
     delay-said t = ap (λ (s : State). at (s .delay) t) (E .state)
 
     module _ (h : a < length es) where
-      number-is : verdictNumber (ran .verdict) ≡ answerNumber (stepOf p (lazyAt p es a) (eventAt es a) .answer)
+      number-is : verdictNumber (ran .verdict) ≡ answerNumber (stepOf pr p (lazyAt pr p es a) (eventAt es a) .answer)
       unfolding verdictNumber answerNumber
       number-is = let (why, v, said) = E .refused h in ap verdictNumber v ∙ ap answerNumber (sym said)
 
       number-said : verdictNumber (ran .verdict) ≡ testedNumber (eagerTest p (eagerAt p es a) (eventAt es a))
-      number-said = number-is ∙ demand2 O es a .answers
+      number-said = number-is ∙ demand2 pr O es a .answers
 
       place-said : verdictPlace (ran .verdict) ≡ a
       unfolding verdictPlace
@@ -194,7 +201,7 @@ module _ {p : Plan} (O : Obeys p) (es : List Event) (rows : List ℕ) (room : le
       not-passed e = let (why, v, said) = E .refused h in omega (arith, numbered why .0, ap verdictNumber v, e)
 
     -- the number of a run is that of an event's answer, or 0
-    never : (n : ℕ) → 0 < n → answerNumber (stepOf p (lazyAt p es a) (eventAt es a) .answer) ≢ n → verdictNumber (ran .verdict) ≢ n
+    never : (n : ℕ) → 0 < n → answerNumber (stepOf pr p (lazyAt pr p es a) (eventAt es a) .answer) ≢ n → verdictNumber (ran .verdict) ≢ n
     unfolding verdictNumber
     never n q f e = ⊎-elim (λ h. f (sym (number-is h) ∙ e)) (λ h. omega (arith, ap verdictNumber (E .passed (omega (arith, E .within))), e))
         (lt-or-le a (length es))
@@ -206,9 +213,9 @@ module _ {p : Plan} (O : Obeys p) (es : List Event) (rows : List ℕ) (room : le
     unfolding verdictNumber
     none-passed e = ap verdictNumber (E .passed e)
 
-    ran-so : RanUpTo p es rows ran a
+    ran-so : RanUpTo pr p es rows ran a
     ran-so =
-        let D : Demand2 p es a = demand2 O es a in
+        let D : Demand2 pr p es a = demand2 pr O es a in
         record {
           within = E .within;
           accepted = E .soFar .accepted;
@@ -224,12 +231,12 @@ module _ {p : Plan} (O : Obeys p) (es : List Event) (rows : List ℕ) (room : le
           oneHolder = subst (λ f. (x y l : ℕ) → holds f x l ≡ true → holds f y l ≡ true → x ≡ y) (sym (ap figuresOf (E .state) ∙ D .figures)) (D .oneHolder);
           lazy = ap (λ (s : State). s .head .lazy) (E .state) ∙ D .lazy;
           eager = ap (λ (s : State). s .head .eager) (E .state) ∙ D .eager;
-          fair = subst (λ (s : State). s .head .lazy ≤ s .head .eager) (sym (E .state)) (fair O es a .reported);
-          jobs = demand3 O es;
-          delays = λ t. delay-said t ∙ delay-counted O es a t;
-          bounded = λ t. omega (arith, delay-said t, delays-same O es a t, lateAt O es a .bounded t);
-          counted = λ t i J. delay-said t ∙ demand3 O es t i (J .begun) .counted a J;
-          reported = λ t i k J F h f. delay-said t ∙ demand3 O es t i (J .begun) .reported k a J F h f;
+          fair = subst (λ (s : State). s .head .lazy ≤ s .head .eager) (sym (E .state)) (fair O es pr a .reported);
+          jobs = demand3 pr O es;
+          delays = λ t. delay-said t ∙ delay-counted O es pr a t;
+          bounded = λ t. omega (arith, delay-said t, delays-same O es pr a t, lateAt O es a .bounded t);
+          counted = λ t i J. delay-said t ∙ demand3 pr O es t i (J .begun) .counted a J;
+          reported = λ t i k J F h f. delay-said t ∙ demand3 pr O es t i (J .begun) .reported k a J F h f;
         }
 
     -- a list whose events are all accepted runs to its end
@@ -249,10 +256,10 @@ module _ {p : Plan} (O : Obeys p) (es : List Event) (rows : List ℕ) (room : le
     size = refl;
   })
 
-  pub ran-up-to : RanUpTo p es rows (runFrom p es 0 freshOf rows) (runFrom p es 0 freshOf rows .state .head .accepted)
+  pub ran-up-to : RanUpTo pr p es rows (runFrom pr p es 0 freshOf rows) (runFrom pr p es 0 freshOf rows .state .head .accepted)
   unfolding lazyAt
-  ran-up-to = let (a, E) = start in subst (RanUpTo p es rows (runFrom p es 0 freshOf rows)) (sym (count-said _ a E)) (ran-so _ a E)
+  ran-up-to = let (a, E) = start in subst (RanUpTo pr p es rows (runFrom pr p es 0 freshOf rows)) (sym (count-said _ a E)) (ran-so _ a E)
 
-  pub ran-whole : ((k : ℕ) → k < length es → acceptedAt p es k ≡ true) → runFrom p es 0 freshOf rows .state .head .accepted ≡ length es
+  pub ran-whole : ((k : ℕ) → k < length es → acceptedAt p es k ≡ true) → runFrom pr p es 0 freshOf rows .state .head .accepted ≡ length es
   unfolding lazyAt
   ran-whole f = let (a, E) = start in count-said _ a E ∙ whole _ a E f

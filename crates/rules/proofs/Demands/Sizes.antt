@@ -18,9 +18,10 @@ use Rattle.rules.specs.Books.Book.{countAt, tasksOf, locksOf, usesOf, ev
 use Rattle.rules.specs.Schedulers.Figures.{Figures, priorityOf, rankOf}
 use Rattle.rules.specs.Schedulers.Eager.{runningOf}
 use Rattle.rules.specs.Demands.Bound.{mayBlock, limitIf, longestLimit, boundOf}
-use Rattle.rules.specs.Demands.History.{eventAt, eagerAt, runnerAt, acceptedAt, outranked, callsDue, lazyCount, eagerCount}
+use Rattle.rules.specs.Demands.History.{eventAt, eagerAt, runnerAt, acceptedAt, callRule, callsDue, kernelAt, callsAt, lazyCount, eagerCount}
 use Rattle.rules.specs.Demands.Replayed.{RowAt}
 use Rattle.rules.specs.declared.plan.Plan.{Plan}
+use Rattle.rules.specs.declared.protocol.Protocol.{Protocol}
 use Rattle.rules.specs.declared.refusal.Refusal.{Refusal}
 use Rattle.rules.specs.declared.refusal.Refusal.the-variants.{WrongCount}
 use Rattle.rules.specs.declared.answer.Verdict.{Verdict}
@@ -124,13 +125,13 @@ pub record SmallRow (task user next call : ℕ) : Type 0 where
   pub others : next < 256
   pub once : call ≤ 1
 
-pub row-small : {p : Plan} → Obeys p → (es : List Event) (k task user next call : ℕ) → RowAt p es k task user next call → SmallRow task user next call
-row-small {p} O es k task user next call R =
+pub row-small : {pr : Protocol} {p : Plan} → Obeys p → (es : List Event) (k task user next call : ℕ) → RowAt pr p es k task user next call → SmallRow task user next call
+row-small {p = p} O es k task user next call R =
     let f : Figures = eagerAt p es (suc k) in
     record {
       runs = rw (R .runs) (runner-task O f);
       own = omega (arith, R .own, rank-byte O f (runnerAt p es (suc k)));
-      others = omega (arith, R .others .least 255 (λ y _ _. omega (arith, priority-byte O f y)));
+      others = omega (arith, R .atMost, R .own, rank-byte O f (runnerAt p es (suc k)));
       once = R .once;
     }
 
@@ -141,21 +142,22 @@ unfolding sum
 sum-most f zero h = omega arith
 sum-most f (suc k) h = omega (arith, h k, sum-most f k h)
 
-due-once : (p : Plan) (f : Figures) (e : Event) → callsDue p f e ≤ 1
+due-once : (pr : Protocol) (p : Plan) (f : Figures) (word : ℕ) (e : Event) → callsDue pr p f word e ≤ 1
 unfolding callsDue
-due-once p f (Release t) = omega arith
-due-once p f (Acquire l) = omega arith
-due-once p f (Unlock l) = either (λ v. v ≤ 1) (outranked p f _ _) 1 0 (omega arith) (omega arith)
-due-once p f (Work a) = omega arith
-due-once p f Finish = omega arith
-due-once p f Tick = omega arith
+due-once pr p f word (Release t) = omega arith
+due-once pr p f word (Acquire l) = omega arith
+due-once pr p f word (Unlock l) = either (λ v. v ≤ 1) (callRule pr p f word l) 1 0 (omega arith) (omega arith)
+due-once pr p f word (Work a) = omega arith
+due-once pr p f word Finish = omega arith
+due-once pr p f word Tick = omega arith
+
+module _ (pr : Protocol) (p : Plan) (es : List Event) (k : ℕ) where
+  pub lazy-few : lazyCount pr p es k ≤ k
+  unfolding lazyCount
+  lazy-few = sum-most _ k (λ j. either (λ v. v ≤ 1) (acceptedAt p es j) (callsAt pr p es j) 0
+      (due-once pr p (eagerAt p es j) (kernelAt p es j) (eventAt es j)) (omega arith))
 
 module _ (p : Plan) (es : List Event) (k : ℕ) where
-  pub lazy-few : lazyCount p es k ≤ k
-  unfolding lazyCount
-  lazy-few = sum-most _ k (λ j. either (λ v. v ≤ 1) (acceptedAt p es j) (callsDue p (eagerAt p es j) (eventAt es j)) 0
-      (due-once p (eagerAt p es j) (eventAt es j)) (omega arith))
-
   pub eager-few : eagerCount p es k ≤ k
   unfolding eagerCount
   eager-few = sum-most _ k (λ j. either (λ v. v ≤ 1) (acceptedAt p es j) _ 0

@@ -24,6 +24,7 @@ use Rattle.rules.specs.Demands.History.{eventAt, eagerAt, lazyAt, runner
 use Rattle.rules.specs.Demands.Job.{Accepted, Job}
 use Rattle.rules.specs.Demands.Demand3.{longestLock, firstLower, worstCase, Reached}
 use Rattle.rules.specs.declared.plan.Plan.{Plan}
+use Rattle.rules.specs.declared.protocol.Protocol.{Protocol}
 use Rattle.rules.specs.declared.event.Event.{Event}
 use Rattle.rules.specs.declared.event.Event.the-variants.{Release, Acquire, Work, Finish}
 use Rattle.rules.proofs.Numbers.Choice.{if-true, if-false, by-test, untrue, not-so, and-true, true-and, or-true, at-or}
@@ -300,24 +301,24 @@ module _ (p : Plan) (t : ℕ) where
   worst-four e = if-false (eqb (boundOf p t) 0) _ _ e
 
 -- the bound is reached
-pub reached : {p : Plan} → Obeys p → (t : ℕ) → t < p .tasks → Reached p t
-reached {p} O t ht = by-test (eqb (boundOf p t) 0) none-blocks some-blocks
+pub reached : (pr : Protocol) {p : Plan} → Obeys p → (t : ℕ) → t < p .tasks → Reached pr p t
+reached pr {p} O t ht = by-test (eqb (boundOf p t) 0) none-blocks some-blocks
   where
     Goal : List Event → Type 0
     Goal es = ((k : ℕ) → k < length es → acceptedAt p es k ≡ true) × ((i : ℕ) × Job p es t i (length es))
-        × (at (lazyAt p es (length es) .delay) t ≡ boundOf p t)
+        × (at (lazyAt pr p es (length es) .delay) t ≡ boundOf p t)
 
-    build : (es : List Event) → worstCase p t ≡ es → Goal es → Reached p t
+    build : (es : List Event) → worstCase p t ≡ es → Goal es → Reached pr p t
     build es e G = let (a, (i, j), d) = subst Goal (sym e) G in record { accepted = a; released = i; job = j; delay = d }
 
-    none-blocks : eqb (boundOf p t) 0 ≡ true → Reached p t
+    none-blocks : eqb (boundOf p t) 0 ≡ true → Reached pr p t
     none-blocks e = build (Release t ∷ []) (worst-alone p t e) (
       λ k h. let z : k ≡ 0 = omega arith in rw z (alone-0 O t ht .accepted),
       (0, record { begun = alone-0 O t ht; since = omega arith; still = λ j b c. absurd (omega arith) }),
-      delays-same O (Release t ∷ []) 1 t ∙ alone-delay O t ht ∙ sym (eqb-true (boundOf p t) 0 e),
+      delays-same O (Release t ∷ []) pr 1 t ∙ alone-delay O t ht ∙ sym (eqb-true (boundOf p t) 0 e),
     )
 
-    some-blocks : eqb (boundOf p t) 0 ≡ false → Reached p t
+    some-blocks : eqb (boundOf p t) 0 ≡ false → Reached pr p t
     some-blocks e =
         let pos : 0 < boundOf p t = omega (arith, eqb-false (boundOf p t) 0 e) in
         let (hl, m, is) = longest p t pos in
@@ -328,5 +329,5 @@ reached {p} O t ht = by-test (eqb (boundOf p t) 0) none-blocks some-blocks
         build es (worst-four p t e) (
           all-accepted O t u l ht hu hl ul lo hi (boundOf p t) pos is,
           (2, job4 O t u l ht hu hl ul lo hi (boundOf p t) pos is),
-          delays-same O es 4 t ∙ delay4 O t u l ht hu hl ul lo hi (boundOf p t) pos is,
+          delays-same O es pr 4 t ∙ delay4 O t u l ht hu hl ul lo hi (boundOf p t) pos is,
         )

@@ -18,6 +18,8 @@ use Rattle.rules.specs.Demands.History.{eventAt, eagerAt, lazyAt, runner
 use Rattle.rules.specs.Demands.Demand3.{worstCase, Reached}
 use Rattle.rules.specs.Demands.Replayed.{Reaches}
 use Rattle.rules.specs.declared.plan.Plan.{Plan}
+use Rattle.rules.specs.declared.protocol.Protocol.{Protocol}
+use Rattle.rules.specs.declared.protocol.Protocol.the-variants.{Second}
 use Rattle.rules.specs.declared.state.State.{State}
 use Rattle.rules.specs.declared.event.Event.{Event}
 use Rattle.rules.specs.declared.event.Event.the-variants.{Release, Acquire, Unlock, Work, Finish, Tick}
@@ -67,17 +69,17 @@ module _ {p : Plan} (O : Obeys p) (t : ℕ) (h : t < p .tasks) where
 
   pub worst-recorded : (k : ℕ) → k < length worst → Recorded (eventAt worst k)
   worst-recorded k q =
-      allowed-recorded O (eagerAt p worst k) (runnerAt p worst k) (eventAt worst k) (allowedAt p worst k (reached O t h .accepted k q))
+      allowed-recorded O (eagerAt p worst k) (runnerAt p worst k) (eventAt worst k) (allowedAt p worst k (reached Second O t h .accepted k q))
       (omega (arith, worst-amounts k, bound-small O t))
 
-  pub worst-reaches : (rows : List ℕ) → length worst * 4 ≤ length rows → Reaches p worst t (runFrom p worst 0 freshOf rows)
-  worst-reaches rows fits =
-      let B : Reached p t = reached O t h in
-      let R = ran-up-to O worst rows fits in
-      let e = ran-whole O worst rows fits (B .accepted) in
+  pub worst-reaches : (pr : Protocol) (rows : List ℕ) → length worst * 4 ≤ length rows → Reaches p worst t (runFrom pr p worst 0 freshOf rows)
+  worst-reaches pr rows fits =
+      let B : Reached pr p t = reached pr O t h in
+      let R = ran-up-to pr O worst rows fits in
+      let e = ran-whole pr O worst rows fits (B .accepted) in
       record {
         verdict = R .passed .1 e;
         released = B .released;
         job = B .job;
-        delay = ap (λ (s : State). at (s .delay) t) (R .state ∙ ap (lazyAt p worst) e) ∙ B .delay;
+        delay = ap (λ (s : State). at (s .delay) t) (R .state ∙ ap (lazyAt pr p worst) e) ∙ B .delay;
       }

@@ -10,6 +10,7 @@ use Rattle.rules.specs.Soundness.Sound.{SoundAndSized}
 use Rattle.rules.specs.Numbers.Answer.{testedNumber, answerNumber}
 use Rattle.rules.specs.Replays.Step.{afterOf, answered, actOf, stepOf}
 use Rattle.rules.specs.declared.plan.Plan.{Plan}
+use Rattle.rules.specs.declared.protocol.Protocol.{Protocol}
 use Rattle.rules.specs.declared.state.State.{State}
 use Rattle.rules.specs.declared.answer.Tested.{Tested}
 use Rattle.rules.specs.declared.answer.Answer.{Answer}
@@ -41,18 +42,18 @@ answered-passed : (t : Tested) (s after : State) (call : Bool) → t ≡ Tested.
 unfolding answered
 answered-passed t s after call e = ap (λ t. answered t s after call .answer) e
 
-module _ {p : Plan} {s : State} (S : SoundAndSized p s) (e : Event) where
-  pub step-accepts : refusalOf p (figuresOf s) (s .head .running) e ≡ Tested.Passed → stepOf p s e .answer ≡ Answer.Accepted (lazyCall (wordsOf s) e)
+module _ {pr : Protocol} {p : Plan} {s : State} (S : SoundAndSized pr p s) (e : Event) where
+  pub step-accepts : refusalOf p (figuresOf s) (s .head .running) e ≡ Tested.Passed → stepOf pr p s e .answer ≡ Answer.Accepted (lazyCall (wordsOf s) e)
   unfolding actOf
-  step-accepts z = rw (step-act S e) (answered-passed (refusalOf p (figuresOf s) (s .head .running) e) s (afterOf p s e) (lazyCall (wordsOf s) e) z)
+  step-accepts z = rw (step-act S e) (answered-passed (refusalOf p (figuresOf s) (s .head .running) e) s (afterOf pr p s e) (lazyCall (wordsOf s) e) z)
 
-  pub step-refused : (why : Refusal) → stepOf p s e .answer ≡ Answer.Refused why → stepOf p s e .state ≡ s
+  pub step-refused : (why : Refusal) → stepOf pr p s e .answer ≡ Answer.Refused why → stepOf pr p s e .state ≡ s
   unfolding actOf
-  step-refused why h = rw (step-act S e) (answered-refused (refusalOf p (figuresOf s) (s .head .running) e) s (afterOf p s e) (lazyCall (wordsOf s) e) why
+  step-refused why h = rw (step-act S e) (answered-refused (refusalOf p (figuresOf s) (s .head .running) e) s (afterOf pr p s e) (lazyCall (wordsOf s) e) why
       (rw (← step-act S e) h))
 
-  pub step-call : (call : Bool) → stepOf p s e .answer ≡ Answer.Accepted call
+  pub step-call : (call : Bool) → stepOf pr p s e .answer ≡ Answer.Accepted call
       → (refusalOf p (figuresOf s) (s .head .running) e ≡ Tested.Passed) × (call ≡ lazyCall (wordsOf s) e)
   unfolding actOf
-  step-call call h = answered-call (refusalOf p (figuresOf s) (s .head .running) e) s (afterOf p s e) (lazyCall (wordsOf s) e) call
+  step-call call h = answered-call (refusalOf p (figuresOf s) (s .head .running) e) s (afterOf pr p s e) (lazyCall (wordsOf s) e) call
       (ap (λ (x : Stepped). x .answer) (sym (step-act S e)) ∙ h)

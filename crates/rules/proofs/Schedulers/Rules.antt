@@ -14,10 +14,13 @@ use Rattle.rules.specs.Books.Plan.{declares}
 use Rattle.rules.specs.Schedulers.Figures.{Figures, holds, priorityOf, rankOf}
 use Rattle.rules.specs.Schedulers.Elect.{earlier}
 use Rattle.rules.specs.Schedulers.FiguresAfter.{charged, delayed}
+use Rattle.rules.specs.Schedulers.Protocol.{secondWord}
 use Rattle.rules.specs.Schedulers.Lazy.{callsFor}
-use Rattle.rules.specs.Soundness.Sound.{keptOf}
+use Rattle.rules.specs.Soundness.Sound.{keptOf, SoundSecond}
 use Rattle.rules.specs.Demands.Bound.{lowerAt, lowerUser, mayBlock, limitIf}
 use Rattle.rules.specs.declared.plan.Plan.{Plan}
+use Rattle.rules.specs.declared.protocol.Protocol.{Protocol}
+use Rattle.rules.specs.declared.protocol.Protocol.the-variants.{Second, First}
 use Rattle.rules.proofs.Numbers.Choice.{if-true, if-false, by-test, untrue, and-true, true-and}
 use Rattle.rules.proofs.Numbers.Place.{any-some, some-any}
 use Rattle.rules.proofs.Numbers.Row.{priority-none, priority-base}
@@ -85,6 +88,19 @@ no-call back next e = omega (arith, ltb-false)
 pub below-call : (back next : ℕ) → back < next → callsFor back next ≡ true
 unfolding callsFor
 below-call back next h = by-test (callsFor back next) (λ e. e) (λ e. absurd (omega (arith, no-call back next e)))
+
+-- ---- RULES 8.10: what an entry to the kernel leaves in the second word is sound, and it stays so where it is not set
+
+pub entry-sound : (pr : Protocol) (user best best′ : ℕ) → best ≡ best′ → SoundSecond pr (secondWord pr user best) user best′
+unfolding SoundSecond secondWord
+entry-sound Second user best best′ e = e
+entry-sound First user best best′ e = omega arith
+
+pub stays-sound : (pr : Protocol) (second user user′ best best′ : ℕ) → (second ≤ user → second ≤ user′) → best ≡ best′
+    → SoundSecond pr second user best → SoundSecond pr second user′ best′
+unfolding SoundSecond
+stays-sound Second second user user′ best best′ h e s = s ∙ e
+stays-sound First second user user′ best best′ h e s = h s
 
 -- ---- RULES 9.7: work counts for each open section
 

@@ -20,16 +20,19 @@ use Rattle.rules.specs.Books.Plan.{Obeys}
 use Rattle.rules.specs.Schedulers.Figures.{Figures, holds, priorityOf, rankOf}
 use Rattle.rules.specs.Schedulers.Elect.{elected}
 use Rattle.rules.specs.Schedulers.FiguresAfter.{differs, eagerCalls, figuresAfter}
-use Rattle.rules.specs.Schedulers.Lazy.{Words, WordsSized, callsFor, secondWord, backOf, runsOn, switched}
-use Rattle.rules.specs.Schedulers.Lazy.{waits, afterRelease, afterAcquire, restored, afterUnlock, wordsAfter}
-use Rattle.rules.specs.Soundness.Sound.{SoundFigures, keptOf, savedOf, ownerOf, SoundWords}
+use Rattle.rules.specs.Schedulers.Protocol.{secondWord}
+use Rattle.rules.specs.Schedulers.Lazy.{Words, WordsSized, callsFor, bestKept, backOf, runsOn, switched}
+use Rattle.rules.specs.Schedulers.Lazy.{stays, afterRelease, afterAcquire, restored, afterUnlock, wordsAfter}
+use Rattle.rules.specs.Soundness.Sound.{SoundFigures, keptOf, savedOf, ownerOf, SoundSecond, SoundWords}
 use Rattle.rules.specs.declared.plan.Plan.{Plan}
+use Rattle.rules.specs.declared.protocol.Protocol.{Protocol}
 use Rattle.rules.specs.declared.event.Event.{Event}
 use Rattle.rules.specs.declared.event.Event.the-variants.{Release, Acquire, Unlock, Work, Finish, Tick}
 use Rattle.rules.proofs.Numbers.Choice.{if-true, if-false, by-test, untrue, not-so, at-or, lt-or-le}
 use Rattle.rules.proofs.Numbers.Place.{greatest-ext, cleared}
 use Rattle.rules.proofs.Numbers.Row.{priority-pushed, saves-newest, saves-under, saves-pushed}
-use Rattle.rules.proofs.Schedulers.Rules.{rank-out, rank-in, base-priority, plain-priority, kept-other, kept-own}
+use Rattle.rules.proofs.Schedulers.Rules.{no-call, rank-out, rank-in, base-priority, plain-priority, kept-other, kept-own}
+use Rattle.rules.proofs.Schedulers.Rules.{entry-sound, stays-sound}
 use Rattle.rules.proofs.Schedulers.Elect.{elected-lead, elected-some, elected-one}
 use Rattle.rules.proofs.Books.Obeyed.{few-tasks, few-locks, base-some, base-byte, ceiling-byte}
 use Rattle.rules.proofs.Schedulers.Passed.{Releasable, Takeable, Givable, Finishable, Allowed}
@@ -86,23 +89,25 @@ kept-by p f kept r h k = at-or (λ x. at kept x ≡ keptOf p f r x) r (h ∙ sym
 
 -- ---- the switch
 
-module _ {p : Plan} (O : Obeys p) {g : Figures} (G : SoundFigures p g) where
+module _ (pr : Protocol) {p : Plan} (O : Obeys p) {g : Figures} (G : SoundFigures p g) where
   rank-some : (x : ℕ) → 0 < at (g .released) x → 0 < rankOf p g x
   rank-some x o = omega (arith, rank-out p g x o, base-priority p g x, base-some O x (SoundFigures.inside G x o))
 
-  -- the second word is the greatest of the others' priorities
-  next-by : (kept : List ℕ) (r : ℕ) → ((x : ℕ) → at kept x ≡ keptOf p g r x) → secondWord kept (p .tasks) ≡ greatest (keptOf p g r) (p .tasks)
-  next-by kept r k = greatest-ext (at kept) (keptOf p g r) (p .tasks) (λ x l. k x)
+  -- the second word after an entry to the kernel is sound
+  next-by : (user : ℕ) (kept : List ℕ) (r : ℕ) → ((x : ℕ) → at kept x ≡ keptOf p g r x)
+      → SoundSecond pr (secondWord pr user (bestKept kept (p .tasks))) user (greatest (keptOf p g r) (p .tasks))
+  next-by user kept r k = entry-sound pr user (bestKept kept (p .tasks)) (greatest (keptOf p g r) (p .tasks))
+      (greatest-ext (at kept) (keptOf p g r) (p .tasks) (λ x l. k x))
 
   switch-worded : (w : Words) (kept : List ℕ) → ((x : ℕ) → at kept x ≡ rankOf p g x) → ((x : ℕ) → at (w .saved) x ≡ savedOf p g x)
-      → ((l : ℕ) → at (w .owner) l ≡ ownerOf g (p .tasks) l) → w .lazy ≤ g .accepted → SoundWords p g (switched (p .tasks) (g .released) kept w)
+      → ((l : ℕ) → at (w .owner) l ≡ ownerOf g (p .tasks) l) → w .lazy ≤ g .accepted → SoundWords pr p g (switched pr (p .tasks) (g .released) kept w)
   unfolding switched runsOn
   switch-worded w kept k sv ow lz = record {
     idle = λ e x. ⊎-elim (λ z. z) (λ o. absurd (elected-one (at (g .released)) (at kept) (p .tasks) few x (SoundFigures.inside G x o)
         (omega (arith, k x, rank-some x o)) e)) (eq-zero-or-pos (at (g .released) x));
     runs = λ n. out n;
     user = k q;
-    next = next-by (set kept q 0) q kq;
+    next = next-by (at kept q) (set kept q 0) q kq;
     kept = kq;
     saved = sv;
     owner = ow;
@@ -127,12 +132,12 @@ module _ {p : Plan} (O : Obeys p) {g : Figures} (G : SoundFigures p g) where
 -- ---- each event
 
 -- where the lazy scheduler may accept an event
-pub record Scene (p : Plan) (f : Figures) (w : Words) : Type 0 where
+pub record Scene (pr : Protocol) (p : Plan) (f : Figures) (w : Words) : Type 0 where
   pub stage : SoundFigures.Stage p f
   pub sized : WordsSized w
-  pub worded : SoundWords p f w
+  pub worded : SoundWords pr p f w
 
-module _ {p : Plan} {f : Figures} {w : Words} (B : Scene p f w) where
+module _ {pr : Protocol} {p : Plan} {f : Figures} {w : Words} (B : Scene pr p f w) where
   abbrev A : SoundFigures.Stage p f
   A = B .stage
 
@@ -145,7 +150,7 @@ module _ {p : Plan} {f : Figures} {w : Words} (B : Scene p f w) where
   abbrev Y : WordsSized w
   Y = B .sized
 
-  abbrev W : SoundWords p f w
+  abbrev W : SoundWords pr p f w
   W = B .worded
 
   abbrev r : ℕ
@@ -218,17 +223,17 @@ module _ {p : Plan} {f : Figures} {w : Words} (B : Scene p f w) where
         (written newcomer r (w .user) (λ l. nobody-user (no-place (omega (arith, length-set (w .kept) t (at (p .base) t), Y .kept)))) ∙ user-rank)
         (λ x n. getD-set-other newcomer r x (w .user) 0 n ∙ newcomer-rank x n)
 
-    release-worded : SoundFigures p (figuresAfter p f r (Release t)) → SoundWords p (figuresAfter p f r (Release t))
-        (wordsAfter p (figuresAfter p f r (Release t) .released) w (Release t))
-    unfolding wordsAfter afterRelease figuresAfter savedOf ownerOf holds newcomer waits
+    release-worded : SoundFigures p (figuresAfter p f r (Release t)) → SoundWords pr p (figuresAfter p f r (Release t))
+        (wordsAfter pr p (figuresAfter p f r (Release t) .released) w (Release t))
+    unfolding wordsAfter afterRelease figuresAfter savedOf ownerOf holds newcomer stays
     release-worded G = by-test (ltb (w .user) (at (p .base) t))
-        (λ e. subst (SoundWords p g) (sym (if-true (ltb (w .user) (at (p .base) t)) _ _ e))
-        (switch-worded O G w (set newcomer r (w .user)) release-kept (W .saved) owns (omega (arith, W .lazy))))
-        (λ e. subst (SoundWords p g) (sym (if-false (ltb (w .user) (at (p .base) t)) _ _ e)) (record {
+        (λ e. subst (SoundWords pr p g) (sym (if-true (ltb (w .user) (at (p .base) t)) _ _ e))
+        (switch-worded pr O G w (set newcomer r (w .user)) release-kept (W .saved) owns (omega (arith, W .lazy))))
+        (λ e. subst (SoundWords pr p g) (sym (if-false (ltb (w .user) (at (p .base) t)) _ _ e)) (record {
           idle = λ q. absurd (omega (arith, ltb-false (w .user) (at (p .base) t) e, nobody-user q, base-some O t (o .known)));
           runs = λ n. omega (arith, W .runs n, release-same r r-t .released);
           user = user-rank;
-          next = next-by O G newcomer r stay;
+          next = next-by pr O G (w .user) newcomer r stay;
           kept = stay;
           saved = W .saved;
           owner = owns;
@@ -257,21 +262,27 @@ module _ {p : Plan} {f : Figures} {w : Words} (B : Scene p f w) where
       same x n = record { released = getD-set-other (f .released) r x 0 0 n; depth = refl; takes = refl }
 
   finish-worded : Finishable f r → SoundFigures p (figuresAfter p f r Finish)
-      → SoundWords p (figuresAfter p f r Finish) (wordsAfter p (figuresAfter p f r Finish .released) w Finish)
+      → SoundWords pr p (figuresAfter p f r Finish) (wordsAfter pr p (figuresAfter p f r Finish .released) w Finish)
   unfolding wordsAfter figuresAfter savedOf ownerOf holds
-  finish-worded o G = switch-worded O G w (set (w .kept) r 0) finish-kept (W .saved) (λ l. W .owner l ∙ sym (owner-same f g l (p .tasks) (λ x q. refl)))
+  finish-worded o G = switch-worded pr O G w (set (w .kept) r 0) finish-kept (W .saved) (λ l. W .owner l ∙ sym (owner-same f g l (p .tasks) (λ x q. refl)))
       (omega (arith, W .lazy))
     where
       g : Figures
       g = figuresAfter p f r Finish
 
-  -- work and tick change nothing that the words go by
-  still : (g : Figures) → ((x : ℕ) → Same f g x) → f .accepted ≤ g .accepted → SoundWords p g w
+  -- the second word stays sound where no entry sets it and the others' priorities stay
+  same-next : (g : Figures) (user : ℕ) → (w .next ≤ w .user → w .next ≤ user) → ((x : ℕ) → at (w .kept) x ≡ keptOf p g r x)
+      → SoundSecond pr (w .next) user (greatest (keptOf p g r) (p .tasks))
+  same-next g user h k = stays-sound pr (w .next) (w .user) user (greatest (keptOf p f r) (p .tasks)) (greatest (keptOf p g r) (p .tasks)) h
+      (greatest-ext (keptOf p f r) (keptOf p g r) (p .tasks) (λ x q. sym (W .kept x) ∙ k x)) (W .next)
+
+  -- work and tick change nothing that the other words go by
+  still : (g : Figures) → ((x : ℕ) → Same f g x) → f .accepted ≤ g .accepted → SoundWords pr p g w
   still g same h = record {
     idle = λ e x. same x .released ∙ W .idle e x;
     runs = λ n. omega (arith, W .runs n, same r .released);
     user = W .user ∙ sym (same-rank p (same r));
-    next = W .next ∙ greatest-ext (keptOf p f r) (keptOf p g r) (p .tasks) (λ x q. sym (W .kept x) ∙ kg x);
+    next = same-next g (w .user) (λ h. h) kg;
     kept = kg;
     saved = λ x. W .saved x ∙ sym (same-saved p (same x));
     owner = λ l. W .owner l ∙ sym (owner-same f g l (p .tasks) (λ x q. same-holds (same x) l));
@@ -281,13 +292,26 @@ module _ {p : Plan} {f : Figures} {w : Words} (B : Scene p f w) where
       kg : (x : ℕ) → at (w .kept) x ≡ keptOf p g r x
       kg = kept-by p g (w .kept) r own-zero (λ x n. kept-rank x n ∙ sym (same-rank p (same x)))
 
-  work-worded : (a : ℕ) → SoundWords p (figuresAfter p f r (Work a)) w
+  work-worded : (a : ℕ) → SoundWords pr p (figuresAfter p f r (Work a)) w
   unfolding figuresAfter
   work-worded a = still (figuresAfter p f r (Work a)) (λ x. record { released = refl; depth = refl; takes = refl }) (omega arith)
 
-  tick-worded : SoundWords p (figuresAfter p f r Tick) w
-  unfolding figuresAfter
-  tick-worded = still (figuresAfter p f r Tick) (λ x. record { released = refl; depth = refl; takes = refl }) (omega arith)
+  tick-worded : SoundFigures p (figuresAfter p f r Tick)
+      → SoundWords pr p (figuresAfter p f r Tick) (wordsAfter pr p (figuresAfter p f r Tick .released) w Tick)
+  unfolding wordsAfter stays figuresAfter
+  tick-worded G =
+      let U : SoundWords pr p (figuresAfter p f r Tick) w =
+      still (figuresAfter p f r Tick) (λ x. record { released = refl; depth = refl; takes = refl }) (omega arith) in
+      record {
+        idle = U .idle;
+        runs = U .runs;
+        user = U .user;
+        next = next-by pr O G (w .user) (w .kept) r (U .kept);
+        kept = U .kept;
+        saved = U .saved;
+        owner = U .owner;
+        lazy = U .lazy;
+      }
 
   -- ---- acquire and unlock: the running task's row changes, and nobody else's
 
@@ -333,13 +357,13 @@ module _ {p : Plan} {f : Figures} {w : Words} (B : Scene p f w) where
           ∙ saves-pushed (at (p .ceiling)) (at (p .base) r) (at (f .takes) r) (at (f .depth) r) l lock-byte
           ∙ ap₂ pushed (sym saved-r) (sym (user-priority n))
 
-      take-worded : SoundFigures p take → SoundWords p take (wordsAfter p (take .released) w (Acquire l))
+      take-worded : SoundFigures p take → SoundWords pr p take (wordsAfter pr p (take .released) w (Acquire l))
       unfolding wordsAfter afterAcquire figuresAfter
       take-worded G = record {
         idle = W .idle;
         runs = W .runs;
         user = omega (arith, user-priority n, take-priority, rank-out p take r out);
-        next = W .next ∙ greatest-ext (keptOf p f r) (keptOf p take r) (p .tasks) (λ x q. sym (W .kept x) ∙ same-kept x);
+        next = same-next take (max (w .user) (at (p .ceiling) l)) (λ h. omega arith) same-kept;
         kept = same-kept;
         saved = at-or (λ x. at (set (w .saved) r (pushed (at (w .saved) r) (w .user))) x ≡ savedOf p take x) r
             (getD-set-same (w .saved) r (pushed (at (w .saved) r) (w .user)) 0 (omega (arith, r-place, Y .saved)) ∙ sym take-saved)
@@ -428,16 +452,16 @@ module _ {p : Plan} {f : Figures} {w : Words} (B : Scene p f w) where
           (getD-set-same (w .kept) r (backOf w) 0 (omega (arith, r-place, Y .kept)) ∙ back-rank)
           (λ x m. getD-set-other (w .kept) r x (backOf w) 0 m ∙ kept-give x m)
 
-      give-worded : SoundFigures p give → SoundWords p give (wordsAfter p (give .released) w (Unlock l))
+      give-worded : SoundFigures p give → SoundWords pr p give (wordsAfter pr p (give .released) w (Unlock l))
       unfolding wordsAfter afterUnlock restored figuresAfter
       give-worded G = by-test (callsFor (backOf w) (w .next))
-          (λ e. subst (SoundWords p give) (sym (if-true (callsFor (backOf w) (w .next)) _ _ e))
-          (switch-worded O G (restored l 1 w) (set (w .kept) r (backOf w)) give-kept saved-give owner-give (omega (arith, W .lazy))))
-          (λ e. subst (SoundWords p give) (sym (if-false (callsFor (backOf w) (w .next)) _ _ e)) (record {
+          (λ e. subst (SoundWords pr p give) (sym (if-true (callsFor (backOf w) (w .next)) _ _ e))
+          (switch-worded pr O G (restored l 1 w) (set (w .kept) r (backOf w)) give-kept saved-give owner-give (omega (arith, W .lazy))))
+          (λ e. subst (SoundWords pr p give) (sym (if-false (callsFor (backOf w) (w .next)) _ _ e)) (record {
             idle = W .idle;
             runs = W .runs;
             user = back-rank;
-            next = W .next ∙ greatest-ext (keptOf p f r) (keptOf p give r) (p .tasks) (λ x q. sym (W .kept x) ∙ stay x);
+            next = same-next give (backOf w) (λ h. no-call (backOf w) (w .next) e) stay;
             kept = stay;
             saved = saved-give;
             owner = owner-give;
@@ -448,11 +472,11 @@ module _ {p : Plan} {f : Figures} {w : Words} (B : Scene p f w) where
           stay = kept-by p give (w .kept) r own-zero kept-give
 
   pub worded-kept : (e : Event) → Allowed p f r e → SoundFigures p (figuresAfter p f r e)
-      → SoundWords p (figuresAfter p f r e) (wordsAfter p (figuresAfter p f r e .released) w e)
+      → SoundWords pr p (figuresAfter p f r e) (wordsAfter pr p (figuresAfter p f r e .released) w e)
   unfolding wordsAfter
   worded-kept (Release t) o G = release-worded o G
   worded-kept (Acquire l) o G = take-worded (o .runs) o G
   worded-kept (Unlock l) o G = give-worded (o .runs) o G
   worded-kept (Work a) o G = work-worded a
   worded-kept Finish o G = finish-worded o G
-  worded-kept Tick o G = tick-worded
+  worded-kept Tick o G = tick-worded G

@@ -13,11 +13,14 @@ use Rattle.rules.specs.Numbers.Place.{at, greatest}
 use Rattle.rules.specs.Schedulers.Elect.{elected}
 use Rattle.rules.specs.Schedulers.Figures.{Figures, figuresOf}
 use Rattle.rules.specs.Schedulers.FiguresAfter.{delayed, figuresAfter}
-use Rattle.rules.specs.Schedulers.Lazy.{Words, wordsOf, runsOn, switched, waits, afterRelease, wordsAfter}
-use Rattle.rules.specs.Soundness.Shortcuts.{Shortcuts}
-use Rattle.rules.specs.Soundness.Sound.{keptOf, SoundAndSized}
+use Rattle.rules.specs.Schedulers.Protocol.{secondWord}
+use Rattle.rules.specs.Schedulers.Lazy.{Words, wordsOf, bestKept, runsOn, switched, stays, afterRelease, wordsAfter}
+use Rattle.rules.specs.Soundness.Shortcuts.{Shortcuts, TickSame}
+use Rattle.rules.specs.Soundness.Sound.{keptOf, SoundSecond, SoundAndSized}
 use Rattle.rules.specs.Replays.Step.{afterOf}
 use Rattle.rules.specs.declared.plan.Plan.{Plan}
+use Rattle.rules.specs.declared.protocol.Protocol.{Protocol}
+use Rattle.rules.specs.declared.protocol.Protocol.the-variants.{Second}
 use Rattle.rules.specs.declared.state.State.{State}
 use Rattle.rules.specs.declared.event.Event.the-variants.{Release}
 use Rattle.rules.proofs.Numbers.Choice.{if-true, if-false, at-or, lt-or-le}
@@ -26,10 +29,10 @@ use Rattle.rules.proofs.Books.Obeyed.{few-tasks}
 use Rattle.rules.proofs.Schedulers.Elect.{elected-above}
 use Rattle.rules.proofs.Schedulers.Rules.{rank-in, rank-out, base-priority, kept-own, kept-other, delayed-same}
 
--- ---- a newcomer t of base b above both words; task r of user word u leaves, or nobody
+-- ---- a newcomer t of base b above the user word and all that is kept; task r of user word u leaves, or nobody
 
 -- it is alone at the top of the kept priorities, and once it runs they are as if it had not been among them
-module _ (n t b r u : ℕ) (released kept : List ℕ) (few : n ≤ maxTasks) (sized : length kept ≡ maxTasks) (known : t < n) (none : at kept t ≡ 0)
+module _ (pr : Protocol) (n t b r u : ℕ) (released kept : List ℕ) (few : n ≤ maxTasks) (sized : length kept ≡ maxTasks) (known : t < n) (none : at kept t ≡ 0)
     (other : t ≢ r) (left : at kept r ≡ 0) (idle : n ≤ r → u ≡ 0) where
   arrived : List ℕ
   arrived = set (set kept t b) r u
@@ -63,8 +66,16 @@ module _ (n t b r u : ℕ) (released kept : List ℕ) (few : n ≤ maxTasks) (si
       (λ (l : n ≤ r). greatest-ext (at (set kept r u)) (at kept) n (λ x q. getD-set-other kept r x u 0 (λ e. omega arith)) ∙ omega (arith, idle l))
       (lt-or-le r n)
 
-  pub newcomer-runs : u < b → greatest (at kept) n < b → (w : Words) → switched n released (set (set kept t b) r u) w
-      ≡ record { running = t; user = b; next = max (greatest (at kept) n) u; lazy = w .lazy; kept = set kept r u; saved = w .saved; owner = w .owner }
+  pub newcomer-runs : u < b → greatest (at kept) n < b → (w : Words) → switched pr n released (set (set kept t b) r u) w
+      ≡ record {
+        running = t;
+        user = b;
+        next = secondWord pr b (max (greatest (at kept) n) u);
+        lazy = w .lazy;
+        kept = set kept r u;
+        saved = w .saved;
+        owner = w .owner;
+      }
   unfolding arrived switched runsOn
   newcomer-runs h k w = rw (top, own, cleared, second)
     where
@@ -74,23 +85,20 @@ module _ (n t b r u : ℕ) (released kept : List ℕ) (few : n ≤ maxTasks) (si
 
 -- ---- every sound state
 
-module _ {p : Plan} {s : State} (S : SoundAndSized p s) where
+module _ {pr : Protocol} {p : Plan} {s : State} (S : SoundAndSized pr p s) where
   abbrev r : ℕ
   r = s .head .running
 
   abbrev f : Figures
   f = figuresOf s
 
-  -- what is kept, for whom it is nothing, and the next word by it
+  -- for whom nothing is kept
   pub kept-none : (t : ℕ) → at (s .released) t ≡ 0 → at (s .kept) t ≡ 0
   kept-none t z = S .sound .words .kept t ∙ at-or (λ t. at (s .released) t ≡ 0 → keptOf p f r t ≡ 0) r (λ _. kept-own p f r)
       (λ t d z. kept-other p f r t d ∙ rank-in p f t z) t z
 
   pub kept-running : at (s .kept) r ≡ 0
   kept-running = S .sound .words .kept r ∙ kept-own p f r
-
-  pub next-greatest : s .head .next .0 ≡ greatest (at (s .kept)) (p .tasks)
-  next-greatest = S .sound .words .next ∙ greatest-ext (keptOf p f r) (at (s .kept)) (p .tasks) (λ x l. sym (S .sound .words .kept x))
 
   -- whoever runs is one of the plan's tasks and released, or there is no user word
   pub idle-word : p .tasks ≤ r → s .head .user .0 ≡ 0
@@ -101,35 +109,42 @@ module _ {p : Plan} {s : State} (S : SoundAndSized p s) where
       let o : 0 < at (s .released) r = S .sound .words .runs (λ q. omega (arith, few-tasks (S .sound .plan))) in
       omega (arith, ap (at (s .released)) e)
 
-  -- a released task of greater base than the running one's is not above the next word
-  pub waiting : (x : ℕ) → 0 < at (s .released) x → at (p .base) r < at (p .base) x → at (p .base) x ≤ s .head .next .0
+  -- a released task of greater base than the running one's is not above the greatest kept priority
+  pub waiting : (x : ℕ) → 0 < at (s .released) x → at (p .base) r < at (p .base) x → at (p .base) x ≤ bestKept (s .kept) (p .tasks)
   waiting x o l = ⊎-elim
       (λ (q : x < p .tasks). omega (
         arith,
         base-priority p f x,
         rank-out p f x o,
         kept-other p f r x (λ e. omega (arith, ap (at (p .base)) e)),
-        greatest-all (keptOf p f r) (p .tasks) x q,
-        S .sound .words .next,
+        S .sound .words .kept x,
+        greatest-all (at (s .kept)) (p .tasks) x q,
       ))
       (λ (q : p .tasks ≤ x). absurd (omega (arith, S .sound .figures .noTask x q .0)))
       (lt-or-le x (p .tasks))
 
   -- ---- the shortcuts
 
-  pub shortcuts : Shortcuts p s
-  unfolding afterOf wordsAfter figuresAfter afterRelease waits
+  pub shortcuts : Shortcuts pr p s
+  unfolding afterOf wordsAfter figuresAfter afterRelease stays
   shortcuts = record {
     waits = λ t o h. ap (λ (w : Words). w .next) (if-false (ltb (s .head .user .0) (at (p .base) t)) _ _ (le-ltb (s .head .user .0) (at (p .base) t) h))
-        ∙ greatest-set (s .kept) (p .tasks) t (at (p .base) t) (kept-none t (o .unreleased)) (o .known) (omega (arith, few, S .wordsSized .kept, o .known))
-        ∙ ap (λ v. max v (at (p .base) t)) (sym next-greatest);
-    runs = λ t o h k. let e : wordsAfter p _ (wordsOf s) (Release t) ≡ _ = if-true (ltb (s .head .user .0) (at (p .base) t)) _ _ (lt-ltb (s .head .user .0) (at (p .base) t) h)
-        ∙ newcomer-runs (p .tasks) t (at (p .base) t) r (s .head .user .0) _ (s .kept) few (S .wordsSized .kept) (o .known) (kept-none t (o .unreleased))
-        (newcomer-other t (o .known) (o .unreleased)) kept-running idle-word h (omega (arith, next-greatest)) (wordsOf s) in
-        (ap (λ (w : Words). w .running) e, ap (λ (w : Words). w .user) e, ap (λ (w : Words). w .next) e ∙ ap (λ v. max v (s .head .user .0)) (sym next-greatest));
+        ∙ ap (secondWord pr (s .head .user .0))
+        (greatest-set (s .kept) (p .tasks) t (at (p .base) t) (kept-none t (o .unreleased)) (o .known) (omega (arith, few, S .wordsSized .kept, o .known)));
+    runs = λ t o h k. let e : wordsAfter pr p _ (wordsOf s) (Release t) ≡ _ =
+        if-true (ltb (s .head .user .0) (at (p .base) t)) _ _ (lt-ltb (s .head .user .0) (at (p .base) t) h)
+        ∙ newcomer-runs pr (p .tasks) t (at (p .base) t) r (s .head .user .0) _ (s .kept) few (S .wordsSized .kept) (o .known) (kept-none t (o .unreleased))
+        (newcomer-other t (o .known) (o .unreleased)) kept-running idle-word h k (wordsOf s) in
+        (ap (λ (w : Words). w .running) e, ap (λ (w : Words). w .user) e, ap (λ (w : Words). w .next) e);
     spares = λ a h. renewed-same (s .delay) (delayed p f r a) (p .tasks)
         (λ x l. delayed-same p f r a x (λ c. omega (arith, waiting x (c .out) (c .lower), c .lower)));
   }
     where
       few : p .tasks ≤ maxTasks
       few = few-tasks (S .sound .plan)
+
+-- in the second protocol the next word is the greatest kept priority, so that a tick leaves it as it was
+pub tick-same : {p : Plan} {s : State} → SoundAndSized Second p s → TickSame p s
+unfolding afterOf wordsAfter stays secondWord SoundSecond
+tick-same {p} {s} S =
+    greatest-ext (at (s .kept)) (keptOf p (figuresOf s) (s .head .running)) (p .tasks) (λ x l. S .sound .words .kept x) ∙ sym (S .sound .words .next)

@@ -14,10 +14,12 @@ use Rattle.rules.specs.Numbers.Row.{newest, under, has, saves}
 use Rattle.rules.specs.Books.Plan.{countFault, taskFault, lockFault, ceilingFault, declares, Obeys}
 use Rattle.rules.specs.Schedulers.Figures.{Figures, figuresOf, holds, rankOf}
 use Rattle.rules.specs.Schedulers.Lazy.{Words, wordsOf}
-use Rattle.rules.specs.Soundness.Sound.{distinct, SoundFigures, keptOf, savedOf, ownerOf, SoundWords, Sound}
+use Rattle.rules.specs.Soundness.Sound.{distinct, SoundFigures, keptOf, savedOf, ownerOf, SoundSecond, SoundWords, Sound}
 use Rattle.rules.specs.Soundness.SoundTest.{taskObeys, lockObeys, spareObeys, obeys, rowTest, ownTest, numberNew}
-use Rattle.rules.specs.Soundness.SoundTest.{numberTest, taskTest, lockTest, runsTest, headTest, spareTest, soundTest}
+use Rattle.rules.specs.Soundness.SoundTest.{numberTest, taskTest, lockTest, runsTest, secondTest, headTest, spareTest, soundTest}
 use Rattle.rules.specs.declared.plan.Plan.{Plan}
+use Rattle.rules.specs.declared.protocol.Protocol.{Protocol}
+use Rattle.rules.specs.declared.protocol.Protocol.the-variants.{Second, First}
 use Rattle.rules.specs.declared.state.State.{State}
 use Rattle.rules.proofs.Numbers.Choice.{if-true, if-false, by-test, untrue, not-so, and-true, true-and, at-or, lt-or-le, Each, all-so, so-all}
 use Rattle.rules.proofs.Numbers.Place.{every-true, true-every, spare-at, at-spare}
@@ -277,6 +279,19 @@ module _ (p : Plan) (f : Figures) (w : Words) where
     ),
   )
 
+-- ---- the words
+
+word-so : (pr : Protocol) (second user best : ℕ) → secondTest pr second user best ≡ true → SoundSecond pr second user best
+unfolding secondTest SoundSecond
+word-so Second second user best e = eqb-true second best e
+word-so First second user best e = leb-true second user e
+
+so-word : (pr : Protocol) (second user best : ℕ) → SoundSecond pr second user best → secondTest pr second user best ≡ true
+unfolding secondTest SoundSecond
+so-word Second second user best h = eq-eqb second best h
+so-word First second user best h = le-leb second user h
+
+module _ (pr : Protocol) (p : Plan) (f : Figures) (w : Words) where
   record HeadOk : Type 0 where
     events : f .accepted ≤ maxAccepted
     eager : f .eager ≤ f .accepted
@@ -284,9 +299,9 @@ module _ (p : Plan) (f : Figures) (w : Words) where
     idle : w .running ≡ nobody → (x : ℕ) → x < p .tasks → at (f .released) x ≡ 0
     runs : w .running ≢ nobody → (w .running < p .tasks) × (0 < at (f .released) (w .running))
     user : w .user ≡ rankOf p f (w .running)
-    next : w .next ≡ greatest (keptOf p f (w .running)) (p .tasks)
+    next : SoundSecond pr (w .next) (w .user) (greatest (keptOf p f (w .running)) (p .tasks))
 
-  head-so : headTest p f w ≡ true → HeadOk
+  head-so : headTest pr p f w ≡ true → HeadOk
   unfolding headTest runsTest Each
   head-so e =
       let (a, (g, (l, (r, (u, (n, _)))))) = all-so _ e in
@@ -298,10 +313,10 @@ module _ (p : Plan) (f : Figures) (w : Words) where
             (sym (if-true (eqb (w .running) nobody) _ _ (eq-eqb _ _ z)) ∙ r) x h);
         runs = λ z. let (i, (o, _)) = all-so _ (sym (if-false (eqb (w .running) nobody) _ _ (ne-eqb _ _ z)) ∙ r) in (ltb-true _ _ i, ltb-true 0 _ o);
         user = eqb-true _ _ u;
-        next = eqb-true _ _ n;
+        next = word-so pr (w .next) (w .user) (greatest (keptOf p f (w .running)) (p .tasks)) n;
       }
 
-  so-head : HeadOk → headTest p f w ≡ true
+  so-head : HeadOk → headTest pr p f w ≡ true
   unfolding headTest runsTest Each
   so-head H = so-all _ (
     le-leb _ _ (H .events),
@@ -316,7 +331,7 @@ module _ (p : Plan) (f : Figures) (w : Words) where
               (λ t. let (i, o) = H .runs (eqb-false _ _ t) in if-false (eqb (w .running) nobody) _ _ t ∙ so-all _ (lt-ltb _ _ i, (lt-ltb 0 _ o, tt))),
           (
             eq-eqb _ _ (H .user),
-            (eq-eqb _ _ (H .next), tt),
+            (so-word pr (w .next) (w .user) (greatest (keptOf p f (w .running)) (p .tasks)) (H .next), tt),
           ),
         ),
       ),
@@ -383,7 +398,7 @@ unsaved-by p f x z = ap (saves (at (p .ceiling)) (at (p .base) x) (at (f .takes)
 
 -- ---- together
 
-module _ (p : Plan) (s : State) where
+module _ (pr : Protocol) (p : Plan) (s : State) where
   abbrev f : Figures
   f = figuresOf s
 
@@ -393,7 +408,7 @@ module _ (p : Plan) (s : State) where
   abbrev n : ℕ
   n = p .tasks
 
-  module _ (H : HeadOk p f w) (T : (x : ℕ) → x < n → TaskOk p f w x)
+  module _ (H : HeadOk pr p f w) (T : (x : ℕ) → x < n → TaskOk p f w x)
       (L : (l : ℕ) → l < p .locks → (at (w .owner) l ≡ ownerOf f n l) × (at (f .units) l ≤ at (p .limit) l) × (at (w .owner) l ≡ 0 → at (f .units) l ≡ 0))
       (S : SpareOk p s) where
     -- of each task: one of the plan's, or all 0
@@ -443,7 +458,7 @@ module _ (p : Plan) (s : State) where
             (λ hy. absurd (omega (arith, S .released y hy))) (lt-or-le y n))
             (λ hx. absurd (omega (arith, S .released x hx))) (lt-or-le x n)
 
-    worded : SoundWords p f w
+    worded : SoundWords pr p f w
     worded = record {
       idle = λ e. each (λ x. at (f .released) x ≡ 0) (H .idle e) (S .released);
       runs = λ e. H .runs e .1;
@@ -458,18 +473,18 @@ module _ (p : Plan) (s : State) where
       lazy = H .lazy;
     }
 
-  sound-so : soundTest p s ≡ true → Sound p s
+  sound-so : soundTest pr p s ≡ true → Sound pr p s
   unfolding soundTest Each
   sound-so e =
       let (ob, (he, (ta, (lo, (sp, _))))) = all-so _ e in
-      let H : HeadOk p f w = head-so p f w he in
+      let H : HeadOk pr p f w = head-so pr p f w he in
       let T : (x : ℕ) → x < n → TaskOk p f w x = λ x h. task-so p f w x (every-true (taskTest p f w) n ta x h) in
       let L : (l : ℕ) → l < p .locks → (at (w .owner) l ≡ ownerOf f n l) × (at (f .units) l ≤ at (p .limit) l) × (at (w .owner) l ≡ 0 → at (f .units) l ≡ 0) =
       λ l h. lock-so p f w l (every-true (lockTest p f w) (p .locks) lo l h) in
       let S : SpareOk p s = spare-so p s sp in
       record { plan = obeys-so p ob; figures = figured H T L S; words = worded H T L S }
 
-  module _ (X : Sound p s) where
+  module _ (X : Sound pr p s) where
     owned : (x l : ℕ) → holds f x l ≡ true → at (w .owner) l ≡ suc x
     owned x l h = X .words .owner l ∙ owner-is f l x n (inside (X .figures) x (holder-out (X .figures) x l h)) h (λ y k. X .figures .alone y x l k h)
 
@@ -509,12 +524,12 @@ module _ (p : Plan) (s : State) where
         far : (l : ℕ) → p .locks ≤ l → (x : ℕ) → holds f x l ≡ false
         far l h x = not-so (holds f x l) (λ k. omega (arith, X .figures .known x l k))
 
-    so-sound : soundTest p s ≡ true
+    so-sound : soundTest pr p s ≡ true
     unfolding soundTest Each
     so-sound = so-all _ (
       so-obeys p (X .plan),
       (
-        so-head p f w (record {
+        so-head pr p f w (record {
           events = X .figures .events;
           eager = X .figures .eager;
           lazy = X .words .lazy;
@@ -535,5 +550,5 @@ module _ (p : Plan) (s : State) where
     )
 
 -- the test decides soundness
-pub sound-is : (p : Plan) (s : State) → (soundTest p s ≡ true) ↔ Sound p s
-sound-is p s = (sound-so p s, so-sound p s)
+pub sound-is : (pr : Protocol) (p : Plan) (s : State) → (soundTest pr p s ≡ true) ↔ Sound pr p s
+sound-is pr p s = (sound-so pr p s, so-sound pr p s)

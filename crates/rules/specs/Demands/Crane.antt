@@ -1,9 +1,9 @@
--- RULES 18.1, 18.2, 18.6: the crane plan and its runs P1 to P12, and one for the eager calls, as one table under one claim. Assumes nothing.
+-- RULES 18.1, 18.2, 18.6, 18.7: the crane plan and its runs P1 to P12, and one for the calls, by both protocols, as one table under one claim. Assumes nothing.
 use mathlib.Core.Bool.{Bool, true, false, _&&_}
 use mathlib.Core.List.{List, [], _∷_, _++_}
 use Prim.Native.Nat.{ℕ, suc}
 use lib.Dec.{T, eqb}
-use lib.ListN.{length, replicate, take}
+use lib.ListN.{length, replicate, take, drop}
 use Rattle.rules.specs.Numbers.Choice.{if_then_else_, allTrue}
 use Rattle.rules.specs.Numbers.Place.{every, any, count, greatest, firstFrom, from, tabulate, renewed, zeros}
 use Rattle.rules.specs.Numbers.Refusal.{numberOf, firstTrue, found, firstFault}
@@ -23,16 +23,19 @@ use Rattle.rules.specs.Schedulers.EventRefusals.{elsewhere, notNewest, p
 use Rattle.rules.specs.Schedulers.EventRefusals.{acquireOrder, unlockOrder, workOrder, finishOrder, refusalOf}
 use Rattle.rules.specs.Schedulers.FiguresAfter.{differs, eagerCalls, charged, delayed, figuresAfter}
 use Rattle.rules.specs.Schedulers.Eager.{runningOf, settle, eagerTest, eagerStep}
-use Rattle.rules.specs.Schedulers.Lazy.{callsFor, runsOn, switched, waits, afterRelease, afterAcquire, restored, afterUnlock, wordsAfter, lazyCall}
+use Rattle.rules.specs.Schedulers.Protocol.{secondWord}
+use Rattle.rules.specs.Schedulers.Lazy.{callsFor, runsOn, switched, stays, afterRelease, afterAcquire, restored, afterUnlock, wordsAfter, lazyCall}
 use Rattle.rules.specs.Soundness.Sound.{keptOf, savedOf, ownerOf}
 use Rattle.rules.specs.Soundness.SoundTest.{taskObeys, lockObeys, spareObeys, obeys, rowTest, ownTest, numberNew}
-use Rattle.rules.specs.Soundness.SoundTest.{numberTest, taskTest, lockTest, runsTest, headTest, spareTest, soundTest}
+use Rattle.rules.specs.Soundness.SoundTest.{numberTest, taskTest, lockTest, runsTest, secondTest, headTest, spareTest, soundTest}
 use Rattle.rules.specs.Replays.Step.{afterOf, answered, actOf, stepOf}
 use Rattle.rules.specs.Replays.Run.{withRow, onward, runFrom}
 use Rattle.rules.specs.Replays.Replay.{replayAs, replayOf}
 use Rattle.rules.specs.Demands.History.{eagerAt, lazyAt, runnerAt}
 use Rattle.rules.specs.Demands.Bound.{lowerAt, lowerUser, mayBlock, limitIf, longestLimit, boundOf}
 use Rattle.rules.specs.declared.plan.Plan.{Plan}
+use Rattle.rules.specs.declared.protocol.Protocol.{Protocol}
+use Rattle.rules.specs.declared.protocol.Protocol.the-variants.{Second, First}
 use Rattle.rules.specs.declared.state.State.{State}
 use Rattle.rules.specs.declared.event.Event.{Event}
 use Rattle.rules.specs.declared.event.Event.the-variants.{Release, Acquire, Unlock, Work, Finish, Tick}
@@ -75,26 +78,32 @@ book =
 
 -- a case of the table
 data Case : Type 0 where
-  -- a list of events from a fresh start; a row for each (running, user, next, call), or the number of the refusal that ends the run; and the end
-  run : List Event → List (List ℕ) → List ℕ → Case
+  -- a list of events from a fresh start; a row for each (running, user word, next word, call; and by the first protocol, where running and user word are the
+  -- same, kernel word, call), or the number of the refusal that ends the run; and the end by both
+  run : List Event → List (List ℕ) → List ℕ → List ℕ → Case
   -- the bounds of the four tasks
   bounds : List ℕ → Case
-  -- a book, its row bytes, and the end
-  replay : List ℕ → List ℕ → List ℕ → Case
+  -- a book by a protocol, its row bytes, and the end
+  replay : Protocol → List ℕ → List ℕ → List ℕ → Case
   -- the plan with events as numbers, written into so many bytes of 7: the number, the place and the length, and the bytes
   write : List ℕ → ℕ → List ℕ → List ℕ → Case
 
--- the end: the running task, the user and the next word, lazy and eager calls, and the delays of the four tasks
+-- the end: the running task, the user and the second word and the lazy calls; and the eager calls and the delays of the four tasks
 endOf : State → List ℕ
 endOf s = s .head .running ∷ s .head .user .0 ∷ s .head .next .0 ∷ s .head .lazy ∷ s .head .eager ∷ take 4 (s .delay)
+
+-- of a row by both protocols, or of an end, what the one of them gives
+rowBy : Protocol → List ℕ → List ℕ
+rowBy Second row = take 4 row
+rowBy First row = take 2 row ++ drop 4 row
 
 rowOf : Answer → State → (State → List (List ℕ)) → List (List ℕ)
 rowOf (Answer.Accepted call) s rest = (s .head .running ∷ s .head .user .0 ∷ s .head .next .0 ∷ (if call then 1 else 0) ∷ []) ∷ rest s
 rowOf (Answer.Refused why) s rest = (numberOf why ∷ []) ∷ []
 
-rowsOf : State → List Event → List (List ℕ)
-rowsOf s [] = []
-rowsOf s (e ∷ es) = rowOf (stepOf crane s e .answer) (stepOf crane s e .state) (λ t. rowsOf t es)
+rowsOf : Protocol → State → List Event → List (List ℕ)
+rowsOf pr s [] = []
+rowsOf pr s (e ∷ es) = rowOf (stepOf pr crane s e .answer) (stepOf pr crane s e .state) (λ t. rowsOf pr t es)
 
 same : List ℕ → List ℕ → Bool
 same [] [] = true
@@ -102,21 +111,27 @@ same [] (y ∷ ys) = false
 same (x ∷ xs) [] = false
 same (x ∷ xs) (y ∷ ys) = eqb x y && same xs ys
 
-sames : List (List ℕ) → List (List ℕ) → Bool
-sames [] [] = true
-sames [] (y ∷ ys) = false
-sames (x ∷ xs) [] = false
-sames (x ∷ xs) (y ∷ ys) = same x y && sames xs ys
+-- the rows of a run by the one protocol are those of the table
+sames : Protocol → List (List ℕ) → List (List ℕ) → Bool
+sames pr [] [] = true
+sames pr [] (y ∷ ys) = false
+sames pr (x ∷ xs) [] = false
+sames pr (x ∷ xs) (y ∷ ys) = same x (rowBy pr y) && sames pr xs ys
 
 -- the running task of the one scheduler is that of the other at place k
-agree : List Event → ℕ → Bool
-agree es k = eqb (lazyAt crane es k .head .running) (runnerAt crane es k)
+agree : Protocol → List Event → ℕ → Bool
+agree pr es k = eqb (lazyAt pr crane es k .head .running) (runnerAt crane es k)
+
+-- the run of a list by the one protocol, with its end in two parts
+ranRight : Protocol → List Event → List (List ℕ) → List ℕ → List ℕ → Bool
+ranRight pr es rows end rest =
+    sames pr (rowsOf pr freshOf es) rows && same (endOf (lazyAt pr crane es (length es))) (rowBy pr end ++ rest) && every (agree pr es) (suc (length es))
 
 right : Case → Bool
-right (run es rows end) = sames (rowsOf freshOf es) rows && same (endOf (lazyAt crane es (length es))) end && every (agree es) (suc (length es))
+right (run es rows end rest) = ranRight Second es rows end rest && ranRight First es rows end rest
 right (bounds bs) = same (tabulate 4 (boundOf crane)) bs
-right (replay b rows end) =
-    let r = replayOf b (replicate (length rows) 0) in eqb (verdictNumber (r .verdict)) 0 && same (r .rows) rows && same (endOf (r .state)) end
+right (replay pr b rows end) =
+    let r = replayOf pr b (replicate (length rows) 0) in eqb (verdictNumber (r .verdict)) 0 && same (r .rows) rows && same (endOf (r .state)) end
 right (write events room answer bytes) =
     let w = writeOf taskNumbers lockNumbers useNumbers events (replicate room 7) in
     same (verdictNumber (w .verdict) ∷ verdictPlace (w .verdict) ∷ w .length ∷ []) answer && same (w .bytes) bytes
@@ -128,74 +143,81 @@ all (c ∷ cs) = right c && all cs
 cases : List Case
 cases =
     -- P1, as a book of 84 bytes and as a run: calls 1 2, delayed 0 2 0 0
-    replay book
+    replay Second book
     (0 ∷ 1 ∷ 0 ∷ 0 ∷ 0 ∷ 5 ∷ 0 ∷ 0 ∷ 0 ∷ 5 ∷ 3 ∷ 0 ∷ 0 ∷ 5 ∷ 3 ∷ 0 ∷ 1 ∷ 3 ∷ 1 ∷ 1 ∷ 0 ∷ 1 ∷ 0 ∷ 0 ∷ 255 ∷ 0 ∷ 0 ∷ 0 ∷ [])
+    (255 ∷ 0 ∷ 0 ∷ 1 ∷ 2 ∷ 0 ∷ 2 ∷ 0 ∷ 0 ∷ [])
+    ∷ replay First book
+    (0 ∷ 1 ∷ 1 ∷ 0 ∷ 0 ∷ 5 ∷ 1 ∷ 0 ∷ 0 ∷ 5 ∷ 5 ∷ 0 ∷ 0 ∷ 5 ∷ 5 ∷ 0 ∷ 1 ∷ 3 ∷ 3 ∷ 1 ∷ 0 ∷ 1 ∷ 1 ∷ 0 ∷ 255 ∷ 0 ∷ 0 ∷ 0 ∷ [])
     (255 ∷ 0 ∷ 0 ∷ 1 ∷ 2 ∷ 0 ∷ 2 ∷ 0 ∷ 0 ∷ [])
     -- that book, written: into a buffer with two bytes more, and into one that is a byte too short; and with a last event of no kind, whose 8 comes before 23
     ∷ write eventNumbers 86 (0 ∷ 0 ∷ 84 ∷ []) (book ++ replicate 2 7)
     ∷ write eventNumbers 83 (23 ∷ 0 ∷ 0 ∷ []) (replicate 83 7)
     ∷ write (eventNumbers ++ 0x0007 ∷ []) 83 (8 ∷ 7 ∷ 0 ∷ []) (replicate 83 7)
     ∷ run (Release 0 ∷ Acquire 0 ∷ Release 1 ∷ Work 2 ∷ Unlock 0 ∷ Finish ∷ Finish ∷ [])
-    ((0 ∷ 1 ∷ 0 ∷ 0 ∷ []) ∷ (0 ∷ 5 ∷ 0 ∷ 0 ∷ []) ∷ (0 ∷ 5 ∷ 3 ∷ 0 ∷ []) ∷ (0 ∷ 5 ∷ 3 ∷ 0 ∷ []) ∷ (1 ∷ 3 ∷ 1 ∷ 1 ∷ []) ∷ (0 ∷ 1 ∷ 0 ∷ 0 ∷ [])
-    ∷ (255 ∷ 0 ∷ 0 ∷ 0 ∷ []) ∷ [])
-    (255 ∷ 0 ∷ 0 ∷ 1 ∷ 2 ∷ 0 ∷ 2 ∷ 0 ∷ 0 ∷ [])
+    ((0 ∷ 1 ∷ 0 ∷ 0 ∷ 1 ∷ 0 ∷ []) ∷ (0 ∷ 5 ∷ 0 ∷ 0 ∷ 1 ∷ 0 ∷ []) ∷ (0 ∷ 5 ∷ 3 ∷ 0 ∷ 5 ∷ 0 ∷ []) ∷ (0 ∷ 5 ∷ 3 ∷ 0 ∷ 5 ∷ 0 ∷ [])
+    ∷ (1 ∷ 3 ∷ 1 ∷ 1 ∷ 3 ∷ 1 ∷ []) ∷ (0 ∷ 1 ∷ 0 ∷ 0 ∷ 1 ∷ 0 ∷ []) ∷ (255 ∷ 0 ∷ 0 ∷ 0 ∷ 0 ∷ 0 ∷ []) ∷ [])
+    (255 ∷ 0 ∷ 0 ∷ 1 ∷ 0 ∷ 1 ∷ []) (2 ∷ 0 ∷ 2 ∷ 0 ∷ 0 ∷ [])
     -- P2: the inner unlock restores 3, as great as the next word, and does not call; the outer one does, and task 1 runs
     ∷ run (Release 0 ∷ Acquire 1 ∷ Acquire 0 ∷ Release 1 ∷ Unlock 0 ∷ Unlock 1 ∷ [])
-    ((0 ∷ 1 ∷ 0 ∷ 0 ∷ []) ∷ (0 ∷ 3 ∷ 0 ∷ 0 ∷ []) ∷ (0 ∷ 5 ∷ 0 ∷ 0 ∷ []) ∷ (0 ∷ 5 ∷ 3 ∷ 0 ∷ []) ∷ (0 ∷ 3 ∷ 3 ∷ 0 ∷ []) ∷ (1 ∷ 3 ∷ 1 ∷ 1 ∷ []) ∷ [])
-    (1 ∷ 3 ∷ 1 ∷ 1 ∷ 4 ∷ 0 ∷ 0 ∷ 0 ∷ 0 ∷ [])
+    ((0 ∷ 1 ∷ 0 ∷ 0 ∷ 1 ∷ 0 ∷ []) ∷ (0 ∷ 3 ∷ 0 ∷ 0 ∷ 1 ∷ 0 ∷ []) ∷ (0 ∷ 5 ∷ 0 ∷ 0 ∷ 1 ∷ 0 ∷ []) ∷ (0 ∷ 5 ∷ 3 ∷ 0 ∷ 5 ∷ 0 ∷ [])
+    ∷ (0 ∷ 3 ∷ 3 ∷ 0 ∷ 3 ∷ 1 ∷ []) ∷ (1 ∷ 3 ∷ 1 ∷ 1 ∷ 3 ∷ 1 ∷ []) ∷ [])
+    (1 ∷ 3 ∷ 1 ∷ 1 ∷ 3 ∷ 2 ∷ []) (4 ∷ 0 ∷ 0 ∷ 0 ∷ 0 ∷ [])
     -- P3: task 2 waits while both words are 5, until the unlock calls
     ∷ run (Release 0 ∷ Acquire 0 ∷ Release 2 ∷ Unlock 0 ∷ [])
-    ((0 ∷ 1 ∷ 0 ∷ 0 ∷ []) ∷ (0 ∷ 5 ∷ 0 ∷ 0 ∷ []) ∷ (0 ∷ 5 ∷ 5 ∷ 0 ∷ []) ∷ (2 ∷ 5 ∷ 1 ∷ 1 ∷ []) ∷ [])
-    (2 ∷ 5 ∷ 1 ∷ 1 ∷ 2 ∷ 0 ∷ 0 ∷ 0 ∷ 0 ∷ [])
+    ((0 ∷ 1 ∷ 0 ∷ 0 ∷ 1 ∷ 0 ∷ []) ∷ (0 ∷ 5 ∷ 0 ∷ 0 ∷ 1 ∷ 0 ∷ []) ∷ (0 ∷ 5 ∷ 5 ∷ 0 ∷ 5 ∷ 0 ∷ []) ∷ (2 ∷ 5 ∷ 1 ∷ 1 ∷ 5 ∷ 1 ∷ []) ∷ [])
+    (2 ∷ 5 ∷ 1 ∷ 1 ∷ 5 ∷ 1 ∷ []) (2 ∷ 0 ∷ 0 ∷ 0 ∷ 0 ∷ [])
     -- P4: after task 3 has finished task 0 runs again, and not task 2
     ∷ run (Release 0 ∷ Acquire 0 ∷ Release 2 ∷ Release 3 ∷ Finish ∷ [])
-    ((0 ∷ 1 ∷ 0 ∷ 0 ∷ []) ∷ (0 ∷ 5 ∷ 0 ∷ 0 ∷ []) ∷ (0 ∷ 5 ∷ 5 ∷ 0 ∷ []) ∷ (3 ∷ 7 ∷ 5 ∷ 0 ∷ []) ∷ (0 ∷ 5 ∷ 5 ∷ 0 ∷ []) ∷ [])
-    (0 ∷ 5 ∷ 5 ∷ 0 ∷ 1 ∷ 0 ∷ 0 ∷ 0 ∷ 0 ∷ [])
+    ((0 ∷ 1 ∷ 0 ∷ 0 ∷ 1 ∷ 0 ∷ []) ∷ (0 ∷ 5 ∷ 0 ∷ 0 ∷ 1 ∷ 0 ∷ []) ∷ (0 ∷ 5 ∷ 5 ∷ 0 ∷ 5 ∷ 0 ∷ []) ∷ (3 ∷ 7 ∷ 5 ∷ 0 ∷ 7 ∷ 0 ∷ [])
+    ∷ (0 ∷ 5 ∷ 5 ∷ 0 ∷ 5 ∷ 0 ∷ []) ∷ [])
+    (0 ∷ 5 ∷ 5 ∷ 0 ∷ 5 ∷ 0 ∷ []) (1 ∷ 0 ∷ 0 ∷ 0 ∷ 0 ∷ [])
     -- P5: a section is worked up to its limit, and one unit more is refused
     ∷ run (Release 0 ∷ Acquire 0 ∷ Work 4 ∷ Work 1 ∷ [])
-    ((0 ∷ 1 ∷ 0 ∷ 0 ∷ []) ∷ (0 ∷ 5 ∷ 0 ∷ 0 ∷ []) ∷ (0 ∷ 5 ∷ 0 ∷ 0 ∷ []) ∷ (21 ∷ []) ∷ [])
-    (0 ∷ 5 ∷ 0 ∷ 0 ∷ 1 ∷ 0 ∷ 0 ∷ 0 ∷ 0 ∷ [])
+    ((0 ∷ 1 ∷ 0 ∷ 0 ∷ 1 ∷ 0 ∷ []) ∷ (0 ∷ 5 ∷ 0 ∷ 0 ∷ 1 ∷ 0 ∷ []) ∷ (0 ∷ 5 ∷ 0 ∷ 0 ∷ 1 ∷ 0 ∷ []) ∷ (21 ∷ []) ∷ [])
+    (0 ∷ 5 ∷ 0 ∷ 0 ∷ 1 ∷ 0 ∷ []) (1 ∷ 0 ∷ 0 ∷ 0 ∷ 0 ∷ [])
     -- P6: not the newest lock
     ∷ run (Release 0 ∷ Acquire 1 ∷ Acquire 0 ∷ Unlock 1 ∷ [])
-    ((0 ∷ 1 ∷ 0 ∷ 0 ∷ []) ∷ (0 ∷ 3 ∷ 0 ∷ 0 ∷ []) ∷ (0 ∷ 5 ∷ 0 ∷ 0 ∷ []) ∷ (19 ∷ []) ∷ [])
-    (0 ∷ 5 ∷ 0 ∷ 0 ∷ 2 ∷ 0 ∷ 0 ∷ 0 ∷ 0 ∷ [])
+    ((0 ∷ 1 ∷ 0 ∷ 0 ∷ 1 ∷ 0 ∷ []) ∷ (0 ∷ 3 ∷ 0 ∷ 0 ∷ 1 ∷ 0 ∷ []) ∷ (0 ∷ 5 ∷ 0 ∷ 0 ∷ 1 ∷ 0 ∷ []) ∷ (19 ∷ []) ∷ [])
+    (0 ∷ 5 ∷ 0 ∷ 0 ∷ 1 ∷ 0 ∷ []) (2 ∷ 0 ∷ 0 ∷ 0 ∷ 0 ∷ [])
     -- P7: a lock is open
     ∷ run (Release 0 ∷ Acquire 0 ∷ Finish ∷ [])
-    ((0 ∷ 1 ∷ 0 ∷ 0 ∷ []) ∷ (0 ∷ 5 ∷ 0 ∷ 0 ∷ []) ∷ (22 ∷ []) ∷ [])
-    (0 ∷ 5 ∷ 0 ∷ 0 ∷ 1 ∷ 0 ∷ 0 ∷ 0 ∷ 0 ∷ [])
+    ((0 ∷ 1 ∷ 0 ∷ 0 ∷ 1 ∷ 0 ∷ []) ∷ (0 ∷ 5 ∷ 0 ∷ 0 ∷ 1 ∷ 0 ∷ []) ∷ (22 ∷ []) ∷ [])
+    (0 ∷ 5 ∷ 0 ∷ 0 ∷ 1 ∷ 0 ∷ []) (1 ∷ 0 ∷ 0 ∷ 0 ∷ 0 ∷ [])
     -- P8: released twice
     ∷ run (Release 0 ∷ Release 0 ∷ [])
-    ((0 ∷ 1 ∷ 0 ∷ 0 ∷ []) ∷ (14 ∷ []) ∷ [])
-    (0 ∷ 1 ∷ 0 ∷ 0 ∷ 0 ∷ 0 ∷ 0 ∷ 0 ∷ 0 ∷ [])
+    ((0 ∷ 1 ∷ 0 ∷ 0 ∷ 1 ∷ 0 ∷ []) ∷ (14 ∷ []) ∷ [])
+    (0 ∷ 1 ∷ 0 ∷ 0 ∷ 1 ∷ 0 ∷ []) (0 ∷ 0 ∷ 0 ∷ 0 ∷ 0 ∷ [])
     -- P9: no use of the lock
     ∷ run (Release 1 ∷ Acquire 0 ∷ [])
-    ((1 ∷ 3 ∷ 0 ∷ 0 ∷ []) ∷ (15 ∷ []) ∷ [])
-    (1 ∷ 3 ∷ 0 ∷ 0 ∷ 0 ∷ 0 ∷ 0 ∷ 0 ∷ 0 ∷ [])
+    ((1 ∷ 3 ∷ 0 ∷ 0 ∷ 3 ∷ 0 ∷ []) ∷ (15 ∷ []) ∷ [])
+    (1 ∷ 3 ∷ 0 ∷ 0 ∷ 3 ∷ 0 ∷ []) (0 ∷ 0 ∷ 0 ∷ 0 ∷ 0 ∷ [])
     -- P10: the fresh start
-    ∷ run [] [] (255 ∷ 0 ∷ 0 ∷ 0 ∷ 0 ∷ 0 ∷ 0 ∷ 0 ∷ 0 ∷ [])
+    ∷ run [] []
+    (255 ∷ 0 ∷ 0 ∷ 0 ∷ 0 ∷ 0 ∷ []) (0 ∷ 0 ∷ 0 ∷ 0 ∷ 0 ∷ [])
     -- P11: the bounds
     ∷ bounds (0 ∷ 10 ∷ 4 ∷ 0 ∷ [])
     -- P12: task 1 is delayed by its bound, and one unit more is refused
     ∷ run (Release 0 ∷ Acquire 1 ∷ Release 1 ∷ Work 10 ∷ Work 1 ∷ [])
-    ((0 ∷ 1 ∷ 0 ∷ 0 ∷ []) ∷ (0 ∷ 3 ∷ 0 ∷ 0 ∷ []) ∷ (0 ∷ 3 ∷ 3 ∷ 0 ∷ []) ∷ (0 ∷ 3 ∷ 3 ∷ 0 ∷ []) ∷ (21 ∷ []) ∷ [])
-    (0 ∷ 3 ∷ 3 ∷ 0 ∷ 1 ∷ 0 ∷ 10 ∷ 0 ∷ 0 ∷ [])
+    ((0 ∷ 1 ∷ 0 ∷ 0 ∷ 1 ∷ 0 ∷ []) ∷ (0 ∷ 3 ∷ 0 ∷ 0 ∷ 1 ∷ 0 ∷ []) ∷ (0 ∷ 3 ∷ 3 ∷ 0 ∷ 3 ∷ 0 ∷ []) ∷ (0 ∷ 3 ∷ 3 ∷ 0 ∷ 3 ∷ 0 ∷ []) ∷ (21 ∷ []) ∷ [])
+    (0 ∷ 3 ∷ 3 ∷ 0 ∷ 3 ∷ 0 ∷ []) (1 ∷ 0 ∷ 10 ∷ 0 ∷ 0 ∷ [])
     -- RULES 18.6: of six acquires and unlocks two change a priority, and are eager calls. Lock 1 inside lock 0 changes none, nor does it for task 1, whose
     -- base is its ceiling; and a tick is no call
     ∷ run (Release 0 ∷ Acquire 0 ∷ Acquire 1 ∷ Unlock 1 ∷ Tick ∷ Unlock 0 ∷ Finish ∷ Release 1 ∷ Acquire 1 ∷ Unlock 1 ∷ Finish ∷ [])
-    ((0 ∷ 1 ∷ 0 ∷ 0 ∷ []) ∷ (0 ∷ 5 ∷ 0 ∷ 0 ∷ []) ∷ (0 ∷ 5 ∷ 0 ∷ 0 ∷ []) ∷ (0 ∷ 5 ∷ 0 ∷ 0 ∷ []) ∷ (0 ∷ 5 ∷ 0 ∷ 0 ∷ []) ∷ (0 ∷ 1 ∷ 0 ∷ 0 ∷ [])
-    ∷ (255 ∷ 0 ∷ 0 ∷ 0 ∷ []) ∷ (1 ∷ 3 ∷ 0 ∷ 0 ∷ []) ∷ (1 ∷ 3 ∷ 0 ∷ 0 ∷ []) ∷ (1 ∷ 3 ∷ 0 ∷ 0 ∷ []) ∷ (255 ∷ 0 ∷ 0 ∷ 0 ∷ []) ∷ [])
-    (255 ∷ 0 ∷ 0 ∷ 0 ∷ 2 ∷ 0 ∷ 0 ∷ 0 ∷ 0 ∷ [])
+    ((0 ∷ 1 ∷ 0 ∷ 0 ∷ 1 ∷ 0 ∷ []) ∷ (0 ∷ 5 ∷ 0 ∷ 0 ∷ 1 ∷ 0 ∷ []) ∷ (0 ∷ 5 ∷ 0 ∷ 0 ∷ 1 ∷ 0 ∷ []) ∷ (0 ∷ 5 ∷ 0 ∷ 0 ∷ 1 ∷ 0 ∷ [])
+    ∷ (0 ∷ 5 ∷ 0 ∷ 0 ∷ 5 ∷ 0 ∷ []) ∷ (0 ∷ 1 ∷ 0 ∷ 0 ∷ 1 ∷ 1 ∷ []) ∷ (255 ∷ 0 ∷ 0 ∷ 0 ∷ 0 ∷ 0 ∷ []) ∷ (1 ∷ 3 ∷ 0 ∷ 0 ∷ 3 ∷ 0 ∷ [])
+    ∷ (1 ∷ 3 ∷ 0 ∷ 0 ∷ 3 ∷ 0 ∷ []) ∷ (1 ∷ 3 ∷ 0 ∷ 0 ∷ 3 ∷ 0 ∷ []) ∷ (255 ∷ 0 ∷ 0 ∷ 0 ∷ 0 ∷ 0 ∷ []) ∷ [])
+    (255 ∷ 0 ∷ 0 ∷ 0 ∷ 0 ∷ 1 ∷ []) (2 ∷ 0 ∷ 0 ∷ 0 ∷ 0 ∷ [])
     ∷ []
 
 table : T (all cases)
-unfolding taskNumbers lockNumbers useNumbers eventNumbers crane book endOf rowOf rowsOf same sames agree right all cases
+unfolding taskNumbers lockNumbers useNumbers eventNumbers crane book endOf rowBy rowOf rowsOf same sames agree ranRight right all cases
     if_then_else_ allTrue every any count greatest firstFrom from renewed zeros numberOf firstTrue found firstFault verdictNumber verdictPlace eventFault
     eventOf numberFault hasBit withBit
     most countFault taskFault lockFault declares users usersBase ceilingFault taskFaultAt lockFaultAt countFaultOf useFault masksOf planOf recordChecks
     loadChecks sizeOf bodyAt layoutFault contentsChecks eventChecks checkOf wordBytes longBytes bookOf wholeChecks writeChecks wroteAs writeOf
     has priority saves holds priorityOf rankOf earlier earliest elected elsewhere notNewest pastLimit testsOf releaseOrder acquireOrder unlockOrder workOrder
     finishOrder refusalOf differs eagerCalls charged delayed figuresAfter runningOf settle eagerTest eagerStep
-    callsFor runsOn switched waits afterRelease afterAcquire restored afterUnlock wordsAfter lazyCall keptOf savedOf ownerOf
-    taskObeys lockObeys spareObeys obeys rowTest ownTest numberNew numberTest taskTest lockTest runsTest headTest spareTest soundTest
+    secondWord callsFor runsOn switched stays afterRelease afterAcquire restored afterUnlock wordsAfter lazyCall keptOf savedOf ownerOf
+    taskObeys lockObeys spareObeys obeys rowTest ownTest numberNew numberTest taskTest lockTest runsTest secondTest headTest spareTest soundTest
     afterOf answered actOf stepOf withRow onward runFrom replayAs replayOf eagerAt lazyAt lowerAt lowerUser mayBlock limitIf longestLimit
 table = tt

@@ -20,6 +20,7 @@ use Rattle.rules.specs.Replays.Step.{stepOf}
 use Rattle.rules.specs.Replays.Run.{Ran}
 use Rattle.rules.specs.Replays.Replay.{replayOf}
 use Rattle.rules.specs.declared.plan.Plan.{Plan}
+use Rattle.rules.specs.declared.protocol.Protocol.{Protocol}
 use Rattle.rules.specs.declared.state.State.{State}
 use Rattle.rules.specs.declared.event.Event.{Event}
 use Rattle.rules.specs.declared.refusal.Refusal.{Refusal}
@@ -33,16 +34,17 @@ use Rattle.rules.specs.declared.answer.Checked.{Checked}
 -- ---- 10 to 22, of an event
 
 -- the tests in their order: 10 first, then 11, then those of the event
-abbrev pub stepTests : Plan → State → Event → List (Bool × Refusal)
-stepTests p s e = (not (soundTest p s), Unsound) ∷ allTests p (figuresOf s) (s .head .running) e
+abbrev pub stepTests : Protocol → Plan → State → Event → List (Bool × Refusal)
+stepTests pr p s e = (not (soundTest pr p s), Unsound) ∷ allTests p (figuresOf s) (s .head .running) e
 
--- what is asked of the answer r to event e in state s of plan p, all three of any kind. Refusals are numbered from 1; 0 says that nothing is refused
-pub record StepRefuses (p : Plan) (s : State) (e : Event) (r : Stepped) : Type 0 where
+-- what is asked of the answer r to event e in state s of plan p, all three of any kind, by either protocol. Refusals are numbered from 1; 0 says that nothing is
+-- refused
+pub record StepRefuses (pr : Protocol) (p : Plan) (s : State) (e : Event) (r : Stepped) : Type 0 where
   -- a number is given exactly where its test holds and none before it does, and 0 exactly where no test holds
   pub exactly : (why : Refusal)
       → (answerNumber (r .answer) ≡ numberOf why)
-      ↔ ((testFor why (stepTests p s e) ≡ true) × (firstTrue (testsBefore why (stepTests p s e)) ≡ Tested.Passed))
-  pub accepts : (answerNumber (r .answer) ≡ 0) ↔ (firstTrue (stepTests p s e) ≡ Tested.Passed)
+      ↔ ((testFor why (stepTests pr p s e) ≡ true) × (firstTrue (testsBefore why (stepTests pr p s e)) ≡ Tested.Passed))
+  pub accepts : (answerNumber (r .answer) ≡ 0) ↔ (firstTrue (stepTests pr p s e) ≡ Tested.Passed)
   -- a refused event gives the very state back, and calls nothing
   pub same : 0 < answerNumber (r .answer) → r .state ≡ s
   pub quiet : 0 < answerNumber (r .answer) → answerCalls (r .answer) ≡ 0
@@ -97,8 +99,8 @@ pub record WriteRefuses (tasks locks uses events buffer : List ℕ) (w : Wrote) 
   pub bytes : 0 < verdictNumber (w .verdict) → w .bytes ≡ buffer
 
 pub record Demand1 : Type 0 where
-  pub step : (p : Plan) (s : State) (e : Event) → StepRefuses p s e (stepOf p s e)
+  pub step : (pr : Protocol) (p : Plan) (s : State) (e : Event) → StepRefuses pr p s e (stepOf pr p s e)
   pub load : (tasks locks uses : List ℕ) → LoadRefuses tasks locks uses (loadOf tasks locks uses)
   pub check : (b : List ℕ) (room : ℕ) → BookRefuses b room (checkedOf b room)
-  pub replay : (b rows : List ℕ) → ReplayRefuses b rows (replayOf b rows)
+  pub replay : (pr : Protocol) (b rows : List ℕ) → ReplayRefuses b rows (replayOf pr b rows)
   pub write : (tasks locks uses events buffer : List ℕ) → WriteRefuses tasks locks uses events buffer (writeOf tasks locks uses events buffer)

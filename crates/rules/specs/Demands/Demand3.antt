@@ -13,6 +13,7 @@ use Rattle.rules.specs.Schedulers.Figures.{holds}
 use Rattle.rules.specs.Demands.History.{eagerAt, lazyAt, runnerAt, acceptedAt}
 use Rattle.rules.specs.Demands.Job.{Accepted, Does, Section, Job, LowerWork, lowerUnits, lowerTotal}
 use Rattle.rules.specs.declared.plan.Plan.{Plan}
+use Rattle.rules.specs.declared.protocol.Protocol.{Protocol}
 use Rattle.rules.specs.declared.event.Event.{Event}
 use Rattle.rules.specs.declared.event.Event.the-variants.{Release, Acquire, Work, Finish}
 
@@ -26,7 +27,7 @@ pub record OneSection (p : Plan) (es : List Event) (t i : ℕ) : Type 0 where
   pub all : (k x u : ℕ) → LowerWork p es t i k x u → (x ≡ task) × Section p es task lock place k
 
 -- what is asked of the job of t that was released at place i
-pub record Demand3 (p : Plan) (es : List Event) (t i : ℕ) : Type 0 where
+pub record Demand3 (pr : Protocol) (p : Plan) (es : List Event) (t i : ℕ) : Type 0 where
   -- if a lower task works in it, all work of lower tasks in it belongs to one section
   pub oneSection : (k x u : ℕ) → LowerWork p es t i k x u → OneSection p es t i
   -- none comes after the job first runs, at place j
@@ -36,9 +37,9 @@ pub record Demand3 (p : Plan) (es : List Event) (t i : ℕ) : Type 0 where
   -- their sum never passes the bound
   pub bounded : (k : ℕ) → Job p es t i k → lowerTotal p es t i k ≤ boundOf p t
   -- it is the delay in the state while the job goes on, and after its finish, at place k, until t is released again
-  pub counted : (k : ℕ) → Job p es t i k → at (lazyAt p es k .delay) t ≡ lowerTotal p es t i k
+  pub counted : (k : ℕ) → Job p es t i k → at (lazyAt pr p es k .delay) t ≡ lowerTotal p es t i k
   pub reported : (k n : ℕ) → Job p es t i k → Does p es k t Finish → k < n → ((j : ℕ) → k < j → j < n → Accepted p es j (Release t) → ⊥)
-      → at (lazyAt p es n .delay) t ≡ lowerTotal p es t i k
+      → at (lazyAt pr p es n .delay) t ≡ lowerTotal p es t i k
 
 -- a section is open in the history exactly where its lock is open in the state
 abbrev pub SectionsAreOpen : Plan → List Event → Type 0
@@ -60,8 +61,8 @@ worstCase p t =
     else Release (firstLower p t (longestLock p t)) ∷ Acquire (longestLock p t) ∷ Release t ∷ Work (boundOf p t) ∷ []
 
 -- every event of that list is accepted, t's job goes on at its end, and the delay is then the bound
-pub record Reached (p : Plan) (t : ℕ) : Type 0 where
+pub record Reached (pr : Protocol) (p : Plan) (t : ℕ) : Type 0 where
   pub accepted : (k : ℕ) → k < length (worstCase p t) → acceptedAt p (worstCase p t) k ≡ true
   pub released : ℕ
   pub job : Job p (worstCase p t) t released (length (worstCase p t))
-  pub delay : at (lazyAt p (worstCase p t) (length (worstCase p t)) .delay) t ≡ boundOf p t
+  pub delay : at (lazyAt pr p (worstCase p t) (length (worstCase p t)) .delay) t ≡ boundOf p t

@@ -11,9 +11,12 @@ use Rattle.rules.specs.Schedulers.State.{freshOf}
 use Rattle.rules.specs.Schedulers.Figures.{Figures, freshFigures, priorityOf, rankOf}
 use Rattle.rules.specs.Schedulers.FiguresAfter.{eagerCalls, figuresAfter}
 use Rattle.rules.specs.Schedulers.Eager.{runningOf, eagerTest, eagerStep}
+use Rattle.rules.specs.Schedulers.Lazy.{enters}
 use Rattle.rules.specs.Replays.Step.{stepOf}
 use Rattle.rules.specs.Numbers.Answer.{passes}
 use Rattle.rules.specs.declared.plan.Plan.{Plan}
+use Rattle.rules.specs.declared.protocol.Protocol.{Protocol}
+use Rattle.rules.specs.declared.protocol.Protocol.the-variants.{Second, First}
 use Rattle.rules.specs.declared.state.State.{State}
 use Rattle.rules.specs.declared.event.Event.{Event}
 use Rattle.rules.specs.declared.event.Event.the-variants.{Release, Acquire, Unlock, Work, Finish, Tick}
@@ -27,10 +30,10 @@ unfoldable pub eagerAt : Plan → List Event → ℕ → Figures
 eagerAt p es zero = freshFigures
 eagerAt p es (suc k) = eagerStep p (eagerAt p es k) (eventAt es k)
 
--- and the lazy scheduler
-unfoldable pub lazyAt : Plan → List Event → ℕ → State
-lazyAt p es zero = freshOf
-lazyAt p es (suc k) = stepOf p (lazyAt p es k) (eventAt es k) .state
+-- and the lazy scheduler, by either protocol
+unfoldable pub lazyAt : Protocol → Plan → List Event → ℕ → State
+lazyAt pr p es zero = freshOf
+lazyAt pr p es (suc k) = stepOf pr p (lazyAt pr p es k) (eventAt es k) .state
 
 -- the eager scheduler's running task at place k
 abbrev pub runnerAt : Plan → List Event → ℕ → ℕ
@@ -46,18 +49,39 @@ acceptedAt p es k = passes (eagerTest p (eagerAt p es k) (eventAt es k))
 unfoldable pub outranked : Plan → Figures → Figures → ℕ → Bool
 outranked p f g r = any (λ y. not (eqb y r) && ltb (priorityOf p g r) (rankOf p f y)) (p .tasks)
 
--- the lazy calls that the rule asks for: one for an unlock after which another released task is strictly above the restored priority
-unfoldable pub callsDue : Plan → Figures → Event → ℕ
-callsDue p f (Release t) = 0
-callsDue p f (Acquire l) = 0
-callsDue p f (Unlock l) = if outranked p f (figuresAfter p f (runningOf p f) (Unlock l)) (runningOf p f) then 1 else 0
-callsDue p f (Work a) = 0
-callsDue p f Finish = 0
-callsDue p f Tick = 0
+-- the priority that the running task has after it unlocks l
+abbrev pub restoredOf : Plan → Figures → ℕ → ℕ
+restoredOf p f l = priorityOf p (figuresAfter p f (runningOf p f) (Unlock l)) (runningOf p f)
+
+-- whether an unlock of l is to call: where another released task is strictly above the restored priority (second protocol), or where the kernel word is,
+-- which is `word` (first protocol)
+unfoldable pub callRule : Protocol → Plan → Figures → (word : ℕ) → ℕ → Bool
+callRule Second p f word l = outranked p f (figuresAfter p f (runningOf p f) (Unlock l)) (runningOf p f)
+callRule First p f word l = ltb (restoredOf p f l) word
+
+-- the lazy calls that the rule asks for: at an unlock only
+unfoldable pub callsDue : Protocol → Plan → Figures → (word : ℕ) → Event → ℕ
+callsDue pr p f word (Release t) = 0
+callsDue pr p f word (Acquire l) = 0
+callsDue pr p f word (Unlock l) = if callRule pr p f word l then 1 else 0
+callsDue pr p f word (Work a) = 0
+callsDue pr p f word Finish = 0
+callsDue pr p f word Tick = 0
+
+-- the first protocol's kernel word at place k: the priority of the task that ran after the latest entry to the kernel before that place
+unfoldable pub kernelAt : Plan → List Event → ℕ → ℕ
+kernelAt p es zero = 0
+kernelAt p es (suc k) =
+    if acceptedAt p es k && enters (eqb (callsDue First p (eagerAt p es k) (kernelAt p es k) (eventAt es k)) 1) (eventAt es k)
+    then rankOf p (eagerAt p es (suc k)) (runnerAt p es (suc k)) else kernelAt p es k
+
+-- the lazy calls that the rule asks for at place k
+abbrev pub callsAt : Protocol → Plan → List Event → ℕ → ℕ
+callsAt pr p es k = callsDue pr p (eagerAt p es k) (kernelAt p es k) (eventAt es k)
 
 -- both counts, over the accepted events before place k; the eager calls of an event go by the priorities before it and after it
-unfoldable pub lazyCount : Plan → List Event → ℕ → ℕ
-lazyCount p es k = sum (λ j. if acceptedAt p es j then callsDue p (eagerAt p es j) (eventAt es j) else 0) k
+unfoldable pub lazyCount : Protocol → Plan → List Event → ℕ → ℕ
+lazyCount pr p es k = sum (λ j. if acceptedAt p es j then callsAt pr p es j else 0) k
 
 unfoldable pub eagerCount : Plan → List Event → ℕ → ℕ
 eagerCount p es k =

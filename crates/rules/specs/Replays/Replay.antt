@@ -6,17 +6,18 @@ use Rattle.rules.specs.Schedulers.State.{freshOf}
 use Rattle.rules.specs.Books.Book.{planIn, eventsOf, checkOf}
 use Rattle.rules.specs.Replays.Run.{Ran, runFrom}
 use Rattle.rules.specs.declared.plan.Plan.{Plan}
+use Rattle.rules.specs.declared.protocol.Protocol.{Protocol}
 use Rattle.rules.specs.declared.event.Event.{Event}
 use Rattle.rules.specs.declared.answer.Verdict.{Verdict}
 use Rattle.rules.specs.declared.answer.Replayed.{Replayed}
 
 -- RULES 5.8: beside a refusal of 1 to 9 there is no state but the fresh one, and the rows are as they were
-unfoldable pub replayAs : Verdict → Plan → List Event → List ℕ → Ran
-replayAs Verdict.Passed p es rows = runFrom p es 0 freshOf rows
-replayAs (Verdict.Refused why place) p es rows = record { verdict = Verdict.Refused why place; state = freshOf; rows = rows }
+unfoldable pub replayAs : Protocol → Verdict → Plan → List Event → List ℕ → Ran
+replayAs pr Verdict.Passed p es rows = runFrom pr p es 0 freshOf rows
+replayAs pr (Verdict.Refused why place) p es rows = record { verdict = Verdict.Refused why place; state = freshOf; rows = rows }
 
-unfoldable pub replayOf : List ℕ → List ℕ → Ran
-replayOf b rows = replayAs (checkOf b (length rows)) (planIn b) (eventsOf b) rows
+unfoldable pub replayOf : Protocol → List ℕ → List ℕ → Ran
+replayOf pr b rows = replayAs pr (checkOf b (length rows)) (planIn b) (eventsOf b) rows
 
 -- the answer of a replay and the row bytes that it leaves, as one
 abbrev pub ranAs : Replayed → List ℕ → Ran

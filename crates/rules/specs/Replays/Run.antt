@@ -6,6 +6,7 @@ use lib.ListN.{set}
 use Rattle.rules.specs.Numbers.Choice.{if_then_else_}
 use Rattle.rules.specs.Replays.Step.{stepOf}
 use Rattle.rules.specs.declared.plan.Plan.{Plan}
+use Rattle.rules.specs.declared.protocol.Protocol.{Protocol}
 use Rattle.rules.specs.declared.state.Head.{Head}
 use Rattle.rules.specs.declared.state.State.{State}
 use Rattle.rules.specs.declared.event.Event.{Event}
@@ -29,6 +30,6 @@ onward (Answer.Accepted call) s k rows rest = rest s (withRow rows k (s .head) c
 onward (Answer.Refused why) s k rows rest = record { verdict = Verdict.Refused why k; state = s; rows = rows }
 
 -- the events of a list, the first of them at place k
-unfoldable pub runFrom : Plan → List Event → ℕ → State → List ℕ → Ran
-runFrom p [] k s rows = record { verdict = Verdict.Passed; state = s; rows = rows }
-runFrom p (e ∷ es) k s rows = onward (stepOf p s e .answer) (stepOf p s e .state) k rows (runFrom p es (suc k))
+unfoldable pub runFrom : Protocol → Plan → List Event → ℕ → State → List ℕ → Ran
+runFrom pr p [] k s rows = record { verdict = Verdict.Passed; state = s; rows = rows }
+runFrom pr p (e ∷ es) k s rows = onward (stepOf pr p s e .answer) (stepOf pr p s e .state) k rows (runFrom pr p es (suc k))

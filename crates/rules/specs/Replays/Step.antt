@@ -7,6 +7,7 @@ use Rattle.rules.specs.Schedulers.FiguresAfter.{figuresAfter}
 use Rattle.rules.specs.Schedulers.Lazy.{wordsOf, stateOf, wordsAfter, lazyCall}
 use Rattle.rules.specs.Soundness.SoundTest.{soundTest}
 use Rattle.rules.specs.declared.plan.Plan.{Plan}
+use Rattle.rules.specs.declared.protocol.Protocol.{Protocol}
 use Rattle.rules.specs.declared.state.State.{State}
 use Rattle.rules.specs.declared.event.Event.{Event}
 use Rattle.rules.specs.declared.refusal.Refusal.{Refusal}
@@ -20,19 +21,19 @@ abbrev pub refusedWith : State → Refusal → Stepped
 refusedWith s why = record { answer = Answer.Refused why; state = s }
 
 -- the state after an accepted event
-unfoldable pub afterOf : Plan → State → Event → State
-afterOf p s e =
+unfoldable pub afterOf : Protocol → Plan → State → Event → State
+afterOf pr p s e =
     stateOf (figuresAfter p (figuresOf s) (s .head .running) e)
-    (wordsAfter p (figuresAfter p (figuresOf s) (s .head .running) e .released) (wordsOf s) e)
+    (wordsAfter pr p (figuresAfter p (figuresOf s) (s .head .running) e .released) (wordsOf s) e)
 
 unfoldable pub answered : Tested → State → State → Bool → Stepped
 answered Tested.Passed s after call = record { answer = Answer.Accepted call; state = after }
 answered (Tested.Refused why) s after call = refusedWith s why
 
 -- the step of a sound state: 11 to 22, or the event is accepted
-unfoldable pub actOf : Plan → State → Event → Stepped
-actOf p s e = answered (refusalOf p (figuresOf s) (s .head .running) e) s (afterOf p s e) (lazyCall (wordsOf s) e)
+unfoldable pub actOf : Protocol → Plan → State → Event → Stepped
+actOf pr p s e = answered (refusalOf p (figuresOf s) (s .head .running) e) s (afterOf pr p s e) (lazyCall (wordsOf s) e)
 
 -- 10 comes first
-unfoldable pub stepOf : Plan → State → Event → Stepped
-stepOf p s e = if soundTest p s then actOf p s e else refusedWith s Unsound
+unfoldable pub stepOf : Protocol → Plan → State → Event → Stepped
+stepOf pr p s e = if soundTest pr p s then actOf pr p s e else refusedWith s Unsound

@@ -1,6 +1,7 @@
--- RULES 9.4 to 9.10 and 10.1: the words of the lazy scheduler, its kept and saved priorities, its switch and its calls. Assumes nothing.
+-- RULES 9.4 to 9.10 and 10.1: the words of the lazy scheduler, its kept and saved priorities, its switch and its calls. The protocols differ in what an
+-- entry to the kernel leaves in the second word (`secondWord`), and in nothing else. Assumes nothing.
 use mathlib.Core.Path.{_≡_}
-use mathlib.Core.Bool.{Bool, false}
+use mathlib.Core.Bool.{Bool, true, false}
 use mathlib.Core.List.{List}
 use Prim.Native.Nat.{ℕ, _+_, max}
 use lib.Dec.{ltb}
@@ -11,12 +12,14 @@ use Rattle.rules.specs.Numbers.Place.{at, greatest}
 use Rattle.rules.specs.Numbers.Row.{newest, under, pushed}
 use Rattle.rules.specs.Schedulers.Figures.{Figures}
 use Rattle.rules.specs.Schedulers.Elect.{elected}
+use Rattle.rules.specs.Schedulers.Protocol.{secondWord}
 use Rattle.rules.specs.declared.plan.Plan.{Plan}
+use Rattle.rules.specs.declared.protocol.Protocol.{Protocol}
 use Rattle.rules.specs.declared.state.State.{State}
 use Rattle.rules.specs.declared.event.Event.{Event}
 use Rattle.rules.specs.declared.event.Event.the-variants.{Release, Acquire, Unlock, Work, Finish, Tick}
 
--- what the lazy scheduler keeps beside the figures
+-- what the lazy scheduler keeps beside the figures; `next` is the second word of either protocol
 pub record Words : Type 0 where
   pub running : ℕ
   pub user : ℕ
@@ -66,21 +69,21 @@ stateOf f w =
       owner = w .owner;
     }
 
--- RULES 10.1: an unlock calls where the word that it puts back is strictly below the next word
+-- RULES 10.1: an unlock calls where the word that it puts back is strictly below the second word
 unfoldable pub callsFor : ℕ → ℕ → Bool
 callsFor back next = ltb back next
 
--- RULES 7.7: the second word is the greatest priority that the kernel keeps for any task
-abbrev pub secondWord : List ℕ → ℕ → ℕ
-secondWord kept n = greatest (at kept) n
+-- the greatest priority that the kernel keeps for any of n tasks
+abbrev pub bestKept : List ℕ → ℕ → ℕ
+bestKept kept n = greatest (at kept) n
 
 -- task q runs, by its kept priority; while it runs nothing is kept for it
-unfoldable pub runsOn : ℕ → List ℕ → Words → ℕ → Words
-runsOn n kept w q =
+unfoldable pub runsOn : Protocol → ℕ → List ℕ → Words → ℕ → Words
+runsOn pr n kept w q =
     record {
       running = q;
       user = at kept q;
-      next = secondWord (set kept q 0) n;
+      next = secondWord pr (at kept q) (bestKept (set kept q 0) n);
       lazy = w .lazy;
       kept = set kept q 0;
       saved = w .saved;
@@ -88,16 +91,16 @@ runsOn n kept w q =
     }
 
 -- RULES 9.10: a switch to the greatest of the kept priorities, the leaving task's among them; ties to the earlier release
-unfoldable pub switched : ℕ → List ℕ → List ℕ → Words → Words
-switched n released kept w = runsOn n kept w (elected (at released) (at kept) n)
+unfoldable pub switched : Protocol → ℕ → List ℕ → List ℕ → Words → Words
+switched pr n released kept w = runsOn pr n kept w (elected (at released) (at kept) n)
 
--- no switch at a release: the newcomer waits
-unfoldable pub waits : ℕ → List ℕ → Words → Words
-waits n kept w =
+-- an entry without a switch: who runs goes on, and so does the user word
+unfoldable pub stays : Protocol → ℕ → List ℕ → Words → Words
+stays pr n kept w =
     record {
       running = w .running;
       user = w .user;
-      next = secondWord kept n;
+      next = secondWord pr (w .user) (bestKept kept n);
       lazy = w .lazy;
       kept = kept;
       saved = w .saved;
@@ -105,8 +108,8 @@ waits n kept w =
     }
 
 -- RULES 9.4: after the release of a task of base b, which is kept already; the kernel switches for a base strictly above the user word only
-unfoldable pub afterRelease : ℕ → List ℕ → List ℕ → ℕ → Words → Words
-afterRelease n released kept b w = if ltb (w .user) b then switched n released (set kept (w .running) (w .user)) w else waits n kept w
+unfoldable pub afterRelease : Protocol → ℕ → List ℕ → List ℕ → ℕ → Words → Words
+afterRelease pr n released kept b w = if ltb (w .user) b then switched pr n released (set kept (w .running) (w .user)) w else stays pr n kept w
 
 -- RULES 9.5: lock l of this ceiling is taken; the user word is saved, and raised to the ceiling where it is below it
 unfoldable pub afterAcquire : ℕ → ℕ → Words → Words
@@ -139,19 +142,29 @@ restored l calls w =
     }
 
 -- RULES 9.6: lock l is given back, with one lazy call and a switch where the call's rule says so, and with neither elsewhere
-unfoldable pub afterUnlock : ℕ → List ℕ → ℕ → Words → Words
-afterUnlock n released l w = if callsFor (backOf w) (w .next) then switched n released (set (w .kept) (w .running) (backOf w))
+unfoldable pub afterUnlock : Protocol → ℕ → List ℕ → ℕ → Words → Words
+afterUnlock pr n released l w = if callsFor (backOf w) (w .next) then switched pr n released (set (w .kept) (w .running) (backOf w))
     (restored l 1 w) else restored l 0 w
 
 -- the words after an accepted event; `released` are the release numbers after it
-unfoldable pub wordsAfter : Plan → List ℕ → Words → Event → Words
-wordsAfter p released w (Release t) = afterRelease (p .tasks) released (set (w .kept) t (at (p .base) t)) (at (p .base) t) w
-wordsAfter p released w (Acquire l) = afterAcquire l (at (p .ceiling) l) w
-wordsAfter p released w (Unlock l) = afterUnlock (p .tasks) released l w
-wordsAfter p released w (Work a) = w
+unfoldable pub wordsAfter : Protocol → Plan → List ℕ → Words → Event → Words
+wordsAfter pr p released w (Release t) = afterRelease pr (p .tasks) released (set (w .kept) t (at (p .base) t)) (at (p .base) t) w
+wordsAfter pr p released w (Acquire l) = afterAcquire l (at (p .ceiling) l) w
+wordsAfter pr p released w (Unlock l) = afterUnlock pr (p .tasks) released l w
+wordsAfter pr p released w (Work a) = w
 -- RULES 9.8: a finish switches, and nothing is kept for the task that is done
-wordsAfter p released w Finish = switched (p .tasks) released (set (w .kept) (w .running) 0) w
-wordsAfter p released w Tick = w
+wordsAfter pr p released w Finish = switched pr (p .tasks) released (set (w .kept) (w .running) 0) w
+-- RULES 9.9: a tick is an entry and no more; in a sound state of the second protocol the next word is what it was
+wordsAfter pr p released w Tick = stays pr (p .tasks) (w .kept) w
+
+-- RULES 10.3: whether an accepted event enters the kernel. An unlock does where it calls
+unfoldable pub enters : (call : Bool) → Event → Bool
+enters call (Release t) = true
+enters call (Acquire l) = false
+enters call (Unlock l) = call
+enters call (Work a) = false
+enters call Finish = true
+enters call Tick = true
 
 -- whether an accepted event makes a lazy call
 unfoldable pub lazyCall : Words → Event → Bool

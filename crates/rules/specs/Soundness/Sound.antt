@@ -12,6 +12,8 @@ use Rattle.rules.specs.Books.Plan.{Obeys, declares}
 use Rattle.rules.specs.Schedulers.Figures.{Figures, Sized, figuresOf, holds, rankOf}
 use Rattle.rules.specs.Schedulers.Lazy.{Words, WordsSized, wordsOf}
 use Rattle.rules.specs.declared.plan.Plan.{Plan}
+use Rattle.rules.specs.declared.protocol.Protocol.{Protocol}
+use Rattle.rules.specs.declared.protocol.Protocol.the-variants.{Second, First}
 use Rattle.rules.specs.declared.state.State.{State}
 
 -- no lock stands twice in a row of k
@@ -56,14 +58,20 @@ unfoldable pub ownerOf : Figures → ℕ → ℕ → ℕ
 ownerOf f zero l = 0
 ownerOf f (suc k) l = if holds f k l then suc k else ownerOf f k l
 
+-- RULES 8.10: what the second word obeys beside the user word and the greatest kept priority: the next word is that priority, and the kernel word is at
+-- most the user word
+unfoldable pub SoundSecond : Protocol → (second user best : ℕ) → Type 0
+SoundSecond Second second user best = second ≡ best
+SoundSecond First second user best = second ≤ user
+
 -- what the words obey, given the figures
-pub record SoundWords (p : Plan) (f : Figures) (w : Words) : Type 0 where
+pub record SoundWords (pr : Protocol) (p : Plan) (f : Figures) (w : Words) : Type 0 where
   -- RULES 8.3: where nobody runs none is released, and a task that runs is released
   pub idle : w .running ≡ nobody → (x : ℕ) → at (f .released) x ≡ 0
   pub runs : w .running ≢ nobody → 0 < at (f .released) (w .running)
-  -- RULES 8.10: both words, and what is kept and saved for each task, follow from who runs and from the open locks
+  -- RULES 8.10: the user word, the next word, and what is kept and saved for each task follow from who runs and from the open locks
   pub user : w .user ≡ rankOf p f (w .running)
-  pub next : w .next ≡ greatest (keptOf p f (w .running)) (p .tasks)
+  pub next : SoundSecond pr (w .next) (w .user) (greatest (keptOf p f (w .running)) (p .tasks))
   pub kept : (x : ℕ) → at (w .kept) x ≡ keptOf p f (w .running) x
   pub saved : (x : ℕ) → at (w .saved) x ≡ savedOf p f x
   -- the owner of a lock is the task whose row it stands in
@@ -71,13 +79,13 @@ pub record SoundWords (p : Plan) (f : Figures) (w : Words) : Type 0 where
   -- RULES 8.4: no more lazy calls than accepted events
   pub lazy : w .lazy ≤ f .accepted
 
-pub record Sound (p : Plan) (s : State) : Type 0 where
+pub record Sound (pr : Protocol) (p : Plan) (s : State) : Type 0 where
   pub plan : Obeys p
   pub figures : SoundFigures p (figuresOf s)
-  pub words : SoundWords p (figuresOf s) (wordsOf s)
+  pub words : SoundWords pr p (figuresOf s) (wordsOf s)
 
 -- a sound state, with a place for every task and every lock that a plan may have, as its types say
-pub record SoundAndSized (p : Plan) (s : State) : Type 0 where
+pub record SoundAndSized (pr : Protocol) (p : Plan) (s : State) : Type 0 where
   pub figuresSized : Sized (figuresOf s)
   pub wordsSized : WordsSized (wordsOf s)
-  pub sound : Sound p s
+  pub sound : Sound pr p s

@@ -15,6 +15,8 @@ use Rattle.rules.specs.Schedulers.Figures.{Figures, figuresOf, rankOf}
 use Rattle.rules.specs.Schedulers.Lazy.{Words, wordsOf}
 use Rattle.rules.specs.Soundness.Sound.{keptOf, savedOf, ownerOf}
 use Rattle.rules.specs.declared.plan.Plan.{Plan}
+use Rattle.rules.specs.declared.protocol.Protocol.{Protocol}
+use Rattle.rules.specs.declared.protocol.Protocol.the-variants.{Second, First}
 use Rattle.rules.specs.declared.state.State.{State}
 
 -- ---- the plan
@@ -104,15 +106,20 @@ runsTest released n r =
     if eqb r nobody then every (λ x. eqb (at released x) 0) n
     else allTrue (ltb r n ∷ ltb 0 (at released r) ∷ [])
 
-unfoldable pub headTest : Plan → Figures → Words → Bool
-headTest p f w =
+-- the second word is the greatest kept priority, or at most the user word
+unfoldable pub secondTest : Protocol → (second user best : ℕ) → Bool
+secondTest Second second user best = eqb second best
+secondTest First second user best = leb second user
+
+unfoldable pub headTest : Protocol → Plan → Figures → Words → Bool
+headTest pr p f w =
     allTrue
     (leb (f .accepted) maxAccepted
     ∷ leb (f .eager) (f .accepted)
     ∷ leb (w .lazy) (f .accepted)
     ∷ runsTest (f .released) (p .tasks) (w .running)
     ∷ eqb (w .user) (rankOf p f (w .running))
-    ∷ eqb (w .next) (greatest (keptOf p f (w .running)) (p .tasks))
+    ∷ secondTest pr (w .next) (w .user) (greatest (keptOf p f (w .running)) (p .tasks))
     ∷ [])
 
 -- places past the last task and the last lock hold 0
@@ -129,11 +136,11 @@ spareTest p s =
     ∷ zeros (drop (p .locks) (s .owner))
     ∷ [])
 
-unfoldable pub soundTest : Plan → State → Bool
-soundTest p s =
+unfoldable pub soundTest : Protocol → Plan → State → Bool
+soundTest pr p s =
     allTrue
     (obeys p
-    ∷ headTest p (figuresOf s) (wordsOf s)
+    ∷ headTest pr p (figuresOf s) (wordsOf s)
     ∷ every (taskTest p (figuresOf s) (wordsOf s)) (p .tasks)
     ∷ every (lockTest p (figuresOf s) (wordsOf s)) (p .locks)
     ∷ spareTest p s

@@ -10,6 +10,7 @@ use Rattle.rules.specs.Numbers.Place.{at, renewed}
 use Rattle.rules.specs.Numbers.Row.{under, pushed}
 use Rattle.rules.specs.Schedulers.FiguresAfter.{differs}
 use Rattle.rules.specs.Schedulers.Lazy.{Words, switched, afterRelease, afterAcquire}
+use Rattle.rules.specs.declared.protocol.Protocol.{Protocol}
 use Rattle.rules.specs.declared.state.Head.{Head}
 use Rattle.rules.specs.declared.answer.Answer.{Answer}
 use Rattle.rules.specs.declared.priority.KernelPriority.{KernelPriority}
@@ -33,11 +34,11 @@ module _ (h : Head) (turn : Turn) where
   counts = record { answer = refl; number = refl; calls = refl }
 
 module _ (h : Head) (after : Turn) (r : Acted) where
-  pub release-done : (n t : ℕ) (base released kept delay kept₂ : List ℕ) (b : KernelPriority) → b .0 ≡ at base t
-      → ((w : Words) → turned after kept₂ w ≡ afterRelease n (set released t (h .accepted + 1)) (set kept t (b .0)) (b .0) (turned (turnOf h) kept w))
+  pub release-done : (pr : Protocol) (n t : ℕ) (base released kept delay kept₂ : List ℕ) (b : KernelPriority) → b .0 ≡ at base t
+      → ((w : Words) → turned after kept₂ w ≡ afterRelease pr n (set released t (h .accepted + 1)) (set kept t (b .0)) (b .0) (turned (turnOf h) kept w))
       → r ≡ acceptedWith h after false 0
-      → ReleaseDone h n t base released kept delay r (set released t (h .accepted + 1)) kept₂ (set delay t 0)
-  release-done n t base released kept delay kept₂ b read e q = rw q (record {
+      → ReleaseDone pr h n t base released kept delay r (set released t (h .accepted + 1)) kept₂ (set delay t 0)
+  release-done pr n t base released kept delay kept₂ b read e q = rw q (record {
     counted = counts h after;
     place = refl;
     wait = refl;
@@ -61,10 +62,10 @@ module _ (h : Head) (after : Turn) (r : Acted) where
     words = λ kept. uncalled h after kept saved₂ owner₂ ∙ e (h .lazy) kept ∙ rw c;
   })
 
-  pub finish-done : (n : ℕ) (released kept kept₂ : List ℕ)
-      → ((w : Words) → turned after kept₂ w ≡ switched n (set released (h .running) 0) (set kept (h .running) 0) w) → r ≡ acceptedWith h after false 0
-      → FinishDone h n released kept r (set released (h .running) 0) kept₂
-  finish-done n released kept kept₂ e q = rw q (record {
+  pub finish-done : (pr : Protocol) (n : ℕ) (released kept kept₂ : List ℕ)
+      → ((w : Words) → turned after kept₂ w ≡ switched pr n (set released (h .running) 0) (set kept (h .running) 0) w) → r ≡ acceptedWith h after false 0
+      → FinishDone pr h n released kept r (set released (h .running) 0) kept₂
+  finish-done pr n released kept kept₂ e q = rw q (record {
     counted = counts h after;
     place = refl;
     words = λ saved owner. uncalled h after kept₂ saved owner ∙ e (wordsWith h kept saved owner);
@@ -81,12 +82,12 @@ work-done h turn r turns n a base released delay depth takes units delay₂ unit
   words = λ kept saved owner. uncalled h turn kept saved owner ∙ rw turns;
 })
 
-pub unlock-done : (h : Head) (r : Acted) (n l row u : ℕ) (released kept depth takes saved units owner kept₂ saved₂ owner₂ : List ℕ) (given : Unlocked)
-    → row ≡ at takes (h .running) → u ≡ under row → UnlockWords h n l released kept saved owner given kept₂ saved₂ owner₂
+pub unlock-done : (pr : Protocol) (h : Head) (r : Acted) (n l row u : ℕ) (released kept depth takes saved units owner kept₂ saved₂ owner₂ : List ℕ) (given : Unlocked)
+    → row ≡ at takes (h .running) → u ≡ under row → UnlockWords pr h n l released kept saved owner given kept₂ saved₂ owner₂
     → r ≡ acceptedWith h (given .turn) (given .call) (differs (h .user .0) (given .back .0))
-    → UnlockDone h n l released kept depth takes saved units owner r kept₂ (set depth (h .running) (at depth (h .running) - 1))
+    → UnlockDone pr h n l released kept depth takes saved units owner r kept₂ (set depth (h .running) (at depth (h .running) - 1))
     (set takes (h .running) u) saved₂ (set units l 0) owner₂
-unlock-done h r n l row u released kept depth takes saved units owner kept₂ saved₂ owner₂ given read rest g q =
+unlock-done pr h r n l row u released kept depth takes saved units owner kept₂ saved₂ owner₂ given read rest g q =
     rw q (record {
       counted = record {
         answer = ap Answer.Accepted (g .call);

@@ -14,15 +14,18 @@ use Rattle.rules.specs.Numbers.Row.{newest, has}
 use Rattle.rules.specs.Numbers.Choice.{if_then_else_}
 use Rattle.rules.specs.Numbers.Refusal.{numberOf, firstTrue, testFor}
 use Rattle.rules.specs.Schedulers.Figures.{Figures, figuresOf, holds}
+use Rattle.rules.specs.Schedulers.Lazy.{bestKept}
 use Rattle.rules.specs.Schedulers.EventRefusals.{releaseOrder, acquireOrder, unlockOrder, workOrder, finishOrder}
 use Rattle.rules.specs.Soundness.Sound.{savedOf, SoundAndSized}
 use Rattle.rules.specs.declared.plan.Plan.{Plan}
+use Rattle.rules.specs.declared.protocol.Protocol.{Protocol}
+use Rattle.rules.specs.declared.priority.KernelPriority.{KernelPriority}
 use Rattle.rules.specs.declared.state.Head.{Head}
 use Rattle.rules.specs.declared.state.State.{State}
 use Rattle.rules.specs.declared.answer.Tested.{Tested}
 use Rattle.rules.specs.declared.refusal.Refusal.the-variants.{NobodyRuns, Unknown, AlreadyReleased, RowFull, NotNewest, PastLimit}
 use Rattle.rules.proofs.Numbers.Choice.{or-false, untrue, not-so}
-use Rattle.rules.proofs.Soundness.Shortcuts.{kept-none, kept-running, next-greatest, idle-word, newcomer-other, waiting}
+use Rattle.rules.proofs.Soundness.Shortcuts.{kept-none, kept-running, idle-word, newcomer-other, waiting}
 use Rattle.rules.proofs.Numbers.Row.{saves-places}
 use Rattle.rules.proofs.Books.Obeyed.{few-tasks, few-locks, base-byte, ceiling-byte}
 use Rattle.rules.proofs.Numbers.Order.{none-holds}
@@ -98,7 +101,7 @@ module _ (tested : Tested) (passed : tested ≡ Tested.Passed) where
 
 -- ---- what a sound state has
 
-module _ (p : Plan) (s : State) (S : SoundAndSized p s) (room : s .head .accepted < maxAccepted) where
+module _ (pr : Protocol) (p : Plan) (s : State) (S : SoundAndSized pr p s) (room : s .head .accepted < maxAccepted) where
   abbrev f : Figures
   f = figuresOf s
 
@@ -120,7 +123,6 @@ module _ (p : Plan) (s : State) (S : SoundAndSized p s) (room : s .head .accepte
       other = newcomer-other S t l z;
       left = kept-running S;
       idle = idle-word S;
-      next = next-greatest S;
     };
   }
 
@@ -142,8 +144,15 @@ module _ (p : Plan) (s : State) (S : SoundAndSized p s) (room : s .head .accepte
     sized = S .wordsSized .kept;
   }
 
-  pub work-ready : length (p .limit) ≡ maxLocks → WorkReady (s .head) (p .tasks) (p .base) (p .limit) (s .released) (s .units)
-  work-ready e = record { counts = counts; few = few-tasks (S .sound .plan); limits = e; sized = S .figuresSized .units; waiting = waiting S }
+  pub work-ready : (most : KernelPriority) → most .0 ≡ bestKept (s .kept) (p .tasks) → length (p .limit) ≡ maxLocks
+      → WorkReady (s .head) (p .tasks) most (p .base) (p .limit) (s .released) (s .units)
+  work-ready most b e = record {
+    counts = counts;
+    few = few-tasks (S .sound .plan);
+    limits = e;
+    sized = S .figuresSized .units;
+    waiting = λ x o l. rw b (waiting S x o l);
+  }
 
   -- the open sections have room for a units more, where none of them would pass its limit
   pub work-laden : (a : ℕ) → pastRow (p .limit) (s .units) a (at (s .takes) r) (at (s .depth) r) ≡ false

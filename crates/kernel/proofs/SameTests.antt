@@ -21,6 +21,7 @@ use Rattle.rules.specs.Schedulers.Figures.{Figures, figuresOf, holds}
 use Rattle.rules.specs.Schedulers.EventRefusals.{elsewhere, notNewest, pastLimit, testsOf, acquireOrder, unlockOrder, workOrder, finishOrder}
 use Rattle.rules.specs.Soundness.Sound.{SoundFigures, SoundAndSized}
 use Rattle.rules.specs.declared.plan.Plan.{Plan}
+use Rattle.rules.specs.declared.protocol.Protocol.{Protocol}
 use Rattle.rules.specs.declared.state.State.{State}
 use Rattle.rules.specs.declared.event.Event.{Event}
 use Rattle.rules.proofs.Numbers.Choice.{by-test, untrue, and-true, true-and}
@@ -65,7 +66,7 @@ over-mine : (idle unknown undeclared mine o o′ full : Bool) → mine ≡ true
 unfolding acquireOrder firstTrue if_then_else_
 over-mine idle unknown undeclared mine o o′ full e = rw e
 
-module _ (p : Plan) (s : State) (S : SoundAndSized p s) where
+module _ {pr : Protocol} (p : Plan) (s : State) (S : SoundAndSized pr p s) where
   abbrev f : Figures
   f = figuresOf s
 

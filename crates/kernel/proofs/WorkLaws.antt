@@ -16,12 +16,12 @@ use Rattle.rules.specs.Numbers.Place.{at, renewed}
 use Rattle.rules.specs.Numbers.Row.{newest, under, has}
 use Rattle.rules.specs.Schedulers.Figures.{Figures, holds}
 use Rattle.rules.specs.Schedulers.FiguresAfter.{charged}
+use Rattle.rules.specs.declared.priority.KernelPriority.{KernelPriority}
 use native.Mathlib.Decide.{ℕ-discrete}
 use Rattle.rules.proofs.Numbers.Choice.{if-true, if-false, untrue, not-so, at-or, lt-or-le}
 use Rattle.rules.proofs.Numbers.Place.{RenewedSoFar, renewed-next, renewed-rest, renewed-at, renewed-same, length-renewed}
 use Rattle.rules.proofs.Numbers.Row.{has-none, has-suc, has-newest, has-under, distinct-under}
 use Rattle.kernel.proofs.SwitchLaws.{set-past}
-use Rattle.rules.specs.declared.state.Head.{Head}
 use Rattle.kernel.specs.Ready.{Waiting}
 use Rattle.kernel.specs.Work.{waitedBy, waited, chargedRow, Laden}
 
@@ -49,13 +49,13 @@ module _ (base released delay : List ℕ) (b a : ℕ) where
       (g ∙ ap (λ d. waitedBy (at released t) (at base t) b d a) (ap (λ zs. at zs t) (e .1)
       ∙ renewed-rest delay (waited base released delay b a) t t 0 (omega arith)))
 
--- nobody waits more where the next word is not above b
-pub waits-nobody : (h : Head) (n b k a : ℕ) (base released delay : List ℕ) (m : Bool) → Waiting h b base released → k ≡ b → m ≡ ltb k (h .next .0) → m ≡ false
-    → delay ≡ renewed delay (waited base released delay b a) n
-waits-nobody h n b k a base released delay m W e said z = sym (renewed-same delay (waited base released delay b a) n (λ x l. sym (stays x)))
+-- nobody waits more where nothing is kept above b
+pub waits-nobody : (n b k a : ℕ) (most : KernelPriority) (base released delay : List ℕ) (m : Bool) → Waiting most b base released → k ≡ b
+    → m ≡ ltb k (most .0) → m ≡ false → delay ≡ renewed delay (waited base released delay b a) n
+waits-nobody n b k a most base released delay m W e said z = sym (renewed-same delay (waited base released delay b a) n (λ x l. sym (stays x)))
   where
-    low : h .next .0 ≤ b
-    low = omega (arith, ltb-false k (h .next .0) (sym said ∙ z))
+    low : most .0 ≤ b
+    low = omega (arith, ltb-false k (most .0) (sym said ∙ z))
 
     stays : (x : ℕ) → at delay x ≡ waited base released delay b a x
     stays x = ⊎-elim

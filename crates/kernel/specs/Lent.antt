@@ -5,11 +5,14 @@ use Prim.Native.Nat.{ℕ, _+_}
 use Rattle.rules.specs.Numbers.Capacity.{nobody}
 use Rattle.rules.specs.Numbers.Choice.{if_then_else_}
 use Rattle.rules.specs.Schedulers.Whole.{stateWith}
+use Rattle.rules.specs.Schedulers.Protocol.{secondWord}
 use Rattle.rules.specs.Schedulers.Lazy.{Words, wordsOf, lazyCall}
 use Rattle.rules.specs.Replays.Step.{afterOf, answered}
 use Rattle.rules.specs.declared.plan.Plan.{Plan}
+use Rattle.rules.specs.declared.protocol.Protocol.{Protocol}
 use Rattle.rules.specs.declared.state.Head.{Head}
 use Rattle.rules.specs.declared.state.State.{State}
+use Rattle.rules.specs.declared.priority.UserPriority.{UserPriority}
 use Rattle.rules.specs.declared.event.Event.{Event}
 use Rattle.rules.specs.declared.refusal.Refusal.{Refusal}
 use Rattle.rules.specs.declared.answer.Tested.{Tested}
@@ -46,17 +49,21 @@ acceptedWith h t call eager =
     }
 
 -- what an event makes of a state by what its tests say, and where it passes them
-abbrev pub answeredAs : Tested → Plan → State → Event → Stepped
-answeredAs t p s e = answered t s (afterOf p s e) (lazyCall (wordsOf s) e)
+abbrev pub answeredAs : Tested → Protocol → Plan → State → Event → Stepped
+answeredAs t pr p s e = answered t s (afterOf pr p s e) (lazyCall (wordsOf s) e)
 
-abbrev pub acceptedAs : Plan → State → Event → Stepped
-acceptedAs p s e = record { answer = Answer.Accepted (lazyCall (wordsOf s) e); state = afterOf p s e }
+abbrev pub acceptedAs : Protocol → Plan → State → Event → Stepped
+acceptedAs pr p s e = record { answer = Answer.Accepted (lazyCall (wordsOf s) e); state = afterOf pr p s e }
 
 -- ---- the words
 
 -- who runs and the two words, of a head
 abbrev pub turnOf : Head → Turn
 turnOf h = record { running = h .running; user = h .user; next = h .next }
+
+-- what an entry to the kernel leaves where q runs with this word, and `best` is the greatest kept priority
+abbrev pub enteredTurn : Protocol → ℕ → UserPriority → ℕ → Turn
+enteredTurn pr q user best = record { running = q; user = user; next = record { 0 = secondWord pr (user .0) best } }
 
 abbrev pub idleTurn : Turn
 idleTurn = record { running = nobody; user = record { 0 = 0 }; next = record { 0 = 0 } }

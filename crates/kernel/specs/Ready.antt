@@ -5,7 +5,8 @@ use mathlib.Core.List.{List}
 use Prim.Native.Nat.{ℕ, _≤_, _<_, _^_}
 use lib.ListN.{length}
 use Rattle.rules.specs.Numbers.Capacity.{maxTasks, maxLocks, maxAccepted}
-use Rattle.rules.specs.Numbers.Place.{at, greatest}
+use Rattle.rules.specs.Numbers.Place.{at}
+use Rattle.rules.specs.declared.priority.KernelPriority.{KernelPriority}
 use Rattle.rules.specs.declared.state.Head.{Head}
 
 -- one event more is no more than 1,000,000, and so is each count of calls with one call more
@@ -14,7 +15,7 @@ pub record Counts (h : Head) : Type 0 where
   pub lazy : h .lazy ≤ h .accepted
   pub eager : h .eager ≤ h .accepted
 
--- a newcomer t and another task that runs, or no user word: nothing is kept for either, and the next word is the greatest kept priority
+-- a newcomer t and another task that runs, or no user word: nothing is kept for either
 pub record Arrives (h : Head) (n : ℕ) (kept : List ℕ) (t : ℕ) : Type 0 where
   pub few : n ≤ maxTasks
   pub sized : length kept ≡ maxTasks
@@ -23,7 +24,6 @@ pub record Arrives (h : Head) (n : ℕ) (kept : List ℕ) (t : ℕ) : Type 0 whe
   pub other : t ≢ h .running
   pub left : at kept (h .running) ≡ 0
   pub idle : n ≤ h .running → h .user .0 ≡ 0
-  pub next : h .next .0 ≡ greatest (at kept) n
 
 -- task t is such a newcomer where it is one of the plan's and not released
 pub record ReleaseReady (h : Head) (n : ℕ) (released kept : List ℕ) (t : ℕ) : Type 0 where
@@ -44,16 +44,16 @@ pub record UnlockReady (h : Head) (n m : ℕ) (kept : List ℕ) : Type 0 where
   pub locks : m ≤ maxLocks
   pub sized : length kept ≡ maxTasks
 
--- a released task of greater base than the running one's is not above the next word
-abbrev pub Waiting : Head → ℕ → List ℕ → List ℕ → Type 0
-Waiting h b base released = (x : ℕ) → 0 < at released x → b < at base x → at base x ≤ h .next .0
+-- a released task of greater base than b is not above `most`, the greatest kept priority
+abbrev pub Waiting : KernelPriority → ℕ → (base released : List ℕ) → Type 0
+Waiting most b base released = (x : ℕ) → 0 < at released x → b < at base x → at base x ≤ most .0
 
-pub record WorkReady (h : Head) (n : ℕ) (base limit released units : List ℕ) : Type 0 where
+pub record WorkReady (h : Head) (n : ℕ) (most : KernelPriority) (base limit released units : List ℕ) : Type 0 where
   pub counts : Counts h
   pub few : n ≤ maxTasks
   pub limits : length limit ≡ maxLocks
   pub sized : length units ≡ maxLocks
-  pub waiting : Waiting h (at base (h .running)) base released
+  pub waiting : Waiting most (at base (h .running)) base released
 
 -- nothing is kept for the running task
 pub record FinishReady (h : Head) (n : ℕ) (kept : List ℕ) : Type 0 where

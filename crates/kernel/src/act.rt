@@ -4,15 +4,17 @@ use crate::acquire::acquire;
 use crate::acted::Acted;
 use crate::counts::accepted;
 use crate::counts::refused;
-use crate::counts::turn_of;
 use crate::finish::finish;
+use crate::lazy::after_tick;
 use crate::release::release;
+use crate::switch::best;
 use crate::unlock::unlock;
 use crate::work::work;
 use rules::capacity::MAX_ACCEPTED;
 use rules::capacity::MAX_LOCKS;
 use rules::capacity::MAX_TASKS;
 use rules::event::Event;
+use rules::protocol::Protocol;
 use rules::refusal::Refusal;
 use rules::state::Head;
 use tournament::tree::PLACES;
@@ -27,6 +29,7 @@ ghost use Rattle.kernel.specs.Lent.{steppedAs};
 
 // 11, then the tests of the event, which is refused or accepted.
 pub fn act(
+    protocol: Protocol,
     h: Head,
     n: usize,
     m: usize,
@@ -45,12 +48,12 @@ pub fn act(
     tree: &mut [u64; PLACES],
     e: Event,
 ) -> Acted
-    requires { ⌜ SoundAndSized (planWith n m (now base) (now ceiling) (now limit) (now uses))
+    requires { ⌜ SoundAndSized protocol (planWith n m (now base) (now ceiling) (now limit) (now uses))
         (stateWith h (now released) (now kept) (now delay) (now depth) (now takes) (now saved) (now units) (now owner)) ⌝ }
     requires { ⌜ (length (now limit) ≡ maxLocks) × (now tree ≡ tournamentOf n (now released) (now kept)) ⌝ }
     ensures { λ r. ⌜ steppedAs r (now (released .exit)) (now (kept .exit)) (now (delay .exit)) (now (depth .exit)) (now (takes .exit)) (now (saved .exit))
         (now (units .exit)) (now (owner .exit))
-        ≡ actOf (planWith n m (now (base .entry)) (now (ceiling .entry)) (now (limit .entry)) (now (uses .entry)))
+        ≡ actOf protocol (planWith n m (now (base .entry)) (now (ceiling .entry)) (now (limit .entry)) (now (uses .entry)))
         (stateWith h (now (released .entry)) (now (kept .entry)) (now (delay .entry)) (now (depth .entry)) (now (takes .entry)) (now (saved .entry))
         (now (units .entry)) (now (owner .entry))) e ⌝ }
     ensures { λ r. ⌜ now (tree .exit) ≡ tournamentOf n (now (released .exit)) (now (kept .exit)) ⌝ }
@@ -59,9 +62,10 @@ pub fn act(
         return refused(h, Refusal::Exhausted);
     }
     match e {
-        Event::Release(t) => release(h, n, base, released, kept, tree, delay, t),
+        Event::Release(t) => release(protocol, h, n, base, released, kept, tree, delay, t),
         Event::Acquire(l) => acquire(h, m, ceiling, uses, depth, takes, saved, owner, l),
         Event::Unlock(l) => unlock(
+            protocol,
             h,
             n,
             m,
@@ -75,8 +79,25 @@ pub fn act(
             owner,
             l,
         ),
-        Event::Work(a) => work(h, n, base, limit, released, delay, depth, takes, units, a),
-        Event::Finish => finish(h, n, released, kept, tree, depth),
-        Event::Tick => accepted(h, turn_of(h), false, 0),
+        Event::Work(a) => work(
+            h,
+            n,
+            best(n, released, kept, tree),
+            base,
+            limit,
+            released,
+            delay,
+            depth,
+            takes,
+            units,
+            a,
+        ),
+        Event::Finish => finish(protocol, h, n, released, kept, tree, depth),
+        Event::Tick => accepted(
+            h,
+            after_tick(protocol, h, best(n, released, kept, tree)),
+            false,
+            0,
+        ),
     }
 }

@@ -6,6 +6,7 @@ use crate::lazy::after_finish;
 use crate::refusals::finish_refusal;
 use rules::answer::Tested;
 use rules::capacity::MAX_TASKS;
+use rules::protocol::Protocol;
 use rules::state::Head;
 use tournament::tree::PLACES;
 ghost use mathlib.Core.Path.{_≡_};
@@ -17,6 +18,7 @@ ghost use Rattle.kernel.specs.Ready.{FinishReady};
 
 // The running task is released no more, and leaves.
 fn accept(
+    protocol: Protocol,
     h: Head,
     n: usize,
     released: &mut [u32; MAX_TASKS],
@@ -24,19 +26,20 @@ fn accept(
     tree: &mut [u64; PLACES],
 ) -> Acted
     requires { ⌜ FinishReady h n (now kept) × (h .running < maxTasks) × (now tree ≡ tournamentOf n (now released) (now kept)) ⌝ }
-    ensures { λ r. ⌜ FinishDone h n
+    ensures { λ r. ⌜ FinishDone protocol h n
         (now (released .entry)) (now (kept .entry))
         r (now (released .exit)) (now (kept .exit)) ⌝ }
     ensures { λ r. ⌜ now (tree .exit) ≡ tournamentOf n (now (released .exit)) (now (kept .exit)) ⌝ }
 {
     let x = h.running as usize;
     released[x] = 0;
-    let after = after_finish(h, n, released, kept, tree);
+    let after = after_finish(protocol, h, n, released, kept, tree);
     accepted(h, after, false, 0)
 }
 
 // 12, 22, or it is accepted.
 pub fn finish(
+    protocol: Protocol,
     h: Head,
     n: usize,
     released: &mut [u32; MAX_TASKS],
@@ -45,7 +48,7 @@ pub fn finish(
     depth: &[u8; MAX_TASKS],
 ) -> Acted
     requires { ⌜ FinishReady h n (now kept) × (now tree ≡ tournamentOf n (now released) (now kept)) ⌝ }
-    ensures { λ r. ⌜ FinishAnswered h n
+    ensures { λ r. ⌜ FinishAnswered protocol h n
         (now (released .entry)) (now (kept .entry)) (now (depth .entry))
         r (now (released .exit)) (now (kept .exit)) ⌝ }
     ensures { λ r. ⌜ now (tree .exit) ≡ tournamentOf n (now (released .exit)) (now (kept .exit)) ⌝ }
@@ -53,6 +56,6 @@ pub fn finish(
     let tested = finish_refusal(h.running as usize, depth);
     match tested {
         Tested::Refused(why) => refused(h, why),
-        Tested::Passed => accept(h, n, released, kept, tree),
+        Tested::Passed => accept(protocol, h, n, released, kept, tree),
     }
 }

@@ -1,7 +1,8 @@
 // RULES 9.4 to 9.8: the words of the lazy scheduler after each event that moves them: who runs, the
-// user word, the next word, kept priorities and saved words. The figures are moved elsewhere: another
-// protocol replaces what stands here, and nothing else.
+// user word, the second word, kept priorities and saved words. The figures are moved elsewhere.
+use crate::protocol::entered;
 use crate::switch::Turn;
+use crate::switch::best;
 use crate::switch::keep;
 use crate::switch::leave;
 use crate::switch::switch;
@@ -19,6 +20,7 @@ use rules::capacity::MAX_LOCKS;
 use rules::capacity::MAX_TASKS;
 use rules::priority::KernelPriority;
 use rules::priority::UserPriority;
+use rules::protocol::Protocol;
 use rules::state::Head;
 use tournament::tree::PLACES;
 ghost use mathlib.Core.Path.{_≡_};
@@ -26,17 +28,63 @@ ghost use mathlib.Core.List.{List};
 ghost use Prim.Native.Nat.{ℕ, _≤_, _<_, _^_};
 ghost use lib.ListN.{length, set};
 ghost use Rattle.rules.specs.Numbers.Capacity.{maxLocks, maxTasks};
-ghost use Rattle.rules.specs.Schedulers.Lazy.{Words, afterRelease, switched, afterAcquire};
+ghost use Rattle.rules.specs.Schedulers.Lazy.{Words, bestKept, switched, stays, afterRelease, afterAcquire};
 ghost use Rattle.rules.specs.Numbers.Place.{at};
 ghost use Rattle.tournament.specs.Keys.{tournamentOf};
-ghost use Rattle.kernel.specs.Lent.{turned, turnOf, wordsOn};
+ghost use Rattle.kernel.specs.Lent.{enteredTurn, turned, turnOf, wordsOn};
 ghost use Rattle.kernel.specs.Parts.{UnlockWords};
 ghost use Rattle.kernel.specs.Ready.{Arrives};
 
+// A newcomer t above the user word and above all that is kept, which is `most` at the greatest, is the
+// one that runs, so it is not kept first (RULES 8.13).
+fn newcomer_runs(
+    protocol: Protocol,
+    h: Head,
+    n: usize,
+    released: &[u32; MAX_TASKS],
+    kept: &mut [u8; MAX_TASKS],
+    tree: &mut [u64; PLACES],
+    t: u8,
+    base: KernelPriority,
+    most: KernelPriority,
+) -> Turn
+    requires { ⌜ Arrives h n (now kept) t × (now tree ≡ tournamentOf n (now released) (now kept)) ⌝ }
+    requires { ⌜ (h .user .0 < base .0) × (most .0 < base .0) × (most .0 ≡ bestKept (now kept) n) ⌝ }
+    ensures { λ r. ⌜ ((w : Words) → turned r (now (kept .exit)) w
+        ≡ switched protocol n (now (released .entry)) (set (set (now (kept .entry)) t (base .0)) (h .running) (h .user .0)) w) ⌝ }
+    ensures { λ r. ⌜ now (tree .exit) ≡ tournamentOf n (now (released .entry)) (now (kept .exit)) ⌝ }
+{
+    let leaving = recorded(h.user);
+    keep(n, released, kept, tree, h.running, leaving);
+    entered(protocol, t, shown(base), higher(most, leaving))
+}
+
+// A newcomer that is not above the user word is kept, and waits.
+fn newcomer_waits(
+    protocol: Protocol,
+    h: Head,
+    n: usize,
+    released: &[u32; MAX_TASKS],
+    kept: &mut [u8; MAX_TASKS],
+    tree: &mut [u64; PLACES],
+    t: u8,
+    base: KernelPriority,
+    most: KernelPriority,
+) -> Turn
+    requires { ⌜ Arrives h n (now kept) t × (now tree ≡ tournamentOf n (now released) (now kept)) × (most .0 ≡ bestKept (now kept) n) ⌝ }
+    ensures { λ r. ⌜ ((w : Words) → turned r (now (kept .exit)) w
+        ≡ stays protocol n (set (now (kept .entry)) t (base .0)) (turned (turnOf h) (now (kept .entry)) w)) ⌝ }
+    ensures { λ r. ⌜ now (tree .exit) ≡ tournamentOf n (now (released .entry)) (now (kept .exit)) ⌝ }
+{
+    let user = h.user;
+    keep(n, released, kept, tree, t, base);
+    entered(protocol, h.running, user, higher(most, base))
+}
+
 // Release: the kernel keeps the newcomer t's base. It switches where the user word is strictly below
-// that base, and only there. A newcomer above the next word too is the one that runs, so it is not kept
-// first (RULES 8.13).
+// that base, and only there.
 pub fn after_release(
+    protocol: Protocol,
     h: Head,
     n: usize,
     released: &[u32; MAX_TASKS],
@@ -47,30 +95,19 @@ pub fn after_release(
 ) -> Turn
     requires { ⌜ Arrives h n (now kept) t × (now tree ≡ tournamentOf n (now released) (now kept)) ⌝ }
     ensures { λ r. ⌜ ((w : Words) → turned r (now (kept .exit)) w
-        ≡ afterRelease n (now (released .entry)) (set (now (kept .entry)) t (base .0)) (base .0) (turned (turnOf h) (now (kept .entry)) w)) ⌝ }
+        ≡ afterRelease protocol n (now (released .entry)) (set (now (kept .entry)) t (base .0)) (base .0) (turned (turnOf h) (now (kept .entry)) w)) ⌝ }
     ensures { λ r. ⌜ now (tree .exit) ≡ tournamentOf n (now (released .entry)) (now (kept .exit)) ⌝ }
 {
     let user = h.user;
-    let next = h.next;
+    let most = best(n, released, kept, tree);
     if above(base, user) {
-        let leaving = recorded(user);
-        if exceeds(base, next) {
-            keep(n, released, kept, tree, h.running, leaving);
-            return Turn {
-                running: t,
-                user: shown(base),
-                next: higher(next, leaving),
-            };
+        if exceeds(base, most) {
+            return newcomer_runs(protocol, h, n, released, kept, tree, t, base, most);
         }
         keep(n, released, kept, tree, t, base);
-        return leave(n, released, kept, tree, h.running, user);
+        return leave(protocol, n, released, kept, tree, h.running, user);
     }
-    keep(n, released, kept, tree, t, base);
-    Turn {
-        running: h.running,
-        user: user,
-        next: higher(next, base),
-    }
+    newcomer_waits(protocol, h, n, released, kept, tree, t, base, most)
 }
 
 // Acquire: the user word is saved, and raised to the ceiling of lock l.
@@ -107,9 +144,10 @@ pub struct Unlocked {
     pub back: UserPriority,
 }
 
-// Unlock: the saved word is back. Where the next word is strictly above it, the kernel is called once
-// and switches.
+// Unlock: the saved word is back. Where the second word is strictly above it, the kernel is called
+// once and switches.
 pub fn after_unlock(
+    protocol: Protocol,
     h: Head,
     n: usize,
     released: &[u32; MAX_TASKS],
@@ -121,7 +159,7 @@ pub fn after_unlock(
 ) -> Unlocked
     requires { ⌜ (h .running < maxTasks) × (l < maxLocks) × (n ≤ maxTasks) × (length (now kept) ≡ maxTasks) ⌝ }
     requires { ⌜ now tree ≡ tournamentOf n (now released) (now kept) ⌝ }
-    ensures { λ r. ⌜ UnlockWords h n l (now (released .entry)) (now (kept .entry)) (now (saved .entry)) (now (owner .entry))
+    ensures { λ r. ⌜ UnlockWords protocol h n l (now (released .entry)) (now (kept .entry)) (now (saved .entry)) (now (owner .entry))
         r (now (kept .exit)) (now (saved .exit)) (now (owner .exit)) ⌝ }
     ensures { λ r. ⌜ now (tree .exit) ≡ tournamentOf n (now (released .entry)) (now (kept .exit)) ⌝ }
 {
@@ -133,7 +171,7 @@ pub fn after_unlock(
     owner[y] = 0;
     let next = h.next;
     if calls_for(back, next) {
-        let after = leave(n, released, kept, tree, h.running, back);
+        let after = leave(protocol, n, released, kept, tree, h.running, back);
         return Unlocked {
             turn: after,
             call: true,
@@ -154,6 +192,7 @@ pub fn after_unlock(
 
 // Finish: the kernel keeps nothing for the task that is done, and switches.
 pub fn after_finish(
+    protocol: Protocol,
     h: Head,
     n: usize,
     released: &[u32; MAX_TASKS],
@@ -162,8 +201,16 @@ pub fn after_finish(
 ) -> Turn
     requires { ⌜ (n ≤ maxTasks) × (length (now kept) ≡ maxTasks) × (at (now kept) (h .running) ≡ 0) ⌝ }
     requires { ⌜ now tree ≡ tournamentOf n (now released) (now kept) ⌝ }
-    ensures { λ r. ⌜ ((w : Words) → turned r (now (kept .exit)) w ≡ switched n (now (released .entry)) (set (now (kept .entry)) (h .running) 0) w) ⌝ }
+    ensures { λ r. ⌜ ((w : Words) → turned r (now (kept .exit)) w ≡ switched protocol n (now (released .entry)) (set (now (kept .entry)) (h .running) 0) w) ⌝ }
     ensures { λ r. ⌜ now (tree .exit) ≡ tournamentOf n (now (released .entry)) (now (kept .exit)) ⌝ }
 {
-    switch(n, released, kept, tree)
+    switch(protocol, n, released, kept, tree)
+}
+
+// Tick: the kernel is entered, and whoever runs goes on.
+pub fn after_tick(protocol: Protocol, h: Head, most: KernelPriority) -> Turn
+    ensures { λ r. ⌜ r ≡ enteredTurn protocol (h .running) (h .user) (most .0) ⌝ }
+{
+    let user = h.user;
+    entered(protocol, h.running, user, most)
 }

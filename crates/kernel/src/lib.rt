@@ -6,6 +6,7 @@ pub mod acted;
 mod counts;
 mod finish;
 mod lazy;
+mod protocol;
 mod refusals;
 mod release;
 mod switch;

@@ -7,6 +7,7 @@ use crate::refusals::release_refusal;
 use figures::priority::kernel_of;
 use rules::answer::Tested;
 use rules::capacity::MAX_TASKS;
+use rules::protocol::Protocol;
 use rules::state::Head;
 use tournament::tree::PLACES;
 ghost use mathlib.Core.Path.{_≡_};
@@ -16,6 +17,7 @@ ghost use Rattle.kernel.specs.Ready.{Arrives, Counts, ReleaseReady};
 
 // The newcomer t has a release number and no delay, and arrives.
 fn accept(
+    protocol: Protocol,
     h: Head,
     n: usize,
     base: &[u8; MAX_TASKS],
@@ -26,7 +28,7 @@ fn accept(
     t: u8,
 ) -> Acted
     requires { ⌜ Counts h × Arrives h n (now kept) t × (now tree ≡ tournamentOf n (now released) (now kept)) ⌝ }
-    ensures { λ r. ⌜ ReleaseDone h n t
+    ensures { λ r. ⌜ ReleaseDone protocol h n t
         (now (base .entry)) (now (released .entry)) (now (kept .entry)) (now (delay .entry))
         r (now (released .exit)) (now (kept .exit)) (now (delay .exit)) ⌝ }
     ensures { λ r. ⌜ now (tree .exit) ≡ tournamentOf n (now (released .exit)) (now (kept .exit)) ⌝ }
@@ -34,12 +36,13 @@ fn accept(
     let x = t as usize;
     released[x] = h.accepted + 1;
     delay[x] = 0;
-    let after = after_release(h, n, released, kept, tree, t, kernel_of(base[x]));
+    let after = after_release(protocol, h, n, released, kept, tree, t, kernel_of(base[x]));
     accepted(h, after, false, 0)
 }
 
 // 13, 14, or it is accepted.
 pub fn release(
+    protocol: Protocol,
     h: Head,
     n: usize,
     base: &[u8; MAX_TASKS],
@@ -50,7 +53,7 @@ pub fn release(
     t: u8,
 ) -> Acted
     requires { ⌜ ReleaseReady h n (now released) (now kept) t × (now tree ≡ tournamentOf n (now released) (now kept)) ⌝ }
-    ensures { λ r. ⌜ ReleaseAnswered h n t
+    ensures { λ r. ⌜ ReleaseAnswered protocol h n t
         (now (base .entry)) (now (released .entry)) (now (kept .entry)) (now (delay .entry))
         r (now (released .exit)) (now (kept .exit)) (now (delay .exit)) ⌝ }
     ensures { λ r. ⌜ now (tree .exit) ≡ tournamentOf n (now (released .exit)) (now (kept .exit)) ⌝ }
@@ -58,6 +61,6 @@ pub fn release(
     let tested = release_refusal(n, released, t);
     match tested {
         Tested::Refused(why) => refused(h, why),
-        Tested::Passed => accept(h, n, base, released, kept, tree, delay, t),
+        Tested::Passed => accept(protocol, h, n, base, released, kept, tree, delay, t),
     }
 }

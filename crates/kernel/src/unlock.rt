@@ -8,6 +8,7 @@ use figures::row::under_of;
 use rules::answer::Tested;
 use rules::capacity::MAX_LOCKS;
 use rules::capacity::MAX_TASKS;
+use rules::protocol::Protocol;
 use rules::state::Head;
 use tournament::tree::PLACES;
 ghost use mathlib.Core.Path.{_≡_};
@@ -21,6 +22,7 @@ ghost use Rattle.kernel.specs.Ready.{Counts, UnlockReady};
 
 // Lock l, the running task's newest, is closed, and the saved word is back.
 fn accept(
+    protocol: Protocol,
     h: Head,
     n: usize,
     released: &[u32; MAX_TASKS],
@@ -36,7 +38,7 @@ fn accept(
     requires { ⌜ Counts h × (h .running < maxTasks) × (l < maxLocks) ⌝ }
     requires { ⌜ (n ≤ maxTasks) × (0 < at (now depth) (h .running)) × (length (now kept) ≡ maxTasks) ⌝ }
     requires { ⌜ now tree ≡ tournamentOf n (now released) (now kept) ⌝ }
-    ensures { λ r. ⌜ UnlockDone h n l
+    ensures { λ r. ⌜ UnlockDone protocol h n l
         (now (released .entry)) (now (kept .entry)) (now (depth .entry)) (now (takes .entry)) (now (saved .entry)) (now (units .entry)) (now (owner .entry))
         r (now (kept .exit)) (now (depth .exit)) (now (takes .exit)) (now (saved .exit)) (now (units .exit)) (now (owner .exit)) ⌝ }
     ensures { λ r. ⌜ now (tree .exit) ≡ tournamentOf n (now (released .entry)) (now (kept .exit)) ⌝ }
@@ -48,13 +50,14 @@ fn accept(
     let row = takes[x];
     takes[x] = under_of(row);
     units[y] = 0;
-    let unlocked = after_unlock(h, n, released, kept, tree, saved, owner, l);
+    let unlocked = after_unlock(protocol, h, n, released, kept, tree, saved, owner, l);
     let after = unlocked.turn;
     accepted_with_word(h, after, unlocked.call, unlocked.back)
 }
 
 // 12, 13, 19, or it is accepted.
 pub fn unlock(
+    protocol: Protocol,
     h: Head,
     n: usize,
     m: usize,
@@ -69,7 +72,7 @@ pub fn unlock(
     l: u8,
 ) -> Acted
     requires { ⌜ UnlockReady h n m (now kept) × (now tree ≡ tournamentOf n (now released) (now kept)) ⌝ }
-    ensures { λ r. ⌜ UnlockAnswered h n m l
+    ensures { λ r. ⌜ UnlockAnswered protocol h n m l
         (now (released .entry)) (now (kept .entry)) (now (depth .entry)) (now (takes .entry)) (now (saved .entry)) (now (units .entry)) (now (owner .entry))
         r (now (kept .exit)) (now (depth .exit)) (now (takes .exit)) (now (saved .exit)) (now (units .exit)) (now (owner .exit)) ⌝ }
     ensures { λ r. ⌜ now (tree .exit) ≡ tournamentOf n (now (released .entry)) (now (kept .exit)) ⌝ }
@@ -78,6 +81,7 @@ pub fn unlock(
     match tested {
         Tested::Refused(why) => refused(h, why),
         Tested::Passed => accept(
+            protocol,
             h,
             n,
             released,

@@ -12,6 +12,7 @@ use rules::answer::Tested;
 use rules::capacity::MAX_DELAY;
 use rules::capacity::MAX_LOCKS;
 use rules::capacity::MAX_TASKS;
+use rules::priority::KernelPriority;
 use rules::state::Head;
 ghost use mathlib.Core.Path.{_≡_};
 ghost use Prim.Native.Nat.{_+_, _≤_, _<_, min};
@@ -66,22 +67,21 @@ fn delays(
     }
 }
 
-// The same, and without a walk where the next word is not above b: then nobody of greater base is
-// released (RULES 8.13).
+// The same, and without a walk where nothing is kept above b, since `most` is the greatest that is: then
+// nobody of greater base is released (RULES 8.13).
 fn waits(
-    h: Head,
     n: usize,
+    most: KernelPriority,
     base: &[u8; MAX_TASKS],
     released: &[u32; MAX_TASKS],
     delay: &mut [u16; MAX_TASKS],
     b: u8,
     a: u16,
 )
-    requires { ⌜ (n ≤ maxTasks) × Waiting h b (now base) (now released) ⌝ }
+    requires { ⌜ (n ≤ maxTasks) × Waiting most b (now base) (now released) ⌝ }
     ensures { λ _. ⌜ now (delay .exit) ≡ renewed (now (delay .entry)) (waited (now (base .entry)) (now (released .entry)) (now (delay .entry)) b a) n ⌝ }
 {
-    let next = h.next;
-    if exceeds(next, kernel_of(b)) {
+    if exceeds(most, kernel_of(b)) {
         delays(n, base, released, delay, b, a);
     }
 }
@@ -120,6 +120,7 @@ fn charge(units: &mut [u16; MAX_LOCKS], row: u64, k: u8, a: u16)
 fn accept(
     h: Head,
     n: usize,
+    most: KernelPriority,
     base: &[u8; MAX_TASKS],
     released: &[u32; MAX_TASKS],
     delay: &mut [u16; MAX_TASKS],
@@ -129,13 +130,13 @@ fn accept(
     a: u16,
 ) -> Acted
     requires { ⌜ Counts h × (h .running < maxTasks) × (n ≤ maxTasks) × (length (now units) ≡ maxLocks) ⌝ }
-    requires { ⌜ Waiting h (at (now base) (h .running)) (now base) (now released) ⌝ }
+    requires { ⌜ Waiting most (at (now base) (h .running)) (now base) (now released) ⌝ }
     ensures { λ r. ⌜ WorkDone h n a
         (now (base .entry)) (now (released .entry)) (now (delay .entry)) (now (depth .entry)) (now (takes .entry)) (now (units .entry))
         r (now (delay .exit)) (now (units .exit)) ⌝ }
 {
     let x = h.running as usize;
-    waits(h, n, base, released, delay, base[x], a);
+    waits(n, most, base, released, delay, base[x], a);
     charge(units, takes[x], depth[x], a);
     let turn = turn_of(h);
     accepted(h, turn, false, 0)
@@ -145,6 +146,7 @@ fn accept(
 pub fn work(
     h: Head,
     n: usize,
+    most: KernelPriority,
     base: &[u8; MAX_TASKS],
     limit: &[u16; MAX_LOCKS],
     released: &[u32; MAX_TASKS],
@@ -154,7 +156,7 @@ pub fn work(
     units: &mut [u16; MAX_LOCKS],
     a: u16,
 ) -> Acted
-    requires { ⌜ WorkReady h n (now base) (now limit) (now released) (now units) ⌝ }
+    requires { ⌜ WorkReady h n most (now base) (now limit) (now released) (now units) ⌝ }
     ensures { λ r. ⌜ WorkAnswered h n a
         (now (base .entry)) (now (limit .entry)) (now (released .entry)) (now (delay .entry)) (now (depth .entry)) (now (takes .entry)) (now (units .entry))
         r (now (delay .exit)) (now (units .exit)) ⌝ }
@@ -162,6 +164,6 @@ pub fn work(
     let tested = work_refusal(h.running as usize, limit, depth, takes, units, a);
     match tested {
         Tested::Refused(why) => refused(h, why),
-        Tested::Passed => accept(h, n, base, released, delay, depth, takes, units, a),
+        Tested::Passed => accept(h, n, most, base, released, delay, depth, takes, units, a),
     }
 }

@@ -112,3 +112,17 @@ pub record Promised (pr : Protocol) (b rows : List ℕ) : Type 0 where
       → RanUpTo pr (planIn b) (eventsOf b) rows (replayOf pr b rows) (replayOf pr b rows .state .head .accepted)
   -- and the bound of every task of its plan is reached
   pub reached : verdictNumber (checkOf b (length rows)) ≡ 0 → (t : ℕ) → t < planIn b .tasks → BookReaches pr b t
+
+-- RULES 14.6: what is promised of the replays of one book by both protocols, with the same row space
+pub record Compared (first second : Ran) : Type 0 where
+  -- the same is refused, and the states have the same figures and the same running task
+  pub number : verdictNumber (first .verdict) ≡ verdictNumber (second .verdict)
+  pub place : verdictPlace (first .verdict) ≡ verdictPlace (second .verdict)
+  pub figures : figuresOf (first .state) ≡ figuresOf (second .state)
+  pub running : first .state .head .running ≡ second .state .head .running
+  -- the calls of the first lie between those of the second and the eager ones
+  pub fewer : second .state .head .lazy ≤ first .state .head .lazy
+  pub fair : first .state .head .lazy ≤ first .state .head .eager
+
+abbrev pub BothReplayed : List ℕ → List ℕ → Type 0
+BothReplayed b rows = Compared (replayOf First b rows) (replayOf Second b rows)

@@ -5,7 +5,7 @@ use rules::priority::KernelPriority;
 use rules::priority::UserPriority;
 ghost use mathlib.Core.Path.{_≡_};
 ghost use Prim.Native.Nat.{max};
-ghost use lib.Dec.{eqb, ltb};
+ghost use lib.Dec.{eqb, leb, ltb};
 ghost use Rattle.rules.specs.Schedulers.Lazy.{callsFor};
 
 // A base or a kept priority as it stands in a table.
@@ -55,6 +55,13 @@ pub fn above(base: KernelPriority, user: UserPriority) -> bool
     user.0 < base.0
 }
 
+// Whether a record is not above the user word.
+pub fn at_most(k: KernelPriority, user: UserPriority) -> bool
+    ensures { λ r. ⌜ r ≡ leb (k .0) (user .0) ⌝ }
+{
+    k.0 <= user.0
+}
+
 // Whether one record is strictly above another.
 pub fn exceeds(a: KernelPriority, b: KernelPriority) -> bool
     ensures { λ r. ⌜ r ≡ ltb (b .0) (a .0) ⌝ }
@@ -62,7 +69,7 @@ pub fn exceeds(a: KernelPriority, b: KernelPriority) -> bool
     b.0 < a.0
 }
 
-// The rule for a call: the word put back is strictly below the next word.
+// The rule for a call: the word put back is strictly below the second word.
 pub fn calls_for(back: UserPriority, next: KernelPriority) -> bool
     ensures { λ r. ⌜ r ≡ callsFor (back .0) (next .0) ⌝ }
 {

@@ -1,5 +1,4 @@
 -- What passes the tests of an event, who is elected, and that an accepted event keeps figures and words sound.
-pub mod Protocol
 pub mod Rules
 pub mod Passed
 pub mod Elect

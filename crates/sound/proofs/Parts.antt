@@ -11,7 +11,9 @@ use Rattle.rules.specs.Numbers.Capacity.{maxTasks, maxOpen, maxDelay, maxAccept
 use Rattle.rules.specs.Numbers.Choice.{if_then_else_, allTrue}
 use Rattle.rules.specs.Numbers.Place.{at, greatest, zeros}
 use Rattle.rules.specs.Numbers.Row.{priority, saves}
-use Rattle.rules.specs.Soundness.SoundTest.{rowTest, ownTest, numberTest, runsTest}
+use Rattle.rules.specs.Soundness.SoundTest.{rowTest, ownTest, numberTest, runsTest, secondTest}
+use Rattle.rules.specs.declared.protocol.Protocol.{Protocol}
+use Rattle.rules.specs.declared.protocol.Protocol.the-variants.{Second, First}
 use Rattle.rules.specs.declared.state.Head.{Head}
 use Rattle.rules.proofs.Numbers.Choice.{if-true, if-false, if-yes, if-no, all-fails, all-next}
 use Rattle.rules.proofs.Numbers.Place.{none-past}
@@ -67,18 +69,29 @@ pub lock-parts : (n : ℕ) (limit depth takes units owner : List ℕ) (l o : ℕ
 unfolding lockBy
 lock-parts n limit depth takes units owner l o r named q e h = rw (← q, ← e) h
 
-module _ (h : Head) (n : ℕ) (base ceiling released kept depth takes : List ℕ) (t : Bool) (runs : t ≡ runsTest released n (h .running)) where
-  pub head-idle : not t ≡ true → false ≡ headBy h n base ceiling released kept depth takes
+module _ (pr : Protocol) (h : Head) (n : ℕ) (base ceiling released kept depth takes : List ℕ) (t : Bool) (runs : t ≡ runsTest released n (h .running)) where
+  pub head-idle : not t ≡ true → false ≡ headBy pr h n base ceiling released kept depth takes
   unfolding headBy
   head-idle q = rw (← runs) (all-fails t _ (not-true t q))
 
-  pub head-parts : (r : Bool) (user next : ℕ) → not t ≡ false
+  pub head-parts : (r : Bool) (user best : ℕ) → not t ≡ false
       → r ≡ allTrue
-      (leb (h .accepted) maxAccepted ∷ leb (h .eager) (h .accepted) ∷ leb (h .lazy) (h .accepted) ∷ eqb (h .user .0) user ∷ eqb (h .next .0) next ∷ [])
+      (leb (h .accepted) maxAccepted ∷ leb (h .eager) (h .accepted) ∷ leb (h .lazy) (h .accepted) ∷ eqb (h .user .0) user
+      ∷ secondTest pr (h .next .0) (h .user .0) best ∷ [])
       → user ≡ rankBy ceiling (at base (h .running)) (at released (h .running)) (at takes (h .running)) (at depth (h .running))
-      → next ≡ greatest (at kept) n → r ≡ headBy h n base ceiling released kept depth takes
+      → best ≡ greatest (at kept) n → r ≡ headBy pr h n base ceiling released kept depth takes
   unfolding headBy
-  head-parts r user next q e a b = rw (← runs, ← a, ← b) (all-next t r _ (not-false t q) e)
+  head-parts r user best q e a b = rw (← runs, ← a, ← b) (all-next t r _ (not-false t q) e)
+
+-- the second word's test by the protocol
+module _ (pr : Protocol) (second user best : ℕ) (r : Bool) where
+  pub next-test : pr ≡ Second → r ≡ eqb second best → r ≡ secondTest pr second user best
+  unfolding secondTest
+  next-test e h = h ∙ ap (λ pr. secondTest pr second user best) (sym e)
+
+  pub kernel-test : pr ≡ First → r ≡ leb second user → r ≡ secondTest pr second user best
+  unfolding secondTest
+  kernel-test e h = h ∙ ap (λ pr. secondTest pr second user best) (sym e)
 
 pub unused-parts : (n m : ℕ) (released kept delay depth takes saved units owner : List ℕ) (r a b c d e f g h : Bool)
     → r ≡ allTrue (a ∷ b ∷ c ∷ d ∷ e ∷ f ∷ g ∷ h ∷ [])

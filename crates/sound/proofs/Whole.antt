@@ -11,8 +11,9 @@ use Rattle.rules.specs.Numbers.Place.{at, every, greatest}
 use Rattle.rules.specs.Schedulers.Figures.{Figures, figuresOf, holds, priorityOf, rankOf}
 use Rattle.rules.specs.Schedulers.Lazy.{Words, wordsOf}
 use Rattle.rules.specs.Soundness.Sound.{keptOf, savedOf}
-use Rattle.rules.specs.Soundness.SoundTest.{obeys, taskTest, lockTest, headTest, spareTest, soundTest}
+use Rattle.rules.specs.Soundness.SoundTest.{obeys, taskTest, lockTest, secondTest, headTest, spareTest, soundTest}
 use Rattle.rules.specs.declared.plan.Plan.{Plan}
+use Rattle.rules.specs.declared.protocol.Protocol.{Protocol}
 use Rattle.rules.specs.declared.state.State.{State}
 use Rattle.rules.proofs.Books.Obeyed.{few-tasks, few-locks}
 use Rattle.rules.proofs.Soundness.SoundTest.{obeys-so}
@@ -34,7 +35,7 @@ obeyed-tasks p r e h = few-tasks (obeys-so p (sym e ∙ not-false r h))
 pub obeyed-locks : (p : Plan) (r : Bool) → r ≡ obeys p → not r ≡ false → p .locks ≤ maxLocks
 obeyed-locks p r e h = few-locks (obeys-so p (sym e ∙ not-false r h))
 
-module _ (p : Plan) (s : State) where
+module _ (pr : Protocol) (p : Plan) (s : State) where
   abbrev f : Figures
   f = figuresOf s
 
@@ -50,7 +51,7 @@ module _ (p : Plan) (s : State) where
   lockHere = lockBy (p .tasks) (p .limit) (s .depth) (s .takes) (s .units) (s .owner)
 
   abbrev headHere : Bool
-  headHere = headBy (s .head) (p .tasks) (p .base) (p .ceiling) (s .released) (s .kept) (s .depth) (s .takes)
+  headHere = headBy pr (s .head) (p .tasks) (p .base) (p .ceiling) (s .released) (s .kept) (s .depth) (s .takes)
 
   abbrev spareHere : Bool
   spareHere = spareBy (p .tasks) (p .locks) (s .released) (s .kept) (s .delay) (s .depth) (s .takes) (s .saved) (s .units) (s .owner)
@@ -91,19 +92,19 @@ module _ (p : Plan) (s : State) where
     next-same : greatest (at (s .kept)) (p .tasks) ≡ greatest (keptOf p f (s .head .running)) (p .tasks)
     next-same = greatest-ext (at (s .kept)) (keptOf p f (s .head .running)) (p .tasks) keeps
 
-    head-same : headHere ≡ headTest p f w
+    head-same : headHere ≡ headTest pr p f w
     unfolding headBy headTest rankBy rankOf priorityOf Each
-    head-same = same-test headHere (headTest p f w)
-        (λ e. let (r, (a, (b, (c, (u, (n, _)))))) = all-so _ e in so-all _ (a, (b, (c, (r, (u, (sym (ap (eqb (w .next)) next-same) ∙ n, tt)))))))
-        (λ e. let (a, (b, (c, (r, (u, (n, _)))))) = all-so _ e in so-all _ (r, (a, (b, (c, (u, (ap (eqb (w .next)) next-same ∙ n, tt)))))))
+    head-same = same-test headHere (headTest pr p f w)
+        (λ e. let (r, (a, (b, (c, (u, (n, _)))))) = all-so _ e in so-all _ (a, (b, (c, (r, (u, (sym (ap (secondTest pr (w .next) (w .user)) next-same) ∙ n, tt)))))))
+        (λ e. let (a, (b, (c, (r, (u, (n, _)))))) = all-so _ e in so-all _ (r, (a, (b, (c, (u, (ap (secondTest pr (w .next) (w .user)) next-same ∙ n, tt)))))))
 
   abbrev parts : Bool
-  parts = partsBy (s .head) (p .tasks) (p .locks) (p .base) (p .ceiling) (p .limit) (p .uses)
+  parts = partsBy pr (s .head) (p .tasks) (p .locks) (p .base) (p .ceiling) (p .limit) (p .uses)
       (s .released) (s .kept) (s .delay) (s .depth) (s .takes) (s .saved) (s .units) (s .owner)
 
-  sound-same : obeys p ≡ true → parts ≡ soundTest p s
+  sound-same : obeys p ≡ true → parts ≡ soundTest pr p s
   unfolding partsBy soundTest Each
-  sound-same o = same-test parts (soundTest p s)
+  sound-same o = same-test parts (soundTest pr p s)
       (λ e. let (t, (h, (k, (u, _)))) = all-so _ e in
       let r : every (taskTest p f w) (p .tasks) ≡ true = sym tasks-same ∙ t in
       so-all _ (o, (sym (head-same r) ∙ h, (r, (sym (locks-same r) ∙ k, (sym spare-same ∙ u, tt))))))
@@ -112,9 +113,9 @@ module _ (p : Plan) (s : State) where
 
   -- a plan that does not obey, and one that does
   module _ (o : Bool) (obeyed : o ≡ obeys p) where
-    pub sound-lawless : not o ≡ true → false ≡ soundTest p s
+    pub sound-lawless : not o ≡ true → false ≡ soundTest pr p s
     unfolding soundTest
     sound-lawless h = all-fails (obeys p) _ (sym obeyed ∙ not-true o h)
 
-    pub sound-parts : (r : Bool) → not o ≡ false → r ≡ parts → r ≡ soundTest p s
+    pub sound-parts : (r : Bool) → not o ≡ false → r ≡ parts → r ≡ soundTest pr p s
     sound-parts r h e = e ∙ sound-same (sym obeyed ∙ not-false o h)

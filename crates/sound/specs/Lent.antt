@@ -8,7 +8,8 @@ use Rattle.rules.specs.Numbers.Capacity.{maxOpen, maxDelay, maxAccepted}
 use Rattle.rules.specs.Numbers.Choice.{if_then_else_, allTrue}
 use Rattle.rules.specs.Numbers.Place.{at, every, greatest, zeros}
 use Rattle.rules.specs.Numbers.Row.{has, priority, saves}
-use Rattle.rules.specs.Soundness.SoundTest.{rowTest, ownTest, numberTest, runsTest}
+use Rattle.rules.specs.Soundness.SoundTest.{rowTest, ownTest, numberTest, runsTest, secondTest}
+use Rattle.rules.specs.declared.protocol.Protocol.{Protocol}
 use Rattle.rules.specs.declared.state.Head.{Head}
 
 -- ---- a task
@@ -48,17 +49,17 @@ lockBy n limit depth takes units owner l =
     ∷ (if eqb (at owner l) 0 then eqb (at units l) 0 else true)
     ∷ [])
 
--- ---- the head, where every task is sound: the next word is the greatest of what stands in the table of kept priorities
+-- ---- the head, where every task is sound: the greatest kept priority is that of what stands in the table
 
-unfoldable pub headBy : Head → ℕ → List ℕ → List ℕ → List ℕ → List ℕ → List ℕ → List ℕ → Bool
-headBy h n base ceiling released kept depth takes =
+unfoldable pub headBy : Protocol → Head → ℕ → List ℕ → List ℕ → List ℕ → List ℕ → List ℕ → List ℕ → Bool
+headBy pr h n base ceiling released kept depth takes =
     allTrue
     (runsTest released n (h .running)
     ∷ leb (h .accepted) maxAccepted
     ∷ leb (h .eager) (h .accepted)
     ∷ leb (h .lazy) (h .accepted)
     ∷ eqb (h .user .0) (rankBy ceiling (at base (h .running)) (at released (h .running)) (at takes (h .running)) (at depth (h .running)))
-    ∷ eqb (h .next .0) (greatest (at kept) n)
+    ∷ secondTest pr (h .next .0) (h .user .0) (greatest (at kept) n)
     ∷ [])
 
 -- ---- places past the last task and the last lock
@@ -78,11 +79,11 @@ spareBy n m released kept delay depth takes saved units owner =
 
 -- ---- together
 
-unfoldable pub partsBy : Head → ℕ → ℕ → List ℕ → List ℕ → List ℕ → List ℕ → List ℕ → List ℕ → List ℕ → List ℕ → List ℕ → List ℕ → List ℕ → List ℕ → Bool
-partsBy h n m base ceiling limit uses released kept delay depth takes saved units owner =
+unfoldable pub partsBy : Protocol → Head → ℕ → ℕ → List ℕ → List ℕ → List ℕ → List ℕ → List ℕ → List ℕ → List ℕ → List ℕ → List ℕ → List ℕ → List ℕ → List ℕ → Bool
+partsBy pr h n m base ceiling limit uses released kept delay depth takes saved units owner =
     allTrue
     (every (taskBy (h .accepted) (h .running) m base ceiling uses released kept delay depth takes saved owner) n
-    ∷ headBy h n base ceiling released kept depth takes
+    ∷ headBy pr h n base ceiling released kept depth takes
     ∷ every (lockBy n limit depth takes units owner) m
     ∷ spareBy n m released kept delay depth takes saved units owner
     ∷ [])

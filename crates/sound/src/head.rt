@@ -2,6 +2,7 @@
 use crate::all::all_five;
 use crate::rank::greatest_kept;
 use crate::rank::rank_of;
+use figures::priority::at_most;
 use figures::priority::same_record;
 use figures::priority::same_word;
 use rules::capacity::MAX_ACCEPTED;
@@ -10,6 +11,7 @@ use rules::capacity::MAX_TASKS;
 use rules::capacity::NOBODY;
 use rules::priority::KernelPriority;
 use rules::priority::UserPriority;
+use rules::protocol::Protocol;
 use rules::state::Head;
 ghost use mathlib.Core.Path.{_≡_};
 ghost use mathlib.Core.List.{[], _∷_};
@@ -19,7 +21,7 @@ ghost use lib.ListN.{length};
 ghost use Rattle.rules.specs.Numbers.Capacity.{maxAccepted, maxLocks, maxTasks};
 ghost use Rattle.rules.specs.Numbers.Choice.{allTrue};
 ghost use Rattle.rules.specs.Numbers.Place.{at, every};
-ghost use Rattle.rules.specs.Soundness.SoundTest.{runsTest};
+ghost use Rattle.rules.specs.Soundness.SoundTest.{runsTest, secondTest};
 ghost use Rattle.sound.specs.Lent.{headBy, rankBy};
 
 fn none_released(released: &[u32; MAX_TASKS], n: usize) -> bool
@@ -71,15 +73,30 @@ fn running_rank(
     rank_of(ceiling, base[x], released[x], takes[x], depth[x])
 }
 
+// The next word is the greatest kept priority; a kernel word is at most the user word.
+fn second_sound(
+    protocol: Protocol,
+    second: KernelPriority,
+    user: UserPriority,
+    best: KernelPriority,
+) -> bool
+    ensures { λ r. ⌜ r ≡ secondTest protocol (second .0) (user .0) (best .0) ⌝ }
+{
+    match protocol {
+        Protocol::Second => same_record(second, best),
+        Protocol::First => at_most(second, user),
+    }
+}
+
 // The counts are in range, and both words are what they must be.
-fn head_fits(h: Head, user: UserPriority, next: KernelPriority) -> bool
+fn head_fits(protocol: Protocol, h: Head, user: UserPriority, best: KernelPriority) -> bool
     ensures { λ r. ⌜
         r ≡ allTrue
         (leb (h .accepted) maxAccepted
         ∷ leb (h .eager) (h .accepted)
         ∷ leb (h .lazy) (h .accepted)
         ∷ eqb (h .user .0) (user .0)
-        ∷ eqb (h .next .0) (next .0)
+        ∷ secondTest protocol (h .next .0) (h .user .0) (best .0)
         ∷ [])
         ⌝ }
 {
@@ -90,12 +107,13 @@ fn head_fits(h: Head, user: UserPriority, next: KernelPriority) -> bool
         h.eager <= h.accepted,
         h.lazy <= h.accepted,
         same_word(word, user),
-        same_record(second, next),
+        second_sound(protocol, second, word, best),
     )
 }
 
 // Where every task is sound. Who may not run has no row that is asked for a rank: it may be too long.
 pub fn head_sound(
+    protocol: Protocol,
     h: Head,
     n: usize,
     base: &[u8; MAX_TASKS],
@@ -106,13 +124,13 @@ pub fn head_sound(
     takes: &[u64; MAX_TASKS],
 ) -> bool
     requires { ⌜ (n ≤ maxTasks) × (length (now ceiling) ≡ maxLocks) × (length (now released) ≡ maxTasks) ⌝ }
-    ensures { λ r. ⌜ r ≡ headBy h n
+    ensures { λ r. ⌜ r ≡ headBy protocol h n
         (now (base .entry)) (now (ceiling .entry)) (now (released .entry)) (now (kept .entry)) (now (depth .entry)) (now (takes .entry)) ⌝ }
 {
     if !runs_sound(released, n, h.running) {
         return false;
     }
     let user = running_rank(h.running, base, ceiling, released, depth, takes);
-    let next = greatest_kept(n, kept);
-    head_fits(h, user, next)
+    let best = greatest_kept(n, kept);
+    head_fits(protocol, h, user, best)
 }

@@ -7,6 +7,7 @@ use crate::task::tasks_sound;
 use crate::unused::unused_sound;
 use rules::capacity::MAX_LOCKS;
 use rules::capacity::MAX_TASKS;
+use rules::protocol::Protocol;
 use rules::state::Head;
 ghost use mathlib.Core.Path.{_≡_};
 ghost use Prim.Native.Nat.{_≤_};
@@ -15,6 +16,7 @@ ghost use Rattle.rules.specs.Numbers.Capacity.{maxLocks, maxTasks};
 ghost use Rattle.sound.specs.Lent.{partsBy};
 
 pub fn parts_sound(
+    protocol: Protocol,
     h: Head,
     n: usize,
     m: usize,
@@ -33,7 +35,7 @@ pub fn parts_sound(
 ) -> bool
     requires { ⌜ (n ≤ maxTasks) × (m ≤ maxLocks) ⌝ }
     requires { ⌜ (length (now ceiling) ≡ maxLocks) × (length (now released) ≡ maxTasks) × (length (now owner) ≡ maxLocks) ⌝ }
-    ensures { λ r. ⌜ r ≡ partsBy h n m
+    ensures { λ r. ⌜ r ≡ partsBy protocol h n m
         (now (base .entry)) (now (ceiling .entry)) (now (limit .entry)) (now (uses .entry)) (now (released .entry)) (now (kept .entry))
         (now (delay .entry)) (now (depth .entry)) (now (takes .entry)) (now (saved .entry)) (now (units .entry)) (now (owner .entry)) ⌝ }
 {
@@ -55,7 +57,9 @@ pub fn parts_sound(
     ) {
         return false;
     }
-    if !head_sound(h, n, base, ceiling, released, kept, depth, takes) {
+    if !head_sound(
+        protocol, h, n, base, ceiling, released, kept, depth, takes,
+    ) {
         return false;
     }
     if !locks_sound(n, m, limit, depth, takes, units, owner) {

@@ -13,6 +13,7 @@ use plan::obeys;
 use rules::capacity::MAX_LOCKS;
 use rules::capacity::MAX_TASKS;
 use rules::plan::Plan;
+use rules::protocol::Protocol;
 use rules::state::State;
 ghost use mathlib.Core.Path.{_≡_};
 ghost use lib.ListN.{length};
@@ -25,9 +26,9 @@ fn placed(ceiling: [u8; MAX_LOCKS], released: [u32; MAX_TASKS], owner: [u8; MAX_
     ensures { λ _. ⌜ (length ceiling ≡ maxLocks) × (length released ≡ maxTasks) × (length owner ≡ maxLocks) ⌝ }
 {}
 
-// Whether every condition of soundness holds of any plan and any state.
-pub fn sound(p: Plan, s: State) -> bool
-    ensures { λ r. ⌜ r ≡ soundTest p s ⌝ }
+// Whether every condition of soundness holds of any plan and any state, by either protocol.
+pub fn sound(protocol: Protocol, p: Plan, s: State) -> bool
+    ensures { λ r. ⌜ r ≡ soundTest protocol p s ⌝ }
 {
     if !obeys(p) {
         return false;
@@ -47,6 +48,7 @@ pub fn sound(p: Plan, s: State) -> bool
     let owner = s.owner;
     placed(ceiling, released, owner);
     lent::parts_sound(
+        protocol,
         head,
         p.tasks,
         p.locks,

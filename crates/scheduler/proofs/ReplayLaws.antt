@@ -14,6 +14,7 @@ use Rattle.rules.specs.Schedulers.State.{freshOf}
 use Rattle.rules.specs.Replays.Run.{runFrom}
 use Rattle.rules.specs.Replays.Replay.{replayAs, replayOf, ranAs}
 use Rattle.rules.specs.declared.plan.Plan.{Plan}
+use Rattle.rules.specs.declared.protocol.Protocol.{Protocol}
 use Rattle.rules.specs.declared.state.State.{State}
 use Rattle.rules.specs.declared.event.Event.the-variants.{Tick}
 use Rattle.rules.specs.declared.refusal.Refusal.{Refusal}
@@ -27,7 +28,7 @@ use Rattle.book.proofs.Accepted.{ends, records, rows-fit}
 use Rattle.book.proofs.EventWalk.{walks}
 use Rattle.scheduler.specs.Going.{untouchedAs, eventIn}
 
-module _ (b : List ℕ) (room : ℕ) where
+module _ (pr : Protocol) (b : List ℕ) (room : ℕ) where
   module _ (c : Checked) (reads : c ≡ checkedOf b room) where
     -- the verdict of the check is the definition's
     check-said : (v : Verdict) → c .verdict ≡ v → checkOf b room ≡ v
@@ -35,7 +36,7 @@ module _ (b : List ℕ) (room : ℕ) where
 
     -- a refused book is left as it is
     book-refused : (why : Refusal) (place : ℕ) (rows : List ℕ) (r : Replayed) → length rows ≡ room → c .verdict ≡ Verdict.Refused why place
-        → r ≡ untouchedAs why place (c .plan) → (ranAs r rows ≡ replayOf b rows) × (r .plan ≡ checkedOf b (length rows) .plan)
+        → r ≡ untouchedAs why place (c .plan) → (ranAs r rows ≡ replayOf pr b rows) × (r .plan ≡ checkedOf b (length rows) .plan)
     unfolding replayOf replayAs
     book-refused why place rows r z e h =
         rw (z, h) (rw (check-said (Verdict.Refused why place) e) refl, ap (λ (k : Checked). k .plan) reads)
@@ -58,8 +59,8 @@ module _ (b : List ℕ) (room : ℕ) where
       pub body-within : c .events ≤ length b
       body-within = rw events-is (omega (arith, ends b room said))
 
-      pub plan-sound : SoundAndSized (c .plan) freshOf
-      plan-sound = fresh-sound (rw plan-is (passed-obeys b room said))
+      pub plan-sound : SoundAndSized pr (c .plan) freshOf
+      plan-sound = fresh-sound pr (rw plan-is (passed-obeys b room said))
 
       pub plan-limits : length (c .plan .limit) ≡ maxLocks
       unfolding planOf
@@ -82,28 +83,28 @@ module _ (b : List ℕ) (room : ℕ) where
             ∙ getD-tabulate (recordEvent (eventBody b)) (countAt b 3) k Tick (omega arith)))
 
         book-runs : (rows out : List ℕ) (r : Replayed) → length rows ≡ room
-            → ranAs r out ≡ runFrom (c .plan) (from (eventIn body) 0 (length body / 4)) 0 freshOf rows → r .plan ≡ c .plan
-            → (ranAs r out ≡ replayOf b rows) × (r .plan ≡ checkedOf b (length rows) .plan)
+            → ranAs r out ≡ runFrom pr (c .plan) (from (eventIn body) 0 (length body / 4)) 0 freshOf rows → r .plan ≡ c .plan
+            → (ranAs r out ≡ replayOf pr b rows) × (r .plan ≡ checkedOf b (length rows) .plan)
         unfolding replayOf replayAs
         book-runs rows out r z e h = (
-          e ∙ rw (body-events, plan-is, z) (ap (λ v. replayAs v (planIn b) (eventsOf b) rows) (sym said)),
+          e ∙ rw (body-events, plan-is, z) (ap (λ v. replayAs pr v (planIn b) (eventsOf b) rows) (sym said)),
           h
               ∙ rw z (ap (λ (k : Checked). k .plan) reads),
         )
 
 -- the same with the rows' own room
-module _ (b rows : List ℕ) (c : Checked) (r : Replayed) (reads : c ≡ checkedOf b (length rows)) where
+module _ (pr : Protocol) (b rows : List ℕ) (c : Checked) (r : Replayed) (reads : c ≡ checkedOf b (length rows)) where
   module _ (why : Refusal) (place : ℕ) (e : c .verdict ≡ Verdict.Refused why place) (h : r ≡ untouchedAs why place (c .plan)) where
-    pub refused-ran : ranAs r rows ≡ replayOf b rows
-    refused-ran = book-refused b (length rows) c reads why place rows r refl e h .0
+    pub refused-ran : ranAs r rows ≡ replayOf pr b rows
+    refused-ran = book-refused pr b (length rows) c reads why place rows r refl e h .0
 
     pub refused-plan : r .plan ≡ checkedOf b (length rows) .plan
-    refused-plan = book-refused b (length rows) c reads why place rows r refl e h .1
+    refused-plan = book-refused pr b (length rows) c reads why place rows r refl e h .1
 
   module _ (e : c .verdict ≡ Verdict.Passed) (body out : List ℕ) (part : body ≡ take (length b - c .events) (drop (c .events) b)) where
-    pub passed-ran : ranAs r out ≡ runFrom (c .plan) (from (eventIn body) 0 (length body / 4)) 0 freshOf rows → r .plan ≡ c .plan
-        → ranAs r out ≡ replayOf b rows
-    passed-ran h q = book-runs b (length rows) c reads e body part rows out r refl h q .0
+    pub passed-ran : ranAs r out ≡ runFrom pr (c .plan) (from (eventIn body) 0 (length body / 4)) 0 freshOf rows → r .plan ≡ c .plan
+        → ranAs r out ≡ replayOf pr b rows
+    passed-ran h q = book-runs pr b (length rows) c reads e body part rows out r refl h q .0
 
   pub passed-plan : r .plan ≡ c .plan → r .plan ≡ checkedOf b (length rows) .plan
   passed-plan q = q ∙ ap (λ (k : Checked). k .plan) reads

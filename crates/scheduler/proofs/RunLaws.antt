@@ -15,6 +15,7 @@ use Rattle.rules.specs.Schedulers.State.{freshOf}
 use Rattle.rules.specs.Replays.Step.{actOf}
 use Rattle.rules.specs.Replays.Run.{Ran, onward, runFrom}
 use Rattle.rules.specs.declared.plan.Plan.{Plan}
+use Rattle.rules.specs.declared.protocol.Protocol.{Protocol}
 use Rattle.rules.specs.declared.state.State.{State}
 use Rattle.rules.specs.declared.event.Event.{Event}
 use Rattle.rules.specs.declared.refusal.Refusal.{Refusal}
@@ -42,41 +43,41 @@ on-refused v why place k n e = rw e
 abbrev zeros : List ℕ
 zeros = replicate places 0
 
-pub made-tree : (p : Plan) (s : State) (n : ℕ) (rows tree made : List ℕ) → RunReady p s n rows
+pub made-tree : (pr : Protocol) (p : Plan) (s : State) (n : ℕ) (rows tree made : List ℕ) → RunReady pr p s n rows
     → (p .tasks ≤ maxTasks → zeros ≡ zeros → made ≡ tree) → made ≡ tree
-made-tree p s n rows tree made R e = e (few-tasks (R .sound .sound .plan)) refl
+made-tree pr p s n rows tree made R e = e (few-tasks (R .sound .sound .plan)) refl
 
-module _ (p : Plan) (events : ℕ → Event) (n : ℕ) (first : State) (start : List ℕ) where
-  pub going-start : RunReady p first n start → n < 2 ^ 64 → Going p events n first start 0 (record { verdict = Verdict.Passed; state = first; rows = start })
+module _ (pr : Protocol) (p : Plan) (events : ℕ → Event) (n : ℕ) (first : State) (start : List ℕ) where
+  pub going-start : RunReady pr p first n start → n < 2 ^ 64 → Going pr p events n first start 0 (record { verdict = Verdict.Passed; state = first; rows = start })
   unfolding Going leftFrom
   going-start R few = record {
     asked = R;
     few = few;
     within = omega arith;
-    rest = let q : n - 0 ≡ n = omega arith in ap (λ c. runFrom p (from events 0 c) 0 first start) q;
+    rest = let q : n - 0 ≡ n = omega arith in ap (λ c. runFrom pr p (from events 0 c) 0 first start) q;
     sound = R .sound;
     same = refl;
   }
 
   -- one turn of what is left, where nothing was refused and an event is left
-  left-turn : (k : ℕ) (s : State) (rows : List ℕ) → SoundAndSized p s → k < n → (r : Stepped) → r ≡ actOf p s (events k)
-      → leftFrom p events n (suc k) (stoppedAt (r .answer) k) (r .state) (rowsAfter (r .answer) (r .state .head) k rows)
-      ≡ runFrom p (from events k (n - k)) k s rows
+  left-turn : (k : ℕ) (s : State) (rows : List ℕ) → SoundAndSized pr p s → k < n → (r : Stepped) → r ≡ actOf pr p s (events k)
+      → leftFrom pr p events n (suc k) (stoppedAt (r .answer) k) (r .state) (rowsAfter (r .answer) (r .state .head) k rows)
+      ≡ runFrom pr p (from events k (n - k)) k s rows
   unfolding runFrom from leftFrom stoppedAt rowsAfter onward
   left-turn k s rows S l r h =
       let q : n - k ≡ suc (n - suc k) = omega arith in
       by (r .answer) ∙ ap (λ (x : Stepped). onward (x .answer) (x .state) k rows rest) (h ∙ sym (step-act S (events k)))
-      ∙ ap (λ c. runFrom p (from events k c) k s rows) (sym q)
+      ∙ ap (λ c. runFrom pr p (from events k c) k s rows) (sym q)
     where
       rest : State → List ℕ → Ran
-      rest = runFrom p (from events (suc k) (n - suc k)) (suc k)
+      rest = runFrom pr p (from events (suc k) (n - suc k)) (suc k)
 
-      by : (answer : Answer) → leftFrom p events n (suc k) (stoppedAt answer k) (r .state) (rowsAfter answer (r .state .head) k rows)
+      by : (answer : Answer) → leftFrom pr p events n (suc k) (stoppedAt answer k) (r .state) (rowsAfter answer (r .state .head) k rows)
           ≡ onward answer (r .state) k rows rest
       by (Answer.Accepted call) = refl
       by (Answer.Refused why) = refl
 
-  module _ (k : ℕ) (v : Verdict) (s : State) (rows : List ℕ) (G : Going p events n first start k (record { verdict = v; state = s; rows = rows })) where
+  module _ (k : ℕ) (v : Verdict) (s : State) (rows : List ℕ) (G : Going pr p events n first start k (record { verdict = v; state = s; rows = rows })) where
     pub going-same : length rows ≡ length start
     unfolding Going
     going-same = G .same
@@ -91,7 +92,7 @@ module _ (p : Plan) (events : ℕ → Event) (n : ℕ) (first : State) (start : 
       more Verdict.Passed e = (refl, ltb-true k n e)
       more (Verdict.Refused why place) e = untrue (sym e)
 
-      pub going-ready : TurnReady p s rows k
+      pub going-ready : TurnReady pr p s rows k
       unfolding Going
       going-ready =
           let (e, l) = more v on in
@@ -108,16 +109,16 @@ module _ (p : Plan) (events : ℕ → Event) (n : ℕ) (first : State) (start : 
       pub going-falls : n - (k + 1) < n - k
       going-falls = let (e, l) = more v on in omega arith
 
-      pub going-next : (ran₂ : Ran) → ran₂ ≡ turnedAs (actOf p s (events k)) k rows → Going p events n first start (k + 1) ran₂
+      pub going-next : (ran₂ : Ran) → ran₂ ≡ turnedAs (actOf pr p s (events k)) k rows → Going pr p events n first start (k + 1) ran₂
       unfolding Going leftFrom turnedAs rowsAfter
       going-next ran₂ d =
           let (e, l) = more v on in
-          let r : Stepped = actOf p s (events k) in
+          let r : Stepped = actOf pr p s (events k) in
           rw (d, add-one k) (record {
             asked = G .asked;
             few = G .few;
             within = l;
-            rest = left-turn k s rows (G .sound) l r refl ∙ ap (λ w. leftFrom p events n k w s rows) (sym e) ∙ G .rest;
+            rest = left-turn k s rows (G .sound) l r refl ∙ ap (λ w. leftFrom pr p events n k w s rows) (sym e) ∙ G .rest;
             sound = act-sound (G .sound) (events k);
             same = rows-same (r .answer) (r .state) ∙ G .same;
           })
@@ -128,26 +129,26 @@ module _ (p : Plan) (events : ℕ → Event) (n : ℕ) (first : State) (start : 
 
     -- it has ended
     pub going-end : (g : Bool) → g ≡ goesOn v k n → g ≡ false → (out : Ran) → out ≡ record { verdict = v; state = s; rows = rows }
-        → out ≡ runFrom p (from events 0 n) 0 first start
+        → out ≡ runFrom pr p (from events 0 n) 0 first start
     unfolding Going goesOn leftFrom runFrom from
     going-end g says off out o = o ∙ by v refl (sym says ∙ off) ∙ G .rest
       where
-        by : (u : Verdict) → v ≡ u → goesOn u k n ≡ false → record { verdict = v; state = s; rows = rows } ≡ leftFrom p events n k v s rows
+        by : (u : Verdict) → v ≡ u → goesOn u k n ≡ false → record { verdict = v; state = s; rows = rows } ≡ leftFrom pr p events n k v s rows
         by Verdict.Passed e f =
             let q : n - k ≡ 0 = omega (arith, ltb-false k n f) in
             ap (λ (w : Verdict). record { verdict = w; state = s; rows = rows }) e ∙ sym (rw (e, q) refl)
         by (Verdict.Refused why place) e f = ap (λ (w : Verdict). record { verdict = w; state = s; rows = rows }) e ∙ sym (rw e refl)
 
 -- what is run from a fresh start
-pub run-ready : (p : Plan) (s : State) (n : ℕ) (rows : List ℕ) → s ≡ freshOf → RunReady p freshOf n rows → RunReady p s n rows
-run-ready p s n rows e R = subst (λ (z : State). RunReady p z n rows) (sym e) R
+pub run-ready : (pr : Protocol) (p : Plan) (s : State) (n : ℕ) (rows : List ℕ) → s ≡ freshOf → RunReady pr p freshOf n rows → RunReady pr p s n rows
+run-ready pr p s n rows e R = subst (λ (z : State). RunReady pr p z n rows) (sym e) R
 
 -- the event that is handed in is the body's first
-pub run-fresh : (p : Plan) (body : List ℕ) (n : ℕ) (s : State) (first : Event) (rows : List ℕ) (out : Ran) → s ≡ freshOf → first ≡ eventIn body 0
-    → out ≡ runFrom p (from (eventOn first body) 0 n) 0 s rows → out ≡ runFrom p (from (eventIn body) 0 n) 0 freshOf rows
+pub run-fresh : (pr : Protocol) (p : Plan) (body : List ℕ) (n : ℕ) (s : State) (first : Event) (rows : List ℕ) (out : Ran) → s ≡ freshOf → first ≡ eventIn body 0
+    → out ≡ runFrom pr p (from (eventOn first body) 0 n) 0 s rows → out ≡ runFrom pr p (from (eventIn body) 0 n) 0 freshOf rows
 unfolding eventOn
-run-fresh p body n s first rows out e f h =
-    h ∙ ap (λ (z : State). runFrom p (from (eventOn first body) 0 n) 0 z rows) e
-    ∙ ap (λ es. runFrom p es 0 freshOf rows) (from-same (eventOn first body) (eventIn body) 0 n (λ k _ _. by-test (eqb k 0)
+run-fresh pr p body n s first rows out e f h =
+    h ∙ ap (λ (z : State). runFrom pr p (from (eventOn first body) 0 n) 0 z rows) e
+    ∙ ap (λ es. runFrom pr p es 0 freshOf rows) (from-same (eventOn first body) (eventIn body) 0 n (λ k _ _. by-test (eqb k 0)
     (λ q. if-true (eqb k 0) first (eventIn body k) q ∙ f ∙ ap (eventIn body) (sym (eqb-true k 0 q)))
     (λ q. if-false (eqb k 0) first (eventIn body k) q)))

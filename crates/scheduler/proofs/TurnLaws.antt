@@ -14,6 +14,7 @@ use Rattle.rules.specs.Replays.Run.{Ran, withRow}
 use Rattle.rules.specs.Replays.Step.{actOf}
 use Rattle.rules.specs.Soundness.Sound.{SoundAndSized}
 use Rattle.rules.specs.declared.plan.Plan.{Plan}
+use Rattle.rules.specs.declared.protocol.Protocol.{Protocol}
 use Rattle.rules.specs.declared.state.Head.{Head}
 use Rattle.rules.specs.declared.state.State.{State}
 use Rattle.rules.specs.declared.event.Event.{Event}
@@ -75,8 +76,8 @@ unfolding stoppedAt
 stops-refused a why k e = rw e
 
 -- what the act and its row ask for
-module _ (p : Plan) (s : State) (rows : List ℕ) (k : ℕ) (R : TurnReady p s rows k) where
-  pub turn-sound : SoundAndSized p s
+module _ (pr : Protocol) (p : Plan) (s : State) (rows : List ℕ) (k : ℕ) (R : TurnReady pr p s rows k) where
+  pub turn-sound : SoundAndSized pr p s
   turn-sound = R .sound
 
   pub turn-limits : length (p .limit) ≡ maxLocks
@@ -86,8 +87,8 @@ module _ (p : Plan) (s : State) (rows : List ℕ) (k : ℕ) (R : TurnReady p s r
   turn-room = R .room
 
 -- the act, its row and what the run then comes to
-pub turn-acts : (p : Plan) (s : State) (k : ℕ) (rows : List ℕ) (e : Event) (r : Stepped) (v : Verdict) (rows₂ : List ℕ) (event : Event) (ran : Ran)
-    → e ≡ event → r ≡ actOf p s e → rows₂ ≡ rowsAfter (r .answer) (r .state .head) k rows → v ≡ stoppedAt (r .answer) k
-    → ran ≡ record { verdict = v; state = r .state; rows = rows₂ } → ran ≡ turnedAs (actOf p s event) k rows
+pub turn-acts : (pr : Protocol) (p : Plan) (s : State) (k : ℕ) (rows : List ℕ) (e : Event) (r : Stepped) (v : Verdict) (rows₂ : List ℕ) (event : Event) (ran : Ran)
+    → e ≡ event → r ≡ actOf pr p s e → rows₂ ≡ rowsAfter (r .answer) (r .state .head) k rows → v ≡ stoppedAt (r .answer) k
+    → ran ≡ record { verdict = v; state = r .state; rows = rows₂ } → ran ≡ turnedAs (actOf pr p s event) k rows
 unfolding turnedAs
-turn-acts p s k rows e r v rows₂ event ran h d q z o = o ∙ rw (q, z) (ap (λ (x : Stepped). turnedAs x k rows) (d ∙ ap (actOf p s) h))
+turn-acts pr p s k rows e r v rows₂ event ran h d q z o = o ∙ rw (q, z) (ap (λ (x : Stepped). turnedAs x k rows) (d ∙ ap (actOf pr p s) h))

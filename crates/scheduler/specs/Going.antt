@@ -15,6 +15,7 @@ use Rattle.rules.specs.Soundness.Sound.{SoundAndSized}
 use Rattle.rules.specs.Schedulers.State.{freshOf}
 use Rattle.rules.specs.Schedulers.Whole.{stateWith}
 use Rattle.rules.specs.declared.plan.Plan.{Plan}
+use Rattle.rules.specs.declared.protocol.Protocol.{Protocol}
 use Rattle.rules.specs.declared.state.Head.{Head}
 use Rattle.rules.specs.declared.state.State.{State}
 use Rattle.rules.specs.declared.event.Event.{Event}
@@ -50,8 +51,8 @@ unfoldable pub turnedAs : Stepped → ℕ → List ℕ → Ran
 turnedAs r k rows = record { verdict = stoppedAt (r .answer) k; state = r .state; rows = rowsAfter (r .answer) (r .state .head) k rows }
 
 -- what a turn asks for: a sound state, and room for its row
-pub record TurnReady (p : Plan) (s : State) (rows : List ℕ) (k : ℕ) : Type 0 where
-  pub sound : SoundAndSized p s
+pub record TurnReady (pr : Protocol) (p : Plan) (s : State) (rows : List ℕ) (k : ℕ) : Type 0 where
+  pub sound : SoundAndSized pr p s
   pub limits : length (p .limit) ≡ maxLocks
   pub room : k * 4 + 4 ≤ length rows
 
@@ -66,8 +67,8 @@ unfoldable pub eventOn : Event → List ℕ → ℕ → Event
 eventOn first body k = if eqb k 0 then first else eventIn body k
 
 -- what a run of n events asks for
-pub record RunReady (p : Plan) (s : State) (n : ℕ) (rows : List ℕ) : Type 0 where
-  pub sound : SoundAndSized p s
+pub record RunReady (pr : Protocol) (p : Plan) (s : State) (n : ℕ) (rows : List ℕ) : Type 0 where
+  pub sound : SoundAndSized pr p s
   pub limits : length (p .limit) ≡ maxLocks
   pub room : n * 4 ≤ length rows
 
@@ -77,22 +78,22 @@ goesOn Verdict.Passed k n = ltb k n
 goesOn (Verdict.Refused why place) k n = false
 
 -- what is left at place k of n events
-unfoldable pub leftFrom : Plan → (ℕ → Event) → ℕ → ℕ → Verdict → State → List ℕ → Ran
-leftFrom p events n k Verdict.Passed s rows = runFrom p (from events k (n - k)) k s rows
-leftFrom p events n k (Verdict.Refused why place) s rows = record { verdict = Verdict.Refused why place; state = s; rows = rows }
+unfoldable pub leftFrom : Protocol → Plan → (ℕ → Event) → ℕ → ℕ → Verdict → State → List ℕ → Ran
+leftFrom pr p events n k Verdict.Passed s rows = runFrom pr p (from events k (n - k)) k s rows
+leftFrom pr p events n k (Verdict.Refused why place) s rows = record { verdict = Verdict.Refused why place; state = s; rows = rows }
 
 -- at place k, what is left comes to what all n events come to from the first state
-pub record Underway (p : Plan) (events : ℕ → Event) (n : ℕ) (first : State) (start : List ℕ) (k : ℕ) (ran : Ran) : Type 0 where
-  pub asked : RunReady p first n start
+pub record Underway (pr : Protocol) (p : Plan) (events : ℕ → Event) (n : ℕ) (first : State) (start : List ℕ) (k : ℕ) (ran : Ran) : Type 0 where
+  pub asked : RunReady pr p first n start
   pub few : n < 2 ^ 64
   pub within : k ≤ n
-  pub rest : leftFrom p events n k (ran .verdict) (ran .state) (ran .rows) ≡ runFrom p (from events 0 n) 0 first start
-  pub sound : SoundAndSized p (ran .state)
+  pub rest : leftFrom pr p events n k (ran .verdict) (ran .state) (ran .rows) ≡ runFrom pr p (from events 0 n) 0 first start
+  pub sound : SoundAndSized pr p (ran .state)
   pub same : length (ran .rows) ≡ length start
 
 -- the same, shut: a search takes it whole
-unfoldable pub Going : Plan → (ℕ → Event) → ℕ → State → List ℕ → ℕ → Ran → Type 0
-Going p events n first start k ran = Underway p events n first start k ran
+unfoldable pub Going : Protocol → Plan → (ℕ → Event) → ℕ → State → List ℕ → ℕ → Ran → Type 0
+Going pr p events n first start k ran = Underway pr p events n first start k ran
 
 -- ---- a run of one event
 

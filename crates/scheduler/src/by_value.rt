@@ -5,6 +5,7 @@ use rules::answer::Stepped;
 use rules::answer::Verdict;
 use rules::event::Event;
 use rules::plan::Plan;
+use rules::protocol::Protocol;
 use rules::refusal::Refusal;
 use rules::state::State;
 ghost use mathlib.Core.Path.{_≡_};
@@ -37,13 +38,13 @@ fn answer_from(verdict: Verdict, call: u8) -> Answer
 }
 
 // One event is run; of its row only the call is asked.
-fn run_one(p: Plan, s: State, e: Event) -> Stepped
-    requires { ⌜ SoundAndSized p s × (length (p .limit) ≡ maxLocks) ⌝ }
-    ensures { λ r. ⌜ r ≡ actOf p s e ⌝ }
+fn run_one(protocol: Protocol, p: Plan, s: State, e: Event) -> Stepped
+    requires { ⌜ SoundAndSized protocol p s × (length (p .limit) ≡ maxLocks) ⌝ }
+    ensures { λ r. ⌜ r ≡ actOf protocol p s e ⌝ }
 {
     let no_more = [0u8; 4];
     let mut row = [0u8; 4];
-    let ran = run_from(p, s, e, &no_more, 1, &mut row);
+    let ran = run_from(protocol, p, s, e, &no_more, 1, &mut row);
     let verdict = ran.verdict;
     let state = ran.state;
     Stepped {
@@ -53,9 +54,9 @@ fn run_one(p: Plan, s: State, e: Event) -> Stepped
 }
 
 // The step without the test of soundness.
-pub fn step_sound(p: Plan, s: State, e: Event) -> Stepped
-    requires { ⌜ soundTest p s ≡ true ⌝ }
-    ensures { λ r. ⌜ r ≡ actOf p s e ⌝ }
+pub fn step_sound(protocol: Protocol, p: Plan, s: State, e: Event) -> Stepped
+    requires { ⌜ soundTest protocol p s ≡ true ⌝ }
+    ensures { λ r. ⌜ r ≡ actOf protocol p s e ⌝ }
 {
-    run_one(p, s, e)
+    run_one(protocol, p, s, e)
 }

@@ -9,6 +9,7 @@ use rules::answer::Stepped;
 use rules::answer::Verdict;
 use rules::event::Event;
 use rules::plan::Plan;
+use rules::protocol::Protocol;
 use rules::refusal::Refusal;
 use rules::state::State;
 use rules::state::fresh;
@@ -20,15 +21,16 @@ ghost use Rattle.rules.specs.Replays.Replay.{ranAs, replayOf};
 ghost use Rattle.rules.specs.Replays.Step.{stepOf};
 ghost use Rattle.scheduler.specs.Going.{untouchedAs};
 
-// Whatever plan, state and event are handed in: 10, or the answer of 11 to 22 or of an accepted event,
-// and the state after it, which is the given one where the event is refused.
-pub fn step(p: Plan, s: State, e: Event) -> Stepped
-    ensures { λ r. ⌜ r ≡ stepOf p s e ⌝ }
+// Whatever plan, state and event are handed in, by the protocol that the caller names: 10, or the answer
+// of 11 to 22 or of an accepted event, and the state after it, which is the given one where the event is
+// refused.
+pub fn step(protocol: Protocol, p: Plan, s: State, e: Event) -> Stepped
+    ensures { λ r. ⌜ r ≡ stepOf protocol p s e ⌝ }
 {
-    if !sound(p, s) {
+    if !sound(protocol, p, s) {
         return by_value::refused_with(s, Refusal::Unsound);
     }
-    by_value::step_sound(p, s, e)
+    by_value::step_sound(protocol, p, s, e)
 }
 
 // What a refusal of 1 to 9 leaves: no state but a fresh one.
@@ -45,8 +47,8 @@ fn untouched(why: Refusal, place: usize, plan: Plan) -> Replayed
 
 // The replay of a book: 1 to 9 first, and no row byte changes where one refuses; then its events up
 // to the first refusal, each accepted one with its four row bytes. No other byte of the rows changes.
-pub fn replay(book: &[u8], rows: &mut [u8]) -> Replayed
-    ensures { λ r. ⌜ (ranAs r (now (rows .exit)) ≡ replayOf (now (book .entry)) (now (rows .entry)))
+pub fn replay(protocol: Protocol, book: &[u8], rows: &mut [u8]) -> Replayed
+    ensures { λ r. ⌜ (ranAs r (now (rows .exit)) ≡ replayOf protocol (now (book .entry)) (now (rows .entry)))
         × (r .plan ≡ checkedOf (now (book .entry)) (length (now (rows .entry))) .plan) ⌝ }
 {
     let checked = check(book, rows.len());
@@ -57,7 +59,7 @@ pub fn replay(book: &[u8], rows: &mut [u8]) -> Replayed
         Verdict::Refused(why, place) => untouched(why, place, plan),
         Verdict::Passed => {
             let body = &book[events..];
-            run::run(plan, body, body.len() / 4, rows)
+            run::run(protocol, plan, body, body.len() / 4, rows)
         }
     }
 }

@@ -8,6 +8,7 @@ use rules::capacity::MAX_LOCKS;
 use rules::capacity::MAX_TASKS;
 use rules::event::Event;
 use rules::plan::Plan;
+use rules::protocol::Protocol;
 use rules::state::Head;
 use rules::state::State;
 use rules::state::fresh;
@@ -34,6 +35,7 @@ fn goes_on(ended: Ended, k: usize, c: usize) -> bool
 
 // The turns of c events, from any sound state. The tournament is made here, and is nowhere else.
 fn turns(
+    protocol: Protocol,
     h: Head,
     n: usize,
     m: usize,
@@ -54,11 +56,11 @@ fn turns(
     rows: &mut [u8],
     c: usize,
 ) -> Ended
-    requires { ⌜ RunReady (planWith n m (now base) (now ceiling) (now limit) (now uses))
+    requires { ⌜ RunReady protocol (planWith n m (now base) (now ceiling) (now limit) (now uses))
         (stateWith h (now released) (now kept) (now delay) (now depth) (now takes) (now saved) (now units) (now owner)) c (now rows) ⌝ }
     ensures { λ r. ⌜ endedAs r (now (released .exit)) (now (kept .exit)) (now (delay .exit)) (now (depth .exit)) (now (takes .exit)) (now (saved .exit))
         (now (units .exit)) (now (owner .exit)) (now (rows .exit))
-        ≡ runFrom (planWith n m (now (base .entry)) (now (ceiling .entry)) (now (limit .entry)) (now (uses .entry)))
+        ≡ runFrom protocol (planWith n m (now (base .entry)) (now (ceiling .entry)) (now (limit .entry)) (now (uses .entry)))
         (from (eventOn first (now (body .entry))) 0 c) 0
         (stateWith h (now (released .entry)) (now (kept .entry)) (now (delay .entry)) (now (depth .entry)) (now (takes .entry)) (now (saved .entry))
         (now (units .entry)) (now (owner .entry))) (now (rows .entry)) ⌝ }
@@ -73,6 +75,7 @@ fn turns(
     while goes_on(ended, k, c) {
         let head = ended.head;
         ended = turn(
+            protocol,
             head,
             n,
             m,
@@ -101,6 +104,7 @@ fn turns(
 
 // The arrays are unpacked once and lent to the turns; the state is put together where the run ends.
 pub fn run_from(
+    protocol: Protocol,
     p: Plan,
     start: State,
     first: Event,
@@ -108,8 +112,8 @@ pub fn run_from(
     n: usize,
     rows: &mut [u8],
 ) -> Replayed
-    requires { ⌜ RunReady p start n (now rows) ⌝ }
-    ensures { λ r. ⌜ (ranAs r (now (rows .exit)) ≡ runFrom p (from (eventOn first (now (body .entry))) 0 n) 0 start (now (rows .entry))) × (r .plan ≡ p) ⌝ }
+    requires { ⌜ RunReady protocol p start n (now rows) ⌝ }
+    ensures { λ r. ⌜ (ranAs r (now (rows .exit)) ≡ runFrom protocol p (from (eventOn first (now (body .entry))) 0 n) 0 start (now (rows .entry))) × (r .plan ≡ p) ⌝ }
 {
     let base = p.base;
     let ceiling = p.ceiling;
@@ -125,6 +129,7 @@ pub fn run_from(
     let mut units = start.units;
     let mut owner = start.owner;
     let ended = turns(
+        protocol,
         head,
         p.tasks,
         p.locks,
@@ -166,11 +171,17 @@ pub fn run_from(
 }
 
 // The first n events of a body, from a fresh start.
-pub fn run(p: Plan, body: &[u8], n: usize, rows: &mut [u8]) -> Replayed
-    requires { ⌜ RunReady p freshOf n (now rows) ⌝ }
-    ensures { λ r. ⌜ (ranAs r (now (rows .exit)) ≡ runFrom p (from (eventIn (now (body .entry))) 0 n) 0 freshOf (now (rows .entry))) × (r .plan ≡ p) ⌝ }
+pub fn run(
+    protocol: Protocol,
+    p: Plan,
+    body: &[u8],
+    n: usize,
+    rows: &mut [u8],
+) -> Replayed
+    requires { ⌜ RunReady protocol p freshOf n (now rows) ⌝ }
+    ensures { λ r. ⌜ (ranAs r (now (rows .exit)) ≡ runFrom protocol p (from (eventIn (now (body .entry))) 0 n) 0 freshOf (now (rows .entry))) × (r .plan ≡ p) ⌝ }
 {
     let start = fresh();
     let first = first_of(body);
-    run_from(p, start, first, body, n, rows)
+    run_from(protocol, p, start, first, body, n, rows)
 }

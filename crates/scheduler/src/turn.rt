@@ -9,6 +9,7 @@ use rules::answer::Verdict;
 use rules::capacity::MAX_LOCKS;
 use rules::capacity::MAX_TASKS;
 use rules::event::Event;
+use rules::protocol::Protocol;
 use rules::state::Head;
 use tournament::tree::PLACES;
 ghost use mathlib.Core.Path.{_≡_};
@@ -66,7 +67,7 @@ fn call_byte(call: bool) -> u8
     0
 }
 
-// Who runs, the user word, the next word, and the call.
+// Who runs, the user word, the second word, and the call.
 fn put_row(rows: &mut [u8], k: usize, h: Head, call: bool)
     requires { ⌜ k * 4 + 4 ≤ length (now rows) ⌝ }
     ensures { λ _. ⌜ now (rows .exit) ≡ withRow (now (rows .entry)) k h call ⌝ }
@@ -104,6 +105,7 @@ fn stopped_at(answer: Answer, k: usize) -> Verdict
 
 // The event at place k acts, and has its row where it is accepted.
 pub fn turn(
+    protocol: Protocol,
     h: Head,
     n: usize,
     m: usize,
@@ -125,12 +127,12 @@ pub fn turn(
     rows: &mut [u8],
     k: usize,
 ) -> Ended
-    requires { ⌜ TurnReady (planWith n m (now base) (now ceiling) (now limit) (now uses))
+    requires { ⌜ TurnReady protocol (planWith n m (now base) (now ceiling) (now limit) (now uses))
         (stateWith h (now released) (now kept) (now delay) (now depth) (now takes) (now saved) (now units) (now owner)) (now rows) k ⌝ }
     requires { ⌜ now tree ≡ tournamentOf n (now released) (now kept) ⌝ }
     ensures { λ r. ⌜ endedAs r (now (released .exit)) (now (kept .exit)) (now (delay .exit)) (now (depth .exit)) (now (takes .exit)) (now (saved .exit))
         (now (units .exit)) (now (owner .exit)) (now (rows .exit))
-        ≡ turnedAs (actOf (planWith n m (now (base .entry)) (now (ceiling .entry)) (now (limit .entry)) (now (uses .entry)))
+        ≡ turnedAs (actOf protocol (planWith n m (now (base .entry)) (now (ceiling .entry)) (now (limit .entry)) (now (uses .entry)))
         (stateWith h (now (released .entry)) (now (kept .entry)) (now (delay .entry)) (now (depth .entry)) (now (takes .entry)) (now (saved .entry))
         (now (units .entry)) (now (owner .entry)))
         (eventOn first (now (body .entry)) k)) k (now (rows .entry)) ⌝ }
@@ -138,6 +140,7 @@ pub fn turn(
 {
     let e = event_on(first, body, k);
     let acted = act(
+        protocol,
         h,
         n,
         m,

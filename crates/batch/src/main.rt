@@ -1,6 +1,6 @@
 // Commands for the judge, one after the other on standard input, each with its reply on standard
-// output. All numbers are little-endian. A command is its number, the size of what follows and a
-// room, four bytes each, and then so many bytes:
+// output. All numbers are little-endian. A command has a head of 16 bytes, four numbers of four: its own,
+// the protocol's (2 the second, 1 the first), the size of what follows and a room; and then so many bytes:
 //   1  replay a book with so much row space (replay.rt)
 //   2  check a book for so much row space (check.rt)
 //   3  a single step: a plan, a state and an event (step.rt)
@@ -14,6 +14,9 @@ mod step;
 mod wire;
 mod write;
 
+use rules::protocol::Protocol;
+use rules::protocol::named;
+use wire::read8;
 use wire::read32;
 
 // More bytes than a plan and a state have, and than records that two bytes cannot count.
@@ -26,10 +29,10 @@ const ROOM: usize = 65536;
 const MOST: usize = 4000000000;
 
 // Reads what follows a command, and replies.
-fn answer(command: u32, input: &mut [u8], rows: &mut [u8]) -> bool {
+fn answer(command: u32, protocol: Protocol, input: &mut [u8], rows: &mut [u8]) -> bool {
     io::read_full(0, input);
     if command == 1 {
-        replay::reply(input, rows);
+        replay::reply(protocol, input, rows);
         return true;
     }
     if command == 2 {
@@ -37,7 +40,7 @@ fn answer(command: u32, input: &mut [u8], rows: &mut [u8]) -> bool {
         return true;
     }
     if command == 3 {
-        step::reply(input);
+        step::reply(protocol, input);
         return true;
     }
     if command == 4 {
@@ -48,21 +51,22 @@ fn answer(command: u32, input: &mut [u8], rows: &mut [u8]) -> bool {
 
 // Answers one command, and says whether there was one.
 fn one(input: &mut [u8], rows: &mut [u8]) -> bool {
-    let mut head = [0u8; 12];
+    let mut head = [0u8; 16];
     let got = io::read_full(0, &mut head);
-    if got < 12 {
+    if got < 16 {
         return false;
     }
     let command = read32(&head, 0);
-    let size = read32(&head, 4) as usize;
-    let room = read32(&head, 8) as usize;
+    let protocol = named(read8(&head, 4));
+    let size = read32(&head, 8) as usize;
+    let room = read32(&head, 12) as usize;
     if input.len() < size {
         return false;
     }
     if rows.len() < room {
         return false;
     }
-    answer(command, &mut input[..size], &mut rows[..room])
+    answer(command, protocol, &mut input[..size], &mut rows[..room])
 }
 
 fn serve(input: &mut [u8], rows: &mut [u8]) {

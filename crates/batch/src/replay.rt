@@ -1,4 +1,4 @@
-// The replay of a book. The reply: the refusal's number or 0, its place, the lazy and the eager
+// The replay of a book by a protocol. The reply: the refusal's number or 0, its place, the lazy and the eager
 // calls, the number of tasks, each task's delay and then each task's bound, and the whole row space,
 // which held 0xEE before the replay.
 use crate::figures::give16;
@@ -13,6 +13,7 @@ use rules::answer::verdict_number;
 use rules::answer::verdict_place;
 use rules::capacity::MAX_TASKS;
 use rules::plan::Plan;
+use rules::protocol::Protocol;
 use rules::state::State;
 
 // The number, place and calls, the number of tasks, and two numbers for each of them.
@@ -59,9 +60,9 @@ fn write_reply(v: Verdict, plan: Plan, state: State) {
     write_front(&out, i);
 }
 
-pub fn reply(book: &[u8], rows: &mut [u8]) {
+pub fn reply(protocol: Protocol, book: &[u8], rows: &mut [u8]) {
     fill(rows);
-    let replayed = scheduler::replay(book, rows);
+    let replayed = scheduler::replay(protocol, book, rows);
     let verdict = replayed.verdict;
     let plan = replayed.plan;
     let state = replayed.state;

@@ -1,4 +1,4 @@
-// A single step. It is handed a plan, a state and an event's four bytes (kind, id, amount; work of 0
+// A single step by a protocol. It is handed a plan, a state and an event's four bytes (kind, id, amount; work of 0
 // may be handed in too). The reply: the refusal's number or 0, the lazy calls, 1 or 0, and the
 // state after it, figure by figure.
 use crate::figures::PLAN_SIZE;
@@ -14,6 +14,7 @@ use book::record::event_of;
 use rules::answer::answer_calls;
 use rules::answer::answer_number;
 use rules::event::Event;
+use rules::protocol::Protocol;
 
 const REPLY: usize = 2 + STATE_SIZE;
 
@@ -25,10 +26,10 @@ fn event_at(input: &[u8]) -> Event {
     event_of(read8(input, EVENT), read8(input, EVENT + 1), amount)
 }
 
-pub fn reply(input: &[u8]) {
+pub fn reply(protocol: Protocol, input: &[u8]) {
     let plan = plan_at(input, 0);
     let before = state_at(input, PLAN_SIZE);
-    let stepped = scheduler::step(plan, before, event_at(input));
+    let stepped = scheduler::step(protocol, plan, before, event_at(input));
     let answer = stepped.answer;
     let state = stepped.state;
     let mut out = [0u8; REPLY];

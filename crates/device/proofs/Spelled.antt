@@ -13,10 +13,12 @@ use Rattle.rules.specs.Books.Event.{eventFault, eventOf}
 use Rattle.rules.specs.Books.Book.{checkedOf}
 use Rattle.rules.specs.Books.Write.{Wrote, writeOf, wroteWith}
 use Rattle.rules.specs.Demands.Bound.{boundOf}
+use Rattle.rules.specs.Schedulers.Protocol.{protocolNamed}
 use Rattle.rules.specs.Replays.Step.{stepOf}
 use Rattle.rules.specs.Replays.Run.{Ran}
 use Rattle.rules.specs.Replays.Replay.{ranAs, replayOf}
 use Rattle.rules.specs.declared.plan.Plan.{Plan}
+use Rattle.rules.specs.declared.protocol.Protocol.{Protocol}
 use Rattle.rules.specs.declared.state.State.{State}
 use Rattle.rules.specs.declared.event.Event.{Event}
 use Rattle.rules.specs.declared.answer.Checked.{Checked}
@@ -66,19 +68,23 @@ module _ (n i : ℕ) where
   write-said tasks locks uses events buffer out w wrote e f = ap₂ (λ x y. writeWith x y (w .length)) e f ∙ ap writeSpelled wrote
 
   -- a replay, whose verdict and state are the definition's, and whose plan is the check's
-  pub replay-said : (b rows out : List ℕ) (l : Replayed) → ranAs l out ≡ replayOf b rows → l .plan ≡ checkedOf b (length rows) .plan
+  pub replay-said : (number : ℕ) (pr : Protocol) → pr ≡ protocolNamed number → (b rows out : List ℕ) (l : Replayed) → ranAs l out ≡ replayOf pr b rows
+      → l .plan ≡ checkedOf b (length rows) .plan
       → n ≡ verdictNumber (l .verdict) → i ≡ verdictPlace (l .verdict)
-      → replayWith (l .plan) (l .state) n i ≡ replaySpelled (replayOf b rows .verdict) (checkedOf b (length rows) .plan) (replayOf b rows .state)
-  replay-said b rows out l ran q e f =
-      ap₂ (replayWith (l .plan) (l .state)) e f ∙ ap (λ (k : Ran). replaySpelled (k .verdict) (l .plan) (k .state)) ran
-      ∙ ap (λ p. replaySpelled (replayOf b rows .verdict) p (replayOf b rows .state)) q
+      → replayWith (l .plan) (l .state) n i ≡ replaySpelled (replayOf (protocolNamed number) b rows .verdict) (checkedOf b (length rows) .plan)
+      (replayOf (protocolNamed number) b rows .state)
+  replay-said number pr named b rows out l ran q e f =
+      let h : ranAs l out ≡ replayOf (protocolNamed number) b rows = ran ∙ ap (λ pr. replayOf pr b rows) named in
+      ap₂ (replayWith (l .plan) (l .state)) e f ∙ ap (λ (k : Ran). replaySpelled (k .verdict) (l .plan) (k .state)) h
+      ∙ ap (λ p. replaySpelled (replayOf (protocolNamed number) b rows .verdict) p (replayOf (protocolNamed number) b rows .state)) q
 
 pub write-bytes : (tasks locks uses events buffer out : List ℕ) (w : Written) → wroteWith w out ≡ writeOf tasks locks uses events buffer
     → out ≡ writeOf tasks locks uses events buffer .bytes
 write-bytes tasks locks uses events buffer out w wrote = ap (λ (k : Wrote). k .bytes) wrote
 
-pub replay-rows : (b rows out : List ℕ) (l : Replayed) → ranAs l out ≡ replayOf b rows → out ≡ replayOf b rows .rows
-replay-rows b rows out l ran = ap (λ (k : Ran). k .rows) ran
+pub replay-rows : (number : ℕ) (pr : Protocol) → pr ≡ protocolNamed number → (b rows out : List ℕ) (l : Replayed) → ranAs l out ≡ replayOf pr b rows
+    → out ≡ replayOf (protocolNamed number) b rows .rows
+replay-rows number pr named b rows out l ran = ap (λ (k : Ran). k .rows) (ran ∙ ap (λ pr. replayOf pr b rows) named)
 
 -- the bound of a task of a book's plan
 pub bound-said : (b : List ℕ) (room : ℕ) (c : Checked) → c ≡ checkedOf b room → (n t : ℕ) → n ≡ boundOf (c .plan) t → n ≡ boundOf (checkedOf b room .plan) t
@@ -94,13 +100,15 @@ module _ (kind id amount : ℕ) where
   pub other-handed : ¬ (kind ≡ 4) → (z : Bool) → z ≡ eventFault kind id amount → z ≡ noEvent kind id amount
   other-handed h z e = e ∙ sym (if-false (eqb kind 4) (not (eqb id 0)) (eventFault kind id amount) (ne-eqb kind 4 h))
 
-  module _ (p : Plan) (s : State) (z : Bool) (tests : z ≡ noEvent kind id amount) where
-    pub not-stepped : z ≡ true → (n : ℕ) → n ≡ numberOf WrongEvent → stepWith s n 0 ≡ stepFrom p s kind id amount
-    not-stepped h n e =
-        ap (λ m. stepWith s m 0) e ∙ sym (if-true (noEvent kind id amount) (notStepped s) (stepSpelled (stepOf p s (eventOf kind id amount))) (sym tests ∙ h))
+  module _ (number : ℕ) (p : Plan) (s : State) (z : Bool) (tests : z ≡ noEvent kind id amount) where
+    abbrev done : DeviceStep
+    done = stepSpelled (stepOf (protocolNamed number) p s (eventOf kind id amount))
 
-    pub step-said : z ≡ false → (e : Event) → e ≡ eventOf kind id amount → (d : Stepped) → d ≡ stepOf p s e
-        → (n k : ℕ) → n ≡ answerNumber (d .answer) → k ≡ answerCalls (d .answer) → stepWith (d .state) n k ≡ stepFrom p s kind id amount
-    step-said h e q d r n k f g =
-        ap₂ (stepWith (d .state)) f g ∙ ap stepSpelled (r ∙ ap (stepOf p s) q)
-        ∙ sym (if-false (noEvent kind id amount) (notStepped s) (stepSpelled (stepOf p s (eventOf kind id amount))) (sym tests ∙ h))
+    pub not-stepped : z ≡ true → (n : ℕ) → n ≡ numberOf WrongEvent → stepWith s n 0 ≡ stepFrom number p s kind id amount
+    not-stepped h n e = ap (λ m. stepWith s m 0) e ∙ sym (if-true (noEvent kind id amount) (notStepped s) done (sym tests ∙ h))
+
+    pub step-said : z ≡ false → (pr : Protocol) → pr ≡ protocolNamed number → (e : Event) → e ≡ eventOf kind id amount → (d : Stepped) → d ≡ stepOf pr p s e
+        → (n k : ℕ) → n ≡ answerNumber (d .answer) → k ≡ answerCalls (d .answer) → stepWith (d .state) n k ≡ stepFrom number p s kind id amount
+    step-said h pr named e q d r n k f g =
+        ap₂ (stepWith (d .state)) f g ∙ ap stepSpelled (r ∙ ap₂ (λ pr e. stepOf pr p s e) named q)
+        ∙ sym (if-false (noEvent kind id amount) (notStepped s) done (sym tests ∙ h))

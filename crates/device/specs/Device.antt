@@ -9,6 +9,7 @@ use Rattle.rules.specs.Numbers.Refusal.{numberOf}
 use Rattle.rules.specs.Numbers.Answer.{verdictNumber, verdictPlace, answerNumber, answerCalls}
 use Rattle.rules.specs.Books.Event.{eventFault, eventOf}
 use Rattle.rules.specs.Books.Write.{Wrote}
+use Rattle.rules.specs.Schedulers.Protocol.{protocolNamed}
 use Rattle.rules.specs.Replays.Step.{stepOf}
 use Rattle.rules.specs.declared.plan.Plan.{Plan}
 use Rattle.rules.specs.declared.state.State.{State}
@@ -49,6 +50,7 @@ noEvent kind id amount = if eqb kind 4 then not (eqb id 0) else eventFault kind 
 abbrev pub notStepped : State → DeviceStep
 notStepped s = record { number = numberOf WrongEvent; calls = 0; state = s }
 
--- 8 leaves the state as it is; an event is stepped
-abbrev pub stepFrom : Plan → State → ℕ → ℕ → ℕ → DeviceStep
-stepFrom p s kind id amount = if noEvent kind id amount then notStepped s else stepSpelled (stepOf p s (eventOf kind id amount))
+-- 8 leaves the state as it is; an event is stepped, by the protocol of this number
+abbrev pub stepFrom : ℕ → Plan → State → ℕ → ℕ → ℕ → DeviceStep
+stepFrom protocol p s kind id amount =
+    if noEvent kind id amount then notStepped s else stepSpelled (stepOf (protocolNamed protocol) p s (eventOf kind id amount))

@@ -4,6 +4,7 @@ use book::record::event_of;
 use rules::answer::answer_calls;
 use rules::answer::answer_number;
 use rules::plan::Plan;
+use rules::protocol::named;
 use rules::refusal::Refusal;
 use rules::refusal::number;
 use rules::state::State;
@@ -40,15 +41,17 @@ pub extern "C" fn recorder_fresh() -> State
 }
 
 // 8 where the numbers are no event's; then the step: 10 to 22, and any plan and state may be handed in.
+// The protocol is named by its number.
 #[no_mangle]
 pub extern "C" fn recorder_step(
+    protocol: u8,
     plan: Plan,
     state: State,
     kind: u8,
     id: u8,
     amount: u16,
 ) -> DeviceStep
-    ensures { λ r. ⌜ r ≡ stepFrom plan state kind id amount ⌝ }
+    ensures { λ r. ⌜ r ≡ stepFrom protocol plan state kind id amount ⌝ }
 {
     if no_event(kind, id, amount) {
         return DeviceStep {
@@ -57,7 +60,7 @@ pub extern "C" fn recorder_step(
             state: state,
         };
     }
-    let s = scheduler::step(plan, state, event_of(kind, id, amount));
+    let s = scheduler::step(named(protocol), plan, state, event_of(kind, id, amount));
     let answer = s.answer;
     let after = s.state;
     DeviceStep {

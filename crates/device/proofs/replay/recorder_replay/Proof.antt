@@ -8,4 +8,5 @@ pub recorder-replay-spec : {M : Type 1} → statement M
 recorder-replay-spec =
     tie.close
     (tie.spec
-    (λ c κs. search needs) (λ c κs. search needs) (λ c κs. search needs) (λ c. search needs) (λ c. (search replay-said, search replay-rows)))
+    (λ c κs. search needs) (λ c κs. search needs) (λ c κs. search needs) (λ c κs. search needs) (λ c. search needs)
+    (λ c. (search replay-said, search replay-rows)))

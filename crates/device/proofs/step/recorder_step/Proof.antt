@@ -9,4 +9,4 @@ recorder-step-spec =
     tie.close
     (tie.spec
     (λ c κs. search needs) (λ c κs. search needs) (λ c. search not-stepped) (λ c κs. search needs) (λ c κs. search needs) (λ c κs. search needs)
-    (λ c κs. search needs) (λ c. search step-said))
+    (λ c κs. search needs) (λ c κs. search needs) (λ c. search step-said))

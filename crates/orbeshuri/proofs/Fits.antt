@@ -17,6 +17,7 @@ use Rattle.rules.specs.Replays.Replay.{ranAs}
 use Rattle.rules.specs.Replays.Run.{Ran}
 use Rattle.rules.specs.Demands.Replayed.{RanUpTo}
 use Rattle.rules.specs.declared.plan.Plan.{Plan}
+use Rattle.rules.specs.declared.protocol.Protocol.{Protocol}
 use Rattle.rules.specs.declared.event.Event.{Event}
 use Rattle.rules.specs.declared.answer.Verdict.{Verdict}
 use Rattle.rules.specs.declared.answer.Replayed.{Replayed}
@@ -40,7 +41,7 @@ front-below v o (suc n) (x ∷ xs) h zero = h 0
 front-below v o (suc n) (x ∷ xs) h (suc i) = front-below v o n xs (λ i. h (suc i)) i
 
 -- the report of a run
-module _ {p : Plan} (O : Obeys p) (es : List Event) (few : length es ≤ maxEvents) (rows : List ℕ) (ran : Ran) (a : ℕ) (R : RanUpTo p es rows ran a) where
+module _ (pr : Protocol) {p : Plan} (O : Obeys p) (es : List Event) (few : length es ≤ maxEvents) (rows : List ℕ) (ran : Ran) (a : ℕ) (R : RanUpTo pr p es rows ran a) where
   ran-fits : length (reportOf (ran .verdict) a (ran .rows) (ran .state .head .lazy) (ran .state .head .eager) (take (p .tasks) (ran .state .delay)))
       ≤ reportSpace
   unfolding verdictPlace
@@ -70,7 +71,7 @@ module _ {p : Plan} (O : Obeys p) (es : List Event) (few : length es ≤ maxEven
         few-tasks O,
         length-take (p .tasks) (ran .state .delay),
         passed-long (ran .rows) a (omega (arith, R .within)) small lazy eager delays
-            (omega (arith, R .within, R .lazy, lazy-few p es a)) (omega (arith, R .within, R .eager, eager-few p es a))
+            (omega (arith, R .within, R .lazy, lazy-few pr p es a)) (omega (arith, R .within, R .eager, eager-few p es a))
             (front-below (10 ^ 5) (omega arith) (p .tasks) (ran .state .delay) (λ t. omega (arith, R .bounded t, bound-word O t))),
         R .within,
       )
@@ -78,18 +79,18 @@ module _ {p : Plan} (O : Obeys p) (es : List Event) (few : length es ≤ maxEven
           omega (arith, R .within, stopped-long (ran .rows) a (omega (arith, R .within)) small lazy eager delays why place h)
 
 -- the text of a book whose events run
-ran-text : (b : List ℕ) → checkOf b rowSpace ≡ Verdict.Passed → length (textOf b) ≤ reportSpace
+ran-text : (pr : Protocol) (b : List ℕ) → checkOf b rowSpace ≡ Verdict.Passed → length (textOf pr b) ≤ reportSpace
 unfolding checkedAs verdictNumber
-ran-text b e = rw e (ran-fits (passed-obeys b rowSpace e) (eventsOf b) (few-events b (passed-contents b rowSpace e)) (replicate rowSpace 0) (ranOf b)
-    (ranOf b .state .head .accepted) (replayed b (replicate rowSpace 0) .ran (rw rows-room (ap verdictNumber e))))
+ran-text pr b e = rw e (ran-fits pr (passed-obeys b rowSpace e) (eventsOf b) (few-events b (passed-contents b rowSpace e)) (replicate rowSpace 0) (ranOf pr b)
+    (ranOf pr b .state .head .accepted) (replayed pr b (replicate rowSpace 0) .ran (rw rows-room (ap verdictNumber e))))
 
 -- no text is longer than the buffer, whatever the book
-pub text-fits : (b : List ℕ) → length (textOf b) ≤ reportSpace
-text-fits b = go (checkOf b rowSpace) refl
+pub text-fits : (pr : Protocol) (b : List ℕ) → length (textOf pr b) ≤ reportSpace
+text-fits pr b = go (checkOf b rowSpace) refl
   where
-    go : (v : Verdict) → checkOf b rowSpace ≡ v → length (textOf b) ≤ reportSpace
-    go Verdict.Passed e = ran-text b e
-    go (Verdict.Refused why place) e = rw (refused-text b why place e)
+    go : (v : Verdict) → checkOf b rowSpace ≡ v → length (textOf pr b) ≤ reportSpace
+    go Verdict.Passed e = ran-text pr b e
+    go (Verdict.Refused why place) e = rw (refused-text pr b why place e)
         (omega (
           arith,
           stopped-long (replicate rowSpace 0) 0 (omega arith) (λ k l. absurd (omega arith)) 0 0 (take 0 (freshOf .delay)) why place
@@ -102,18 +103,18 @@ front-whole : (out t : List ℕ) → length t ≤ length out → take (length t)
 front-whole out t h = ap (take (length t)) (stored-front out t h) ∙ take-append-seam t _
 
 -- the report of a replay, in a buffer with room for every text
-module _ (b rows : List ℕ) (r : Replayed) (ran : ranAs r rows ≡ ranOf b) (planned : r .plan ≡ checkedOf b (length (replicate {A = ℕ} rowSpace 0)) .plan)
+module _ (pr : Protocol) (b rows : List ℕ) (r : Replayed) (ran : ranAs r rows ≡ ranOf pr b) (planned : r .plan ≡ checkedOf b (length (replicate {A = ℕ} rowSpace 0)) .plan)
     (out : List ℕ) (room : reportSpace ≤ length out) (n : ℕ) (counted : n ≡ min (length (reported r rows)) (length out)) where
-  pub whole-length : n ≡ length (textOf b)
-  whole-length = omega (arith, text-fits b, counted ∙ ap (λ (t : List ℕ). min (length t) (length out)) (text-is b rows r ran planned))
+  pub whole-length : n ≡ length (textOf pr b)
+  whole-length = omega (arith, text-fits pr b, counted ∙ ap (λ (t : List ℕ). min (length t) (length out)) (text-is pr b rows r ran planned))
 
-  pub whole-front : (after : List ℕ) → after ≡ stored out 0 (reported r rows) → take n after ≡ textOf b
+  pub whole-front : (after : List ℕ) → after ≡ stored out 0 (reported r rows) → take n after ≡ textOf pr b
   whole-front after e =
-      rw (e ∙ ap (stored out 0) (text-is b rows r ran planned), whole-length) (front-whole out (textOf b) (omega (arith, text-fits b)))
+      rw (e ∙ ap (stored out 0) (text-is pr b rows r ran planned), whole-length) (front-whole out (textOf pr b) (omega (arith, text-fits pr b)))
 
   -- and what stands after it stays
-  pub whole-bytes : (after : List ℕ) → after ≡ stored out 0 (reported r rows) → after ≡ stored out 0 (textOf b)
-  whole-bytes after e = e ∙ ap (stored out 0) (text-is b rows r ran planned)
+  pub whole-bytes : (after : List ℕ) → after ≡ stored out 0 (reported r rows) → after ≡ stored out 0 (textOf pr b)
+  whole-bytes after e = e ∙ ap (stored out 0) (text-is pr b rows r ran planned)
 
   -- as a part of the buffer that is lent
   pub whole-counts : (after : List ℕ) → after ≡ stored out 0 (reported r rows) → Counts n after

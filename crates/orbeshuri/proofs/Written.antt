@@ -11,6 +11,7 @@ use Rattle.rules.specs.Replays.Replay.{ranAs, replayAs, replayOf}
 use Rattle.rules.specs.Replays.Run.{Ran}
 use Rattle.rules.specs.Schedulers.State.{freshOf}
 use Rattle.rules.specs.declared.plan.Plan.{Plan}
+use Rattle.rules.specs.declared.protocol.Protocol.{Protocol}
 use Rattle.rules.specs.declared.refusal.Refusal.{Refusal}
 use Rattle.rules.specs.declared.answer.Verdict.{Verdict}
 use Rattle.rules.specs.declared.answer.Replayed.{Replayed}
@@ -43,22 +44,22 @@ abbrev pub reported : Replayed → List ℕ → List ℕ
 reported r rows =
     reportOf (r .verdict) (r .state .head .accepted) rows (r .state .head .lazy) (r .state .head .eager) (take (r .plan .tasks) (r .state .delay))
 
-pub text-is : (b rows : List ℕ) (r : Replayed) → ranAs r rows ≡ ranOf b → r .plan ≡ checkedOf b (length (replicate {A = ℕ} rowSpace 0)) .plan
-    → reported r rows ≡ textOf b
-text-is b rows r ran planned =
+pub text-is : (pr : Protocol) (b rows : List ℕ) (r : Replayed) → ranAs r rows ≡ ranOf pr b → r .plan ≡ checkedOf b (length (replicate {A = ℕ} rowSpace 0)) .plan
+    → reported r rows ≡ textOf pr b
+text-is pr b rows r ran planned =
     rw (planned, rows-room) (ap (λ (x : Ran). reportOf (x .verdict) (x .state .head .accepted) (x .rows) (x .state .head .lazy) (x .state .head .eager)
     (take (checkedOf b rowSpace .plan .tasks) (x .state .delay))) ran)
 
 -- ---- an input that is longer than the buffer
 
 -- the text of a refused book
-pub refused-text : (b : List ℕ) (why : Refusal) (place : ℕ) → checkOf b rowSpace ≡ Verdict.Refused why place
-    → textOf b ≡ reportOf (Verdict.Refused why place) 0 (replicate rowSpace 0) 0 0 (take 0 (freshOf .delay))
+pub refused-text : (pr : Protocol) (b : List ℕ) (why : Refusal) (place : ℕ) → checkOf b rowSpace ≡ Verdict.Refused why place
+    → textOf pr b ≡ reportOf (Verdict.Refused why place) 0 (replicate rowSpace 0) 0 0 (take 0 (freshOf .delay))
 unfolding replayOf replayAs checkedAs
-refused-text b why place e = rw (rows-room, e)
+refused-text pr b why place e = rw (rows-room, e)
 
 -- RULES 15.7: its front gives the text of the whole
-pub cut-text : (b : List ℕ) (n : ℕ) → n ≤ length b → largestBook < n → textOf (take n b) ≡ textOf b
-cut-text b n long enough =
+pub cut-text : (pr : Protocol) (b : List ℕ) (n : ℕ) → n ≤ length b → largestBook < n → textOf pr (take n b) ≡ textOf pr b
+cut-text pr b n long enough =
     let (why, place, e) = long-refused b (omega arith) rowSpace in
-    refused-text (take n b) why place (cut-same b n long enough rowSpace ∙ e) ∙ sym (refused-text b why place e)
+    refused-text pr (take n b) why place (cut-same b n long enough rowSpace ∙ e) ∙ sym (refused-text pr b why place e)

@@ -1,4 +1,4 @@
--- The texts of P1 and P5, computed from their books' bytes to the last byte that is printed. Assumes nothing.
+-- The texts of P1, by both protocols, and of P5, computed from their books' bytes to the last byte that is printed. Assumes nothing.
 use mathlib.Core.Path.{_≡_, refl}
 use mathlib.Core.List.{List, [], _∷_}
 use Prim.Native.Nat.{ℕ}
@@ -16,16 +16,18 @@ use Rattle.rules.specs.Schedulers.Elect.{earlier, earliest, elected}
 use Rattle.rules.specs.Schedulers.EventRefusals.{elsewhere, notNewest, pastLimit, testsOf}
 use Rattle.rules.specs.Schedulers.EventRefusals.{releaseOrder, acquireOrder, unlockOrder, workOrder, finishOrder, refusalOf}
 use Rattle.rules.specs.Schedulers.FiguresAfter.{differs, eagerCalls, charged, delayed, figuresAfter}
-use Rattle.rules.specs.Schedulers.Lazy.{callsFor, runsOn, switched, waits, afterRelease, afterAcquire, restored, afterUnlock, wordsAfter, lazyCall}
+use Rattle.rules.specs.Schedulers.Protocol.{secondWord}
+use Rattle.rules.specs.Schedulers.Lazy.{callsFor, runsOn, switched, stays, afterRelease, afterAcquire, restored, afterUnlock, wordsAfter, lazyCall}
 use Rattle.rules.specs.Soundness.Sound.{keptOf, savedOf, ownerOf}
 use Rattle.rules.specs.Soundness.SoundTest.{taskObeys, lockObeys, spareObeys, obeys, rowTest, ownTest, numberNew, numberTest}
-use Rattle.rules.specs.Soundness.SoundTest.{taskTest, lockTest, runsTest, headTest, spareTest, soundTest}
+use Rattle.rules.specs.Soundness.SoundTest.{taskTest, lockTest, runsTest, secondTest, headTest, spareTest, soundTest}
 use Rattle.rules.specs.Replays.Step.{afterOf, answered, actOf, stepOf}
 use Rattle.rules.specs.Replays.Run.{withRow, onward, runFrom}
 use Rattle.rules.specs.Replays.Replay.{replayAs, replayOf}
 use Rattle.rules.specs.Demands.Crane.{book}
+use Rattle.rules.specs.declared.protocol.Protocol.the-variants.{Second, First}
 use Rattle.report.specs.Report.{digitsIn, digits, spaced, line, header, runner, rowWords, rowLine, rowLines, callsLine, delayedLine, refusedLine, reportOf}
-use Rattle.report.specs.Shown.{block, blockOfRefused}
+use Rattle.report.specs.Shown.{block, blockByFirst, blockOfRefused}
 use Rattle.orbeshuri.specs.Text.{textOf}
 
 -- the book of P5: the plan of P1, and work past a section's limit
@@ -44,15 +46,15 @@ bookOfRefused =
     ∷ 4 ∷ 0 ∷ 1 ∷ 0
     ∷ []
 
-printed : (textOf book ≡ block) × (textOf bookOfRefused ≡ blockOfRefused)
-unfolding book block bookOfRefused blockOfRefused
+printed : (textOf Second book ≡ block) × (textOf First book ≡ blockByFirst) × (textOf Second bookOfRefused ≡ blockOfRefused)
+unfolding book block blockByFirst bookOfRefused blockOfRefused
     if_then_else_ allTrue every any count greatest firstFrom from renewed zeros numberOf firstTrue found firstFault eventFault eventOf hasBit
     withBit most countFault taskFault lockFault declares users usersBase ceilingFault taskFaultAt lockFaultAt countFaultOf useFault masksOf planOf recordChecks
     loadChecks sizeOf bodyAt layoutFault contentsChecks eventChecks checkOf checkedAs
     has priority saves holds priorityOf rankOf earlier earliest elected elsewhere notNewest pastLimit testsOf releaseOrder acquireOrder unlockOrder workOrder
-    finishOrder refusalOf differs eagerCalls charged delayed figuresAfter callsFor runsOn switched waits afterRelease afterAcquire restored afterUnlock
+    finishOrder refusalOf differs eagerCalls charged delayed figuresAfter secondWord callsFor runsOn switched stays afterRelease afterAcquire restored afterUnlock
     wordsAfter lazyCall keptOf savedOf ownerOf
-    taskObeys lockObeys spareObeys obeys rowTest ownTest numberNew numberTest taskTest lockTest runsTest headTest spareTest soundTest
+    taskObeys lockObeys spareObeys obeys rowTest ownTest numberNew numberTest taskTest lockTest runsTest secondTest headTest spareTest soundTest
     afterOf answered actOf stepOf withRow onward runFrom replayAs replayOf
     digitsIn digits spaced line header runner rowWords rowLine rowLines callsLine delayedLine refusedLine reportOf
-printed = (refl, refl)
+printed = (refl, refl, refl)

@@ -1,4 +1,5 @@
--- RULES 15.1: what the program writes for the bytes on its standard input: the report of the replay of that book. Assumes nothing.
+-- RULES 15.1: what the program writes for the bytes on its standard input: the report of the replay of that book, by the protocol that is asked for.
+-- Assumes nothing.
 use mathlib.Core.List.{List}
 use Prim.Native.Nat.{ℕ, _*_}
 use lib.ListN.{take, replicate}
@@ -6,6 +7,7 @@ use Rattle.rules.specs.Books.Book.{checkedOf}
 use Rattle.rules.specs.Numbers.Capacity.{maxEvents}
 use Rattle.rules.specs.Replays.Replay.{replayOf}
 use Rattle.rules.specs.Replays.Run.{Ran}
+use Rattle.rules.specs.declared.protocol.Protocol.{Protocol}
 use Rattle.report.specs.Report.{reportOf}
 
 -- four row bytes for each event that a book may have, so 9 is never given
@@ -16,10 +18,10 @@ rowSpace = maxEvents * 4
 abbrev pub reportSpace : ℕ
 reportSpace = 262_144
 
-abbrev pub ranOf : List ℕ → Ran
-ranOf b = replayOf b (replicate rowSpace 0)
+abbrev pub ranOf : Protocol → List ℕ → Ran
+ranOf pr b = replayOf pr b (replicate rowSpace 0)
 
-abbrev pub textOf : List ℕ → List ℕ
-textOf b =
-    reportOf (ranOf b .verdict) (ranOf b .state .head .accepted) (ranOf b .rows) (ranOf b .state .head .lazy) (ranOf b .state .head .eager)
-    (take (checkedOf b rowSpace .plan .tasks) (ranOf b .state .delay))
+abbrev pub textOf : Protocol → List ℕ → List ℕ
+textOf pr b =
+    reportOf (ranOf pr b .verdict) (ranOf pr b .state .head .accepted) (ranOf pr b .rows) (ranOf pr b .state .head .lazy) (ranOf pr b .state .head .eager)
+    (take (checkedOf b rowSpace .plan .tasks) (ranOf pr b .state .delay))

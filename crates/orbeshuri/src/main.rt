@@ -1,10 +1,16 @@
-// RULES 15: the replay of a book, which is on standard input, and its report, on standard output.
+// RULES 15: the replay of a book, which is on standard input, and its report, on standard output. The word
+// `first` asks for the first protocol.
+mod words;
+
 use report::report;
 use rules::answer::Verdict;
 use rules::capacity::MAX_EVENTS;
 use rules::capacity::MAX_TASKS;
+use rules::protocol::Protocol;
 use rules::state::Head;
 use scheduler::replay;
+use words::Asked;
+use words::asked_by;
 ghost use mathlib.Core.Path.{_≡_};
 ghost use Prim.Native.Nat.{_≤_, min};
 ghost use lib.ListN.{length, take};
@@ -48,15 +54,15 @@ fn report_state(
 }
 
 // The whole text for a book at the front of `out`, and how many bytes it has. The bytes after it stay.
-fn text(book: &[u8], out: &mut [u8]) -> usize
+fn text(protocol: Protocol, book: &[u8], out: &mut [u8]) -> usize
     requires { ⌜ reportSpace ≤ length (now out) ⌝ }
-    ensures { λ r. ⌜ r ≡ length (textOf (now (book .entry))) ⌝ }
-    ensures { λ r. ⌜ take r (now (out .exit)) ≡ textOf (now (book .entry)) ⌝ }
-    ensures { λ _. ⌜ now (out .exit) ≡ stored (now (out .entry)) 0 (textOf (now (book .entry))) ⌝ }
+    ensures { λ r. ⌜ r ≡ length (textOf protocol (now (book .entry))) ⌝ }
+    ensures { λ r. ⌜ take r (now (out .exit)) ≡ textOf protocol (now (book .entry)) ⌝ }
+    ensures { λ _. ⌜ now (out .exit) ≡ stored (now (out .entry)) 0 (textOf protocol (now (book .entry))) ⌝ }
     ensures { λ r. ⌜ Counts r (now (out .exit)) ⌝ }
 {
     let mut rows = [0u8; ROW_SPACE];
-    let replayed = replay(book, &mut rows);
+    let replayed = replay(protocol, book, &mut rows);
     let verdict = replayed.verdict;
     let tasks = replayed.plan.tasks;
     let head = replayed.state.head;
@@ -66,10 +72,22 @@ fn text(book: &[u8], out: &mut [u8]) -> usize
 
 // RULES 15.7: the buffer is larger than the largest book. What is read of a longer input has the
 // report of all of it.
-fn main() {
+fn report_input(protocol: Protocol) {
     let mut book = io::large_buffer();
     let n = io::read_full(0, &mut book);
     let mut out = [0u8; REPORT_SPACE];
-    let size = text(&book[..n], &mut out);
+    let size = text(protocol, &book[..n], &mut out);
     io::write_all(1, &out[..size]);
+}
+
+// Words that ask for nothing are told to standard error, and nothing is replayed.
+fn main() {
+    let mut word = [0u8; 8];
+    let n = os::arg(1, &mut word);
+    match asked_by(os::arg_count(), &word[..n]) {
+        Asked::By(protocol) => report_input(protocol),
+        Asked::Unknown => {
+            io::write_all(2, b"usage: orbeshuri [first] <BOOK\n");
+        }
+    }
 }

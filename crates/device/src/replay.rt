@@ -25,11 +25,7 @@ pub struct DeviceReplay {
 // each accepted one with its four row bytes. No other byte of the rows changes. The protocol is named by
 // its number.
 #[no_mangle]
-pub extern "C" fn recorder_replay(
-    protocol: u8,
-    book: &[u8],
-    rows: &mut [u8],
-) -> DeviceReplay
+pub extern "C" fn recorder_replay(protocol: u8, book: &[u8], rows: &mut [u8]) -> DeviceReplay
     ensures { λ r. ⌜ r ≡ replaySpelled (replayOf (protocolNamed protocol) (now (book .entry)) (now (rows .entry)) .verdict)
         (checkedOf (now (book .entry)) (length (now (rows .entry))) .plan) (replayOf (protocolNamed protocol) (now (book .entry)) (now (rows .entry)) .state) ⌝ }
     ensures { λ _. ⌜ now (rows .exit) ≡ replayOf (protocolNamed protocol) (now (book .entry)) (now (rows .entry)) .rows ⌝ }

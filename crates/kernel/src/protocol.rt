@@ -19,12 +19,7 @@ fn second_word(protocol: Protocol, user: UserPriority, best: KernelPriority) -> 
 }
 
 // What an entry leaves where this task runs with this word: after any switch.
-pub fn entered(
-    protocol: Protocol,
-    running: u8,
-    user: UserPriority,
-    best: KernelPriority,
-) -> Turn
+pub fn entered(protocol: Protocol, running: u8, user: UserPriority, best: KernelPriority) -> Turn
     ensures { λ r. ⌜ r ≡ enteredTurn protocol running user (best .0) ⌝ }
 {
     Turn {

@@ -4,11 +4,15 @@ use mathlib.Core.Path.{_≡_, refl, sym, _∙_, ap}
 use mathlib.Core.Bool.{true, false}
 use Prim.Native.Nat.{ℕ}
 use contract.Lifetimes.{Lfts}
+use lib.ListN.{length}
 use denote.Ref.{now}
 use Rattle.rules.specs.Numbers.Choice.{if_then_else_}
 use Rattle.rules.specs.Books.Event.{eventOf}
 use Rattle.rules.specs.Books.Write.{Wrote, wroteWith}
+use Rattle.rules.specs.Books.Book.{checkedOf}
+use Rattle.rules.specs.Schedulers.Protocol.{protocolNamed}
 use Rattle.rules.specs.Replays.Run.{Ran}
+use Rattle.rules.specs.Replays.Replay.{ranAs, replayOf}
 use Rattle.rules.specs.declared.plan.Plan.{Plan}
 use Rattle.rules.specs.declared.state.State.{State}
 use Rattle.rules.specs.declared.answer.Checked.{Checked}
@@ -32,22 +36,28 @@ use Rattle.device.proofs.write.recorder_write.Reads as recorder-write
 pub check-for-host : (κs : Lfts 1) (a : _) (b c : _) (r : DeviceCheck) (q : Checked) → recorder-check.Post κs a r b → check.Post κs a q c → r ≡ checkSpelled q
 check-for-host κs a b c r q h k = h ∙ ap checkSpelled (sym k)
 
-pub replay-for-host : (κs : Lfts 2) (a : _) (b c : _) (r : DeviceReplay) (q : Replayed) → recorder-replay.Post κs a r b → replay.Post κs a q c
-    → (r ≡ replaySpelled (q .verdict) (q .plan) (q .state)) × (now (b .1 .0) ≡ now (c .1 .0))
-replay-for-host κs a b c r q h k = (
-  h .0 ∙ (λ i. let ran : Ran = sym (k .0) i in replaySpelled (ran .verdict) (sym (k .1) i) (ran .state)),
-  h .1 ∙ ap (λ (ran : Ran). ran .rows) (sym (k .0)),
-)
+-- the number that the host names stands for the protocol
+pub replay-for-host : (κs : Lfts 2) (a : _) (b : _) (r : DeviceReplay) (c : _) (d : _) (q : Replayed) → recorder-replay.Post κs a r b → replay.Post κs c q d
+    → c .0 ≡ protocolNamed (a .0) → now (c .1 .0) ≡ now (a .1 .0) → now (c .1 .1 .0) ≡ now (a .1 .1 .0)
+    → (r ≡ replaySpelled (q .verdict) (q .plan) (q .state)) × (now (b .1 .1 .0) ≡ now (d .1 .1 .0))
+replay-for-host κs a b r c d q h k by book rows =
+    let ran : ranAs q (now (d .1 .1 .0)) ≡ replayOf (protocolNamed (a .0)) (now (a .1 .0)) (now (a .1 .1 .0)) =
+    k .0 ∙ (λ i. replayOf (by i) (book i) (rows i)) in
+    let plan : q .plan ≡ checkedOf (now (a .1 .0)) (length (now (a .1 .1 .0))) .plan = k .1 ∙ (λ i. checkedOf (book i) (length (rows i)) .plan) in (
+      h .0 ∙ (λ i. let out : Ran = sym ran i in replaySpelled (out .verdict) (sym plan i) (out .state)),
+      h .1 ∙ ap (λ (out : Ran). out .rows) (sym ran),
+    )
 
 pub write-for-host : (κs : Lfts 5) (a : _) (b c : _) (r : DeviceWrite) (q : Written) → recorder-write.Post κs a r b → write.Post κs a q c
     → (r ≡ writeSpelled (wroteWith q (now (c .1 .1 .1 .1 .0)))) × (now (b .1 .1 .1 .1 .0) ≡ now (c .1 .1 .1 .1 .0))
 write-for-host κs a b c r q h k = (h .0 ∙ ap writeSpelled (sym k), h .1 ∙ ap (λ (w : Wrote). w .bytes) (sym k))
 
-module _ (p : Plan) (s : State) (kind id amount : ℕ) (r : DeviceStep)
-    (h : recorder-step.Post tt (p, (s, (kind, (id, (amount, tt))))) r (p, (s, (kind, (id, (amount, tt)))))) where
+module _ (number : ℕ) (p : Plan) (s : State) (kind id amount : ℕ) (r : DeviceStep)
+    (h : recorder-step.Post tt (number, (p, (s, (kind, (id, (amount, tt)))))) r (number, (p, (s, (kind, (id, (amount, tt))))))) where
   -- numbers that are an event's
   pub step-for-host : (q : Stepped) → noEvent kind id amount ≡ false
-      → step.Post tt (p, (s, (eventOf kind id amount, tt))) q (p, (s, (eventOf kind id amount, tt))) → r ≡ stepSpelled q
+      → step.Post tt (protocolNamed number, (p, (s, (eventOf kind id amount, tt)))) q (protocolNamed number, (p, (s, (eventOf kind id amount, tt))))
+      → r ≡ stepSpelled q
   unfolding if_then_else_
   step-for-host q e k = h ∙ rw e (ap stepSpelled (sym k))
 

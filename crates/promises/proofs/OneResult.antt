@@ -12,6 +12,7 @@ use Rattle.rules.specs.Books.Write.{Wrote, wroteWith}
 use Rattle.rules.specs.Replays.Run.{Ran}
 use Rattle.rules.specs.Replays.Replay.{ranAs}
 use Rattle.rules.specs.declared.plan.Plan.{Plan}
+use Rattle.rules.specs.declared.protocol.Protocol.{Protocol}
 use Rattle.rules.specs.declared.state.State.{State}
 use Rattle.rules.specs.declared.event.Event.{Event}
 use Rattle.rules.specs.declared.priority.KernelPriority.{KernelPriority}
@@ -37,6 +38,8 @@ use Rattle.device.proofs.write.recorder_write.Reads as recorder-write
 use Rattle.device.proofs.replay.recorder_replay.Reads as recorder-replay
 use Rattle.kernel.proofs.act.act.Reads as act
 use Rattle.rules.proofs.refusal.number.Reads as number
+use Rattle.rules.proofs.protocol.number.Reads as protocol-number
+use Rattle.rules.proofs.protocol.named.Reads as named
 use Rattle.rules.proofs.answer.verdict_number.Reads as verdict-number
 use Rattle.rules.proofs.answer.verdict_place.Reads as verdict-place
 use Rattle.rules.proofs.answer.answer_number.Reads as answer-number
@@ -58,6 +61,7 @@ use Rattle.figures.proofs.priority.user_byte.Reads as user-byte
 use Rattle.figures.proofs.priority.shown.Reads as shown
 use Rattle.figures.proofs.priority.recorded.Reads as recorded
 use Rattle.figures.proofs.priority.above.Reads as above
+use Rattle.figures.proofs.priority.at_most.Reads as at-most
 use Rattle.figures.proofs.priority.exceeds.Reads as exceeds
 use Rattle.figures.proofs.priority.calls_for.Reads as calls-for
 use Rattle.figures.proofs.priority.raised.Reads as raised
@@ -109,6 +113,12 @@ same-user r q e = λ i. record { 0 = e i }
 
 pub one-number : (a : _) (b c : _) (r q : ℕ) → number.Post tt a r b → number.Post tt a q c → r ≡ q
 one-number a b c r q h k = h ∙ sym k
+
+pub one-protocol-number : (a : _) (b c : _) (r q : ℕ) → protocol-number.Post tt a r b → protocol-number.Post tt a q c → r ≡ q
+one-protocol-number a b c r q h k = h ∙ sym k
+
+pub one-named : (a : _) (b c : _) (r q : Protocol) → named.Post tt a r b → named.Post tt a q c → r ≡ q
+one-named a b c r q h k = h ∙ sym k
 
 pub one-verdict-number : (a : _) (b c : _) (r q : ℕ) → verdict-number.Post tt a r b → verdict-number.Post tt a q c → r ≡ q
 one-verdict-number a b c r q h k = h ∙ sym k
@@ -174,6 +184,9 @@ one-recorded a b c r q h k = same-kernel r q (h ∙ sym k)
 
 pub one-above : (a : _) (b c : _) (r q : Bool) → above.Post tt a r b → above.Post tt a q c → r ≡ q
 one-above a b c r q h k = h ∙ sym k
+
+pub one-at-most : (a : _) (b c : _) (r q : Bool) → at-most.Post tt a r b → at-most.Post tt a q c → r ≡ q
+one-at-most a b c r q h k = h ∙ sym k
 
 pub one-exceeds : (a : _) (b c : _) (r q : Bool) → exceeds.Post tt a r b → exceeds.Post tt a q c → r ≡ q
 one-exceeds a b c r q h k = h ∙ sym k
@@ -287,11 +300,12 @@ same-ran r q x y ran p h k u v =
     let z : r .plan ≡ q .plan = u ∙ sym v in
     ((λ i. record { verdict = e i .verdict; plan = z i; state = e i .state }), ap (λ (w : Ran). w .rows) e)
 
-pub one-replay : (κs : Lfts 2) (a : _) (b c : _) (r q : Replayed) → replay.Post κs a r b → replay.Post κs a q c → (r ≡ q) × (now (b .1 .0) ≡ now (c .1 .0))
+pub one-replay : (κs : Lfts 2) (a : _) (b c : _) (r q : Replayed) → replay.Post κs a r b → replay.Post κs a q c
+    → (r ≡ q) × (now (b .1 .1 .0) ≡ now (c .1 .1 .0))
 one-replay κs a b c r q h k = same-ran r q _ _ _ _ (h .0) (k .0) (h .1) (k .1)
 
 pub one-recorder-replay : (κs : Lfts 2) (a : _) (b c : _) (r q : DeviceReplay) → recorder-replay.Post κs a r b → recorder-replay.Post κs a q c
-    → (r ≡ q) × (now (b .1 .0) ≡ now (c .1 .0))
+    → (r ≡ q) × (now (b .1 .1 .0) ≡ now (c .1 .1 .0))
 one-recorder-replay κs a b c r q h k = (h .0 ∙ sym (k .0), h .1 ∙ sym (k .1))
 
 same-written : (r q : Written) (x y : List ℕ) (wrote : Wrote) → wroteWith r x ≡ wrote → wroteWith q y ≡ wrote → (r ≡ q) × (x ≡ y)
@@ -337,15 +351,17 @@ one-build κs a b c r q h k few e = h few e ∙ sym (k few e)
 
 -- the answer, the head and every array that the act was lent to change, put together as a step; and the tournament
 pub one-act : (κs : Lfts 13) (a : _) (b c : _) (r q : Acted) → act.Post κs a r b → act.Post κs a q c
-    → (steppedAs r (now (b .1 .1 .1 .1 .1 .1 .1 .0)) (now (b .1 .1 .1 .1 .1 .1 .1 .1 .0)) (now (b .1 .1 .1 .1 .1 .1 .1 .1 .1 .0))
-    (now (b .1 .1 .1 .1 .1 .1 .1 .1 .1 .1 .0)) (now (b .1 .1 .1 .1 .1 .1 .1 .1 .1 .1 .1 .0)) (now (b .1 .1 .1 .1 .1 .1 .1 .1 .1 .1 .1 .1 .0))
+    → (steppedAs r (now (b .1 .1 .1 .1 .1 .1 .1 .1 .0)) (now (b .1 .1 .1 .1 .1 .1 .1 .1 .1 .0)) (now (b .1 .1 .1 .1 .1 .1 .1 .1 .1 .1 .0))
+    (now (b .1 .1 .1 .1 .1 .1 .1 .1 .1 .1 .1 .0)) (now (b .1 .1 .1 .1 .1 .1 .1 .1 .1 .1 .1 .1 .0))
     (now (b .1 .1 .1 .1 .1 .1 .1 .1 .1 .1 .1 .1 .1 .0)) (now (b .1 .1 .1 .1 .1 .1 .1 .1 .1 .1 .1 .1 .1 .1 .0))
-    ≡ steppedAs q (now (c .1 .1 .1 .1 .1 .1 .1 .0)) (now (c .1 .1 .1 .1 .1 .1 .1 .1 .0)) (now (c .1 .1 .1 .1 .1 .1 .1 .1 .1 .0))
-    (now (c .1 .1 .1 .1 .1 .1 .1 .1 .1 .1 .0)) (now (c .1 .1 .1 .1 .1 .1 .1 .1 .1 .1 .1 .0)) (now (c .1 .1 .1 .1 .1 .1 .1 .1 .1 .1 .1 .1 .0))
-    (now (c .1 .1 .1 .1 .1 .1 .1 .1 .1 .1 .1 .1 .1 .0)) (now (c .1 .1 .1 .1 .1 .1 .1 .1 .1 .1 .1 .1 .1 .1 .0)))
-    × (now (b .1 .1 .1 .1 .1 .1 .1 .1 .1 .1 .1 .1 .1 .1 .1 .0) ≡ now (c .1 .1 .1 .1 .1 .1 .1 .1 .1 .1 .1 .1 .1 .1 .1 .0))
+    (now (b .1 .1 .1 .1 .1 .1 .1 .1 .1 .1 .1 .1 .1 .1 .1 .0))
+    ≡ steppedAs q (now (c .1 .1 .1 .1 .1 .1 .1 .1 .0)) (now (c .1 .1 .1 .1 .1 .1 .1 .1 .1 .0)) (now (c .1 .1 .1 .1 .1 .1 .1 .1 .1 .1 .0))
+    (now (c .1 .1 .1 .1 .1 .1 .1 .1 .1 .1 .1 .0)) (now (c .1 .1 .1 .1 .1 .1 .1 .1 .1 .1 .1 .1 .0))
+    (now (c .1 .1 .1 .1 .1 .1 .1 .1 .1 .1 .1 .1 .1 .0)) (now (c .1 .1 .1 .1 .1 .1 .1 .1 .1 .1 .1 .1 .1 .1 .0))
+    (now (c .1 .1 .1 .1 .1 .1 .1 .1 .1 .1 .1 .1 .1 .1 .1 .0)))
+    × (now (b .1 .1 .1 .1 .1 .1 .1 .1 .1 .1 .1 .1 .1 .1 .1 .1 .0) ≡ now (c .1 .1 .1 .1 .1 .1 .1 .1 .1 .1 .1 .1 .1 .1 .1 .1 .0))
 one-act κs a b c r q h k = (
   h .0 ∙ sym (k .0),
-  h .1 ∙ ap₂ (tournamentOf (a .1 .0)) (ap (λ (x : Stepped). x .state .released) (h .0 ∙ sym (k .0))) (ap (λ (x : Stepped). x .state .kept) (h .0 ∙ sym (k .0)))
+  h .1 ∙ ap₂ (tournamentOf (a .1 .1 .0)) (ap (λ (x : Stepped). x .state .released) (h .0 ∙ sym (k .0))) (ap (λ (x : Stepped). x .state .kept) (h .0 ∙ sym (k .0)))
       ∙ sym (k .1),
 )

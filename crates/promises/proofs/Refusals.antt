@@ -7,6 +7,7 @@ use Rattle.rules.specs.Replays.Run.{Ran}
 use Rattle.rules.specs.Replays.Replay.{ranAs}
 use Rattle.rules.specs.Demands.Demand1.{StepRefuses, LoadRefuses, BookRefuses, ReplayRefuses, WriteRefuses}
 use Rattle.rules.specs.declared.plan.Plan.{Plan}
+use Rattle.rules.specs.declared.protocol.Protocol.{Protocol}
 use Rattle.rules.specs.declared.state.State.{State}
 use Rattle.rules.specs.declared.event.Event.{Event}
 use Rattle.rules.specs.declared.answer.Stepped.{Stepped}
@@ -22,8 +23,9 @@ use Rattle.scheduler.proofs.step.Reads as step
 use Rattle.scheduler.proofs.replay.Reads as replay
 
 -- any plan, any state, any event
-pub step-refuses : (p : Plan) (s : State) (e : Event) (r : Stepped) → step.Post tt (p, (s, (e, tt))) r (p, (s, (e, tt))) → StepRefuses p s e r
-step-refuses p s e r h = subst (StepRefuses p s e) (sym h) (demand1 .step p s e)
+pub step-refuses : (pr : Protocol) (p : Plan) (s : State) (e : Event) (r : Stepped) → step.Post tt (pr, (p, (s, (e, tt)))) r (pr, (p, (s, (e, tt))))
+    → StepRefuses pr p s e r
+step-refuses pr p s e r h = subst (StepRefuses pr p s e) (sym h) (demand1 .step pr p s e)
 
 -- any records
 pub load-refuses : (κs : Lfts 3) (a : _) (b : _) (r : Loaded) → load.Post κs a r b → LoadRefuses (now (a .0)) (now (a .1 .0)) (now (a .1 .1 .0)) r
@@ -36,8 +38,9 @@ check-refuses κs a b r h = subst (BookRefuses (now (a .0)) (a .1 .0)) (sym h) (
 
 -- and the rows of a book that is refused: every byte stays
 pub replay-refuses : (κs : Lfts 2) (a : _) (b : _) (r : Replayed) → replay.Post κs a r b
-    → ReplayRefuses (now (a .0)) (now (a .1 .0)) (ranAs r (now (b .1 .0)))
-replay-refuses κs a b r h = subst (λ (x : Ran). ReplayRefuses (now (a .0)) (now (a .1 .0)) x) (sym (h .0)) (demand1 .replay (now (a .0)) (now (a .1 .0)))
+    → ReplayRefuses (now (a .1 .0)) (now (a .1 .1 .0)) (ranAs r (now (b .1 .1 .0)))
+replay-refuses κs a b r h = subst (λ (x : Ran). ReplayRefuses (now (a .1 .0)) (now (a .1 .1 .0)) x) (sym (h .0))
+    (demand1 .replay (a .0) (now (a .1 .0)) (now (a .1 .1 .0)))
 
 -- any records, with any buffer: every byte of it stays
 pub write-refuses : (κs : Lfts 5) (a : _) (b : _) (r : Written) → write.Post κs a r b

@@ -11,6 +11,7 @@ use Rattle.rules.specs.Replays.Step.{stepOf}
 use Rattle.rules.specs.Demands.History.{eventAt, lazyAt}
 use Rattle.rules.specs.Demands.Demand2.{Demand2}
 use Rattle.rules.specs.declared.plan.Plan.{Plan}
+use Rattle.rules.specs.declared.protocol.Protocol.{Protocol}
 use Rattle.rules.specs.declared.state.State.{State}
 use Rattle.rules.specs.declared.event.Event.{Event}
 use Rattle.rules.specs.declared.answer.Stepped.{Stepped}
@@ -19,39 +20,42 @@ use Rattle.rules.proofs.Demands.Fair.{fair}
 use Rattle.rules.proofs.Demands.Jobs.{lateAt, delays-same, delay-counted}
 use Rattle.promises.specs.Stepping.{StepsTo, ComesTo, StepAt}
 
-module _ {p : Plan} (O : Obeys p) (es : List Event) where
+module _ (pr : Protocol) {p : Plan} (O : Obeys p) (es : List Event) where
   -- the state is the history's
-  comes-to : (k : ℕ) (s : State) → ComesTo p es k s → s ≡ lazyAt p es k
+  comes-to : (k : ℕ) (s : State) → ComesTo pr p es k s → s ≡ lazyAt pr p es k
   unfolding ComesTo lazyAt
   comes-to zero s h = h
   comes-to (suc k) s (t, r, before, stepped, e) =
-      e ∙ ap (λ (q : Stepped). q .state) stepped ∙ ap (λ (u : State). stepOf p u (eventAt es k) .state) (comes-to k t before)
+      e ∙ ap (λ (q : Stepped). q .state) stepped ∙ ap (λ (u : State). stepOf pr p u (eventAt es k) .state) (comes-to k t before)
 
-  at-place : (k : ℕ) → StepAt p es k (stepOf p (lazyAt p es k) (eventAt es k))
+  at-place : (k : ℕ) → StepAt pr p es k (stepOf pr p (lazyAt pr p es k) (eventAt es k))
   unfolding lazyAt
   at-place k =
-      let D : Demand2 p es k = demand2 O es k in
-      let E : Demand2 p es (suc k) = demand2 O es (suc k) in
+      let D : Demand2 pr p es k = demand2 pr O es k in
+      let E : Demand2 pr p es (suc k) = demand2 pr O es (suc k) in
       record {
         figures = E .figures;
         running = E .running;
         user = E .user;
-        next = E .next;
+        covers = E .covers;
+        atMost = E .atMost;
+        word = E .word;
         oneHolder = subst (λ f. (x y l : ℕ) → holds f x l ≡ true → holds f y l ≡ true → x ≡ y) (sym (E .figures)) (E .oneHolder);
         lazy = E .lazy;
         eager = E .eager;
-        fair = fair O es (suc k) .reported;
-        delays = delay-counted O es (suc k);
-        bounded = λ t n h. omega (arith, h, delays-same O es (suc k) t, lateAt O es (suc k) .bounded t);
+        fair = fair O es pr (suc k) .reported;
+        delays = delay-counted O es pr (suc k);
+        bounded = λ t n h. omega (arith, h, delays-same O es pr (suc k) t, lateAt O es (suc k) .bounded t);
         number = D .answers;
         no10 = D .no10;
         no17 = D .no17;
         once = D .calls;
         unlock = D .unlock;
+        outranked = D .outranked;
         acquire = D .acquire;
       }
 
   -- at every place of every list
-  pub steps-keep : (k : ℕ) (s : State) (r : Stepped) → ComesTo p es k s → StepsTo p es k s r → StepAt p es k r
+  pub steps-keep : (k : ℕ) (s : State) (r : Stepped) → ComesTo pr p es k s → StepsTo pr p es k s r → StepAt pr p es k r
   steps-keep k s r before stepped =
-      subst (StepAt p es k) (sym (stepped ∙ ap (λ (u : State). stepOf p u (eventAt es k)) (comes-to k s before))) (at-place k)
+      subst (StepAt pr p es k) (sym (stepped ∙ ap (λ (u : State). stepOf pr p u (eventAt es k)) (comes-to k s before))) (at-place k)

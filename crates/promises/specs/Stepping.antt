@@ -1,6 +1,6 @@
--- RULES 14.2, 14.3, 14.6: a run of `step` from a fresh start, call by call, and what is promised of each answer. Assumes nothing.
+-- RULES 14.2, 14.3, 14.6: a run of `step` from a fresh start by either protocol, call by call, and what is promised of each answer. Assumes nothing.
 use mathlib.Core.Path.{_≡_}
-use mathlib.Core.Logic.{_≢_, _↔_}
+use mathlib.Core.Logic.{_≢_}
 use mathlib.Core.Bool.{true}
 use mathlib.Core.List.{List}
 use Prim.Native.Nat.{ℕ, zero, suc, _≤_}
@@ -9,8 +9,9 @@ use Rattle.rules.specs.Numbers.Answer.{answerNumber, answerCalls, testedNumber}
 use Rattle.rules.specs.Schedulers.Eager.{eagerTest}
 use Rattle.rules.specs.Schedulers.Figures.{figuresOf, holds, rankOf}
 use Rattle.rules.specs.Demands.History.{eventAt, eagerAt, runnerAt, acceptedAt, lazyCount, eagerCount, delayCount}
-use Rattle.rules.specs.Demands.Demand2.{NextWord, Outranked}
+use Rattle.rules.specs.Demands.Demand2.{Covers, Outranked, OwnWord, OwnCall}
 use Rattle.rules.specs.declared.plan.Plan.{Plan}
+use Rattle.rules.specs.declared.protocol.Protocol.{Protocol}
 use Rattle.rules.specs.declared.state.State.{State}
 use Rattle.rules.specs.declared.event.Event.{Event}
 use Rattle.rules.specs.declared.event.Event.the-variants.{Acquire, Unlock}
@@ -20,25 +21,28 @@ use Rattle.plan.proofs.bound.Reads as bound
 use Rattle.scheduler.proofs.step.Reads as step
 
 -- what `step` may answer of the event at place k of a list, in state s
-abbrev pub StepsTo : Plan → List Event → ℕ → State → Stepped → Type 0
-StepsTo p es k s r = step.Post tt (p, (s, (eventAt es k, tt))) r (p, (s, (eventAt es k, tt)))
+abbrev pub StepsTo : Protocol → Plan → List Event → ℕ → State → Stepped → Type 0
+StepsTo pr p es k s r = step.Post tt (pr, (p, (s, (eventAt es k, tt)))) r (pr, (p, (s, (eventAt es k, tt))))
 
 -- calls of `step` have come to state s before place k: `fresh` gives the first state, and each call is handed the state that the one before it answered
-unfoldable pub ComesTo : Plan → List Event → ℕ → State → Type 0
-ComesTo p es zero s = fresh.Post tt tt s tt
-ComesTo p es (suc k) s = (t : State) × (r : Stepped) × ComesTo p es k t × StepsTo p es k t r × (s ≡ r .state)
+unfoldable pub ComesTo : Protocol → Plan → List Event → ℕ → State → Type 0
+ComesTo pr p es zero s = fresh.Post tt tt s tt
+ComesTo pr p es (suc k) s = (t : State) × (r : Stepped) × ComesTo pr p es k t × StepsTo pr p es k t r × (s ≡ r .state)
 
 -- what is promised of the answer r to the event at place k
-pub record StepAt (p : Plan) (es : List Event) (k : ℕ) (r : Stepped) : Type 0 where
-  -- the state after it has the eager scheduler's figures; its task runs, the user word is that task's priority, and the next word the greatest of the others
+pub record StepAt (pr : Protocol) (p : Plan) (es : List Event) (k : ℕ) (r : Stepped) : Type 0 where
+  -- the state after it has the eager scheduler's figures; its task runs, the user word is that task's priority, and the second word lies between the priorities
+  -- of the others and the user word, and is the protocol's own
   pub figures : figuresOf (r .state) ≡ eagerAt p es (suc k)
   pub running : r .state .head .running ≡ runnerAt p es (suc k)
   pub user : r .state .head .user .0 ≡ rankOf p (eagerAt p es (suc k)) (runnerAt p es (suc k))
-  pub next : NextWord p (eagerAt p es (suc k)) (runnerAt p es (suc k)) (r .state .head .next .0)
+  pub covers : Covers p (eagerAt p es (suc k)) (runnerAt p es (suc k)) (r .state .head .next .0)
+  pub atMost : r .state .head .next .0 ≤ r .state .head .user .0
+  pub word : OwnWord pr p es (suc k) (r .state .head .next .0)
   -- no lock has two holders; both call counts and each delay are the history's, the lazy calls are no more than the eager ones, and no delay passes the
   -- bound that `plan::bound` gives
   pub oneHolder : (x y l : ℕ) → holds (figuresOf (r .state)) x l ≡ true → holds (figuresOf (r .state)) y l ≡ true → x ≡ y
-  pub lazy : r .state .head .lazy ≡ lazyCount p es (suc k)
+  pub lazy : r .state .head .lazy ≡ lazyCount pr p es (suc k)
   pub eager : r .state .head .eager ≡ eagerCount p es (suc k)
   pub fair : r .state .head .lazy ≤ r .state .head .eager
   pub delays : (t : ℕ) → at (r .state .delay) t ≡ delayCount p es t (suc k)
@@ -47,7 +51,9 @@ pub record StepAt (p : Plan) (es : List Event) (k : ℕ) (r : Stepped) : Type 0 
   pub number : answerNumber (r .answer) ≡ testedNumber (eagerTest p (eagerAt p es k) (eventAt es k))
   pub no10 : answerNumber (r .answer) ≢ 10
   pub no17 : answerNumber (r .answer) ≢ 17
-  -- an accepted unlock calls once exactly where another released task strictly outranks the restored priority; an acquire never calls
+  -- an accepted unlock calls once by the protocol's own rule, and in either where another released task strictly outranks the restored priority; an acquire
+  -- never calls
   pub once : answerCalls (r .answer) ≤ 1
-  pub unlock : (l : ℕ) → eventAt es k ≡ Unlock l → acceptedAt p es k ≡ true → (answerCalls (r .answer) ≡ 1) ↔ Outranked p (eagerAt p es k) (runnerAt p es k) l
+  pub unlock : (l : ℕ) → eventAt es k ≡ Unlock l → acceptedAt p es k ≡ true → OwnCall pr p es k l (answerCalls (r .answer))
+  pub outranked : (l : ℕ) → eventAt es k ≡ Unlock l → acceptedAt p es k ≡ true → Outranked p (eagerAt p es k) (runnerAt p es k) l → answerCalls (r .answer) ≡ 1
   pub acquire : (l : ℕ) → eventAt es k ≡ Acquire l → answerCalls (r .answer) ≡ 0

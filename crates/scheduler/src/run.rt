@@ -171,13 +171,7 @@ pub fn run_from(
 }
 
 // The first n events of a body, from a fresh start.
-pub fn run(
-    protocol: Protocol,
-    p: Plan,
-    body: &[u8],
-    n: usize,
-    rows: &mut [u8],
-) -> Replayed
+pub fn run(protocol: Protocol, p: Plan, body: &[u8], n: usize, rows: &mut [u8]) -> Replayed
     requires { ⌜ RunReady protocol p freshOf n (now rows) ⌝ }
     ensures { λ r. ⌜ (ranAs r (now (rows .exit)) ≡ runFrom protocol p (from (eventIn (now (body .entry))) 0 n) 0 freshOf (now (rows .entry))) × (r .plan ≡ p) ⌝ }
 {

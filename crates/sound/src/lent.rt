@@ -57,9 +57,7 @@ pub fn parts_sound(
     ) {
         return false;
     }
-    if !head_sound(
-        protocol, h, n, base, ceiling, released, kept, depth, takes,
-    ) {
+    if !head_sound(protocol, h, n, base, ceiling, released, kept, depth, takes) {
         return false;
     }
     if !locks_sound(n, m, limit, depth, takes, units, owner) {

@@ -20,7 +20,7 @@ use Rattle.rules.specs.Soundness.Sound.{keptOf, savedOf, SoundSecond}
 use Rattle.rules.specs.Replays.Step.{afterOf, answered, actOf, stepOf}
 use Rattle.rules.specs.Numbers.Answer.{passes, testedNumber, answerNumber, answerCalls}
 use Rattle.rules.specs.Demands.History.{eventAt, eagerAt, lazyAt, runnerAt, acceptedAt, restoredOf, kernelAt}
-use Rattle.rules.specs.Demands.Demand2.{Covers, NextWord, Outranked, SecondRule, FirstRule, OwnRule, Demand2}
+use Rattle.rules.specs.Demands.Demand2.{Covers, NextWord, Outranked, OwnWord, OwnCall, Demand2}
 use Rattle.rules.specs.declared.plan.Plan.{Plan}
 use Rattle.rules.specs.declared.protocol.Protocol.{Protocol}
 use Rattle.rules.specs.declared.protocol.Protocol.the-variants.{Second, First}
@@ -119,8 +119,7 @@ module _ {pr : Protocol} {p : Plan} {s : State} (F : Follows pr p s) where
   unlock-by l X a rule =
       let z : refusalOf p f (s .head .running) (Unlock l) ≡ Tested.Passed = sym (same-test F (Unlock l)) ∙ passes-so _ a in
       let c : answerCalls (stepOf pr p s (Unlock l) .answer) ≡ (if callsFor (backOf (wordsOf s)) (s .head .next .0) then 1 else 0) = calls-are (Unlock l)
-      ∙ if-true _ _ 0 a in
-      (
+      ∙ if-true _ _ 0 a in (
         λ q. by-test (callsFor (backOf (wordsOf s)) (s .head .next .0)) (λ e. rule z .0 e)
             (λ e. absurd (omega (arith, c, if-false {A = ℕ} (callsFor (backOf (wordsOf s)) (s .head .next .0)) 1 0 e))),
         λ q. c ∙ if-true _ 1 0 (rule z .1 q),
@@ -166,18 +165,22 @@ module _ {p : Plan} (O : Obeys p) (es : List Event) (k : ℕ) where
   unfolding acceptedAt
   accepted-here pr l q a = rw (same-figures pr O es k) (subst (λ e. passes (eagerTest p (eagerAt p es k) e) ≡ true) q a)
 
-  own-rule : (pr : Protocol) → OwnRule pr p es k
-  unfolding OwnRule KernelIs
-  own-rule Second = record {
-    next = rw (← same-figures Second O es k) (next-by (follows Second O es k));
-    unlock = λ l q a. rw (q, ← same-figures Second O es k) (second-unlock (follows Second O es k) l (accepted-here Second l q a));
-  }
-  own-rule First = record {
-    kernel = sym (kernel-is First O es k);
-    unlock = λ l q a. rw (q, ← same-figures First O es k, kernel-is First O es k) (unlock-word (follows First O es k) l (accepted-here First l q a));
-    outranked = λ l q a r. rw q (unlock-outranked (follows First O es k) l (accepted-here First l q a)
-        (subst (λ (f : Figures). Outranked p f (runningOf p f) l) (sym (same-figures First O es k)) r));
-  }
+  own-word : (pr : Protocol) → OwnWord pr p es k (lazyAt pr p es k .head .next .0)
+  unfolding OwnWord KernelIs
+  own-word Second = rw (← same-figures Second O es k) (next-by (follows Second O es k))
+  own-word First = sym (kernel-is First O es k)
+
+  own-call : (pr : Protocol) (l : ℕ) → eventAt es k ≡ Unlock l → acceptedAt p es k ≡ true
+      → OwnCall pr p es k l (answerCalls (stepOf pr p (lazyAt pr p es k) (eventAt es k) .answer))
+  unfolding OwnCall KernelIs
+  own-call Second l q a = rw (q, ← same-figures Second O es k) (second-unlock (follows Second O es k) l (accepted-here Second l q a))
+  own-call First l q a =
+      rw (q, ← same-figures First O es k, kernel-is First O es k) (unlock-word (follows First O es k) l (accepted-here First l q a))
+
+  always-calls : (pr : Protocol) (l : ℕ) → eventAt es k ≡ Unlock l → acceptedAt p es k ≡ true → Outranked p (eagerAt p es k) (runnerAt p es k) l
+      → answerCalls (stepOf pr p (lazyAt pr p es k) (eventAt es k) .answer) ≡ 1
+  always-calls pr l q a h = rw q (unlock-outranked (follows pr O es k) l (accepted-here pr l q a)
+      (subst (λ (f : Figures). Outranked p f (runningOf p f) l) (sym (same-figures pr O es k)) h))
 
 pub demand2 : (pr : Protocol) {p : Plan} → Obeys p → (es : List Event) (k : ℕ) → Demand2 pr p es k
 demand2 pr {p} O es k =
@@ -196,13 +199,15 @@ demand2 pr {p} O es k =
       covers = subst (λ (f : Figures). Covers p f (runningOf p f) (lazyAt pr p es k .head .next .0)) E
           (rw (← F .running) (F .covers));
       atMost = F .atMost;
+      word = own-word O es k pr;
       kept = λ x. F .sound .sound .words .kept x ∙ ap₂ (λ f r. keptOf p f r x) E (same-running pr O es k);
       saved = λ x. F .sound .sound .words .saved x ∙ ap (λ f. savedOf p f x) E;
       answers = number;
       oneHolder = R .figured .alone;
       no10 = λ q. never10 p (eagerAt p es k) e (sym number ∙ q);
       no17 = λ q. never17 O R e (sym number ∙ q);
-      rule = own-rule O es k pr;
+      unlock = own-call O es k pr;
+      outranked = always-calls O es k pr;
       calls = calls-few F e;
       acquire = λ l q. rw q (acquire-by F l);
       lazy = lazy-counted pr O es k;

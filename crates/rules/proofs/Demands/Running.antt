@@ -19,11 +19,10 @@ use Rattle.rules.specs.Replays.Step.{stepOf}
 use Rattle.rules.specs.Numbers.Answer.{passes, testedNumber, answerNumber, answerCalls, verdictNumber, verdictPlace}
 use Rattle.rules.specs.Replays.Run.{Ran, withRow, onward, runFrom}
 use Rattle.rules.specs.Demands.History.{eventAt, eagerAt, lazyAt, acceptedAt, callsDue, kernelAt, callsAt}
-use Rattle.rules.specs.Demands.Demand2.{OwnRule, Demand2}
-use Rattle.rules.specs.Demands.Replayed.{OwnRow, RowAt, RanUpTo}
+use Rattle.rules.specs.Demands.Demand2.{Demand2}
+use Rattle.rules.specs.Demands.Replayed.{RowAt, RanUpTo}
 use Rattle.rules.specs.declared.plan.Plan.{Plan}
 use Rattle.rules.specs.declared.protocol.Protocol.{Protocol}
-use Rattle.rules.specs.declared.protocol.Protocol.the-variants.{Second, First}
 use Rattle.rules.specs.declared.state.Head.{Head}
 use Rattle.rules.specs.declared.state.State.{State}
 use Rattle.rules.specs.declared.answer.Answer.{Answer}
@@ -42,13 +41,6 @@ use Rattle.rules.proofs.Demands.History.{passedAt, all-counted}
 use Rattle.rules.proofs.Demands.Jobs.{lateAt, delays-same, delay-counted, demand3}
 use Rattle.rules.proofs.Replays.RowBytes.{row-length, row-other, row-running, row-user, row-next, row-call}
 use Rattle.rules.proofs.Replays.OneStep.{step-accepts, step-refused, step-call}
-
--- what is the protocol's own of a row: its second word by the place after it, and its call by the place before it
-own-row : (pr : Protocol) (p : Plan) (es : List Event) (k : ℕ) → OwnRule pr p es (suc k) → OwnRule pr p es k → acceptedAt p es k ≡ true
-    → OwnRow pr p es k (lazyAt pr p es (suc k) .head .next .0) (answerCalls (stepOf pr p (lazyAt pr p es k) (eventAt es k) .answer))
-unfolding OwnRule OwnRow
-own-row Second p es k after before a = record { others = after .next; unlock = λ l e. before .unlock l e a }
-own-row First p es k after before a = record { kernel = after .kernel; unlock = λ l e. before .unlock l e a; outranked = λ l e. before .outranked l e a }
 
 -- the run has come to place k, and the row bytes are xs; at the start they were rows
 record SoFar (pr : Protocol) (p : Plan) (es : List Event) (rows : List ℕ) (k : ℕ) (xs : List ℕ) : Type 0 where
@@ -102,9 +94,11 @@ module _ (pr : Protocol) {p : Plan} (O : Obeys p) (es : List Event) (rows : List
           own = D .user;
           covers = D .covers;
           atMost = D .atMost;
+          word = D .word;
           due = due-here;
           once = rw (← calls-here) (demand2 pr O es k .calls);
-          rule = rw (← calls-here) (own-row pr p es k (D .rule) (demand2 pr O es k .rule) accepted-here);
+          unlock = λ l e. rw (← calls-here) (demand2 pr O es k .unlock l e accepted-here);
+          outranked = λ l e h. sym calls-here ∙ demand2 pr O es k .outranked l e accepted-here h;
           acquire = λ l e. sym calls-here ∙ demand2 pr O es k .acquire l e;
         })
 

@@ -39,26 +39,16 @@ pub record NextWord (p : Plan) (f : Figures) (r w : ℕ) : Type 0 where
 abbrev pub Outranked : Plan → Figures → ℕ → ℕ → Type 0
 Outranked p f r l = (y : ℕ) × (y ≢ r) × (0 < at (f .released) y) × (priorityOf p (figuresAfter p f r (Unlock l)) r < priorityOf p f y)
 
--- whether the event at place k makes a call, as the answer to it says
-abbrev CallsAt : Protocol → Plan → List Event → ℕ → Type 0
-CallsAt pr p es k = answerCalls (stepOf pr p (lazyAt pr p es k) (eventAt es k) .answer) ≡ 1
+-- what is the protocol's own of the second word at place k: the next word is the greatest priority of the others, and the kernel word is the history's
+unfoldable pub OwnWord : Protocol → Plan → List Event → ℕ → (word : ℕ) → Type 0
+OwnWord Second p es k word = NextWord p (eagerAt p es k) (runnerAt p es k) word
+OwnWord First p es k word = word ≡ kernelAt p es k
 
--- the second protocol's own: the next word is the greatest priority of the others, and an accepted unlock is a call exactly where another released task is
--- strictly above the restored priority
-pub record SecondRule (p : Plan) (es : List Event) (k : ℕ) : Type 0 where
-  pub next : NextWord p (eagerAt p es k) (runnerAt p es k) (lazyAt Second p es k .head .next .0)
-  pub unlock : (l : ℕ) → eventAt es k ≡ Unlock l → acceptedAt p es k ≡ true → CallsAt Second p es k ↔ Outranked p (eagerAt p es k) (runnerAt p es k) l
-
--- the first protocol's own: the kernel word is the history's, and an accepted unlock is a call exactly where it is strictly above the restored priority; so
--- always where another released task is
-pub record FirstRule (p : Plan) (es : List Event) (k : ℕ) : Type 0 where
-  pub kernel : lazyAt First p es k .head .next .0 ≡ kernelAt p es k
-  pub unlock : (l : ℕ) → eventAt es k ≡ Unlock l → acceptedAt p es k ≡ true → CallsAt First p es k ↔ (restoredOf p (eagerAt p es k) l < kernelAt p es k)
-  pub outranked : (l : ℕ) → eventAt es k ≡ Unlock l → acceptedAt p es k ≡ true → Outranked p (eagerAt p es k) (runnerAt p es k) l → CallsAt First p es k
-
-unfoldable pub OwnRule : Protocol → Plan → List Event → ℕ → Type 0
-OwnRule Second p es k = SecondRule p es k
-OwnRule First p es k = FirstRule p es k
+-- and of the calls of an accepted unlock of l there: one call exactly where another released task is strictly above the restored priority, or exactly where
+-- the kernel word is
+unfoldable pub OwnCall : Protocol → Plan → List Event → ℕ → (l call : ℕ) → Type 0
+OwnCall Second p es k l call = (call ≡ 1) ↔ Outranked p (eagerAt p es k) (runnerAt p es k) l
+OwnCall First p es k l call = (call ≡ 1) ↔ (restoredOf p (eagerAt p es k) l < kernelAt p es k)
 
 pub record Demand2 (pr : Protocol) (p : Plan) (es : List Event) (k : ℕ) : Type 0 where
   -- the lazy scheduler runs the eager scheduler's task, in a state with the same figures
@@ -72,6 +62,7 @@ pub record Demand2 (pr : Protocol) (p : Plan) (es : List Event) (k : ℕ) : Type
   pub user : lazyAt pr p es k .head .user .0 ≡ rankOf p (eagerAt p es k) (runnerAt p es k)
   pub covers : Covers p (eagerAt p es k) (runnerAt p es k) (lazyAt pr p es k .head .next .0)
   pub atMost : lazyAt pr p es k .head .next .0 ≤ lazyAt pr p es k .head .user .0
+  pub word : OwnWord pr p es k (lazyAt pr p es k .head .next .0)
   pub kept : (x : ℕ) → at (lazyAt pr p es k .kept) x ≡ keptOf p (eagerAt p es k) (runnerAt p es k) x
   pub saved : (x : ℕ) → at (lazyAt pr p es k .saved) x ≡ savedOf p (eagerAt p es k) x
   -- both schedulers accept and refuse the same events with the same numbers
@@ -80,8 +71,12 @@ pub record Demand2 (pr : Protocol) (p : Plan) (es : List Event) (k : ℕ) : Type
   pub oneHolder : (x y l : ℕ) → holds (eagerAt p es k) x l ≡ true → holds (eagerAt p es k) y l ≡ true → x ≡ y
   pub no10 : answerNumber (stepOf pr p (lazyAt pr p es k) (eventAt es k) .answer) ≢ 10
   pub no17 : answerNumber (stepOf pr p (lazyAt pr p es k) (eventAt es k) .answer) ≢ 17
-  -- an event is one call or none, an unlock by the protocol's own rule; no acquire is a call
-  pub rule : OwnRule pr p es k
+  -- an event is one call or none; an accepted unlock is one by the protocol's own rule, and in either where another released task is strictly above the
+  -- restored priority; no acquire is a call
+  pub unlock : (l : ℕ) → eventAt es k ≡ Unlock l → acceptedAt p es k ≡ true
+      → OwnCall pr p es k l (answerCalls (stepOf pr p (lazyAt pr p es k) (eventAt es k) .answer))
+  pub outranked : (l : ℕ) → eventAt es k ≡ Unlock l → acceptedAt p es k ≡ true → Outranked p (eagerAt p es k) (runnerAt p es k) l
+      → answerCalls (stepOf pr p (lazyAt pr p es k) (eventAt es k) .answer) ≡ 1
   pub calls : answerCalls (stepOf pr p (lazyAt pr p es k) (eventAt es k) .answer) ≤ 1
   pub acquire : (l : ℕ) → eventAt es k ≡ Acquire l → answerCalls (stepOf pr p (lazyAt pr p es k) (eventAt es k) .answer) ≡ 0
   -- both call counts in the state are the counts over the history

@@ -15,33 +15,16 @@ use Rattle.rules.specs.Schedulers.Eager.{eagerTest}
 use Rattle.rules.specs.Replays.Run.{Ran}
 use Rattle.rules.specs.Replays.Replay.{replayOf}
 use Rattle.rules.specs.Demands.Bound.{boundOf}
-use Rattle.rules.specs.Demands.History.{eventAt, eagerAt, lazyAt, runnerAt, acceptedAt, restoredOf, kernelAt, callsAt}
+use Rattle.rules.specs.Demands.History.{eventAt, eagerAt, lazyAt, runnerAt, acceptedAt, callsAt}
 use Rattle.rules.specs.Demands.History.{lazyCount, eagerCount, delayCount}
 use Rattle.rules.specs.Demands.Job.{Accepted, Does, Job, lowerTotal}
-use Rattle.rules.specs.Demands.Demand2.{Foremost, Covers, NextWord, Outranked}
+use Rattle.rules.specs.Demands.Demand2.{Foremost, Covers, Outranked, OwnWord, OwnCall}
 use Rattle.rules.specs.Demands.Demand3.{Demand3}
 use Rattle.rules.specs.declared.plan.Plan.{Plan}
 use Rattle.rules.specs.declared.protocol.Protocol.{Protocol}
 use Rattle.rules.specs.declared.protocol.Protocol.the-variants.{Second, First}
 use Rattle.rules.specs.declared.event.Event.{Event}
 use Rattle.rules.specs.declared.event.Event.the-variants.{Release, Acquire, Unlock, Finish}
-
--- of the row of the event at place k what is the second protocol's own: the next word is the greatest priority of the other released tasks, and an unlock calls
--- exactly where another released task is strictly above the restored priority
-pub record SecondRow (p : Plan) (es : List Event) (k : ℕ) (next call : ℕ) : Type 0 where
-  pub others : NextWord p (eagerAt p es (suc k)) (runnerAt p es (suc k)) next
-  pub unlock : (l : ℕ) → eventAt es k ≡ Unlock l → (call ≡ 1) ↔ Outranked p (eagerAt p es k) (runnerAt p es k) l
-
--- and what is the first protocol's: the kernel word is the history's, and an unlock calls exactly where the kernel word before it is strictly above the restored
--- priority; so always where another released task is
-pub record FirstRow (p : Plan) (es : List Event) (k : ℕ) (next call : ℕ) : Type 0 where
-  pub kernel : next ≡ kernelAt p es (suc k)
-  pub unlock : (l : ℕ) → eventAt es k ≡ Unlock l → (call ≡ 1) ↔ (restoredOf p (eagerAt p es k) l < kernelAt p es k)
-  pub outranked : (l : ℕ) → eventAt es k ≡ Unlock l → Outranked p (eagerAt p es k) (runnerAt p es k) l → call ≡ 1
-
-unfoldable pub OwnRow : Protocol → Plan → List Event → ℕ → (next call : ℕ) → Type 0
-OwnRow Second p es k next call = SecondRow p es k next call
-OwnRow First p es k next call = FirstRow p es k next call
 
 -- RULES 12.4: what the four bytes of the event at place k say
 pub record RowAt (pr : Protocol) (p : Plan) (es : List Event) (k : ℕ) (task user next call : ℕ) : Type 0 where
@@ -53,10 +36,13 @@ pub record RowAt (pr : Protocol) (p : Plan) (es : List Event) (k : ℕ) (task us
   pub own : user ≡ rankOf p (eagerAt p es (suc k)) (runnerAt p es (suc k))
   pub covers : Covers p (eagerAt p es (suc k)) (runnerAt p es (suc k)) next
   pub atMost : next ≤ user
-  -- the calls are those that the protocol's rule asks for, one at the most, and none for an acquire
+  pub word : OwnWord pr p es (suc k) next
+  -- the calls are those that the protocol's rule asks for: one at the most; one for an unlock by that rule, and in either where another released task is
+  -- strictly above the restored priority; and none for an acquire
   pub due : call ≡ callsAt pr p es k
   pub once : call ≤ 1
-  pub rule : OwnRow pr p es k next call
+  pub unlock : (l : ℕ) → eventAt es k ≡ Unlock l → OwnCall pr p es k l call
+  pub outranked : (l : ℕ) → eventAt es k ≡ Unlock l → Outranked p (eagerAt p es k) (runnerAt p es k) l → call ≡ 1
   pub acquire : (l : ℕ) → eventAt es k ≡ Acquire l → call ≡ 0
 
 -- RULES 12.3: what the run of a list from a fresh start comes to, with row space `rows`, where its state reports a accepted events

@@ -6,11 +6,13 @@
 use crate::aims::Scene;
 use crate::plan::{MOST_LOCKS, MOST_OPEN, MOST_TASKS, NOBODY};
 use crate::plans;
+use crate::protocol::Protocol;
 use crate::random::Random;
+use crate::sound;
 use crate::states::{self, push, refit};
 use crate::whole::{
-    slot, Field, Per, Whole, ACCEPTED, FIELDS, LIMIT, LOCKS, OPEN, OWNER, RELEASED, RUNNING, TASKS,
-    USES,
+    slot, Field, Per, Whole, ACCEPTED, FIELDS, LIMIT, LOCKS, OPEN, OWNER, RELEASED, RUNNING,
+    SECOND, TASKS, USER, USES,
 };
 
 /// Gives a figure another value.
@@ -84,13 +86,45 @@ const CHANGES: [(&str, Change); 16] = [
 ];
 
 /// Makes one of the changes, if the state has a place for one of those that are
-/// tried, and names it.
-pub fn change_several(random: &mut Random, whole: &mut Whole) -> Option<&'static str> {
+/// tried, and names it. The second word stays one that the protocol allows.
+pub fn change_several(
+    random: &mut Random,
+    whole: &mut Whole,
+    protocol: Protocol,
+) -> Option<&'static str> {
+    let kernel_word = whole.get(SECOND, 0);
     let tried = (0..4).map(|_| random.pick(&CHANGES)).collect::<Vec<_>>();
-    tried
+    let (name, _) = tried
         .into_iter()
-        .find(|(_, change)| change(random, whole))
-        .map(|(name, _)| name)
+        .find(|(_, change)| change(random, whole))?;
+    if protocol == Protocol::First {
+        // Some changes have put the next word there.
+        whole.set(SECOND, 0, kernel_word.min(whole.get(USER, 0)));
+    }
+    Some(name)
+}
+
+/// Changes the second word alone, to what the one protocol allows and the other
+/// mostly does not, or to what neither does, and names the change.
+pub fn change_second_word(random: &mut Random, whole: &mut Whole) -> &'static str {
+    let user = whole.get(USER, 0);
+    let greatest = SECOND.greatest();
+    let (name, word) = match random.below(8) {
+        0 | 1 => ("the next word", sound::next_by_rule(whole)),
+        2 => ("a kernel word of 0", 0),
+        3 => ("a kernel word at the user word", user),
+        4 => {
+            let word = random.between(0, user as usize) as u64;
+            ("a kernel word in its bound", word)
+        }
+        5 | 6 => {
+            let word = (user + 1).min(greatest);
+            ("a second word one above the user word", word)
+        }
+        _ => ("the greatest second word", greatest),
+    };
+    whole.set(SECOND, 0, word);
+    name
 }
 
 /// One of the plan's tasks for which this is so.

@@ -7,6 +7,7 @@ use crate::eager::Eager;
 use crate::event::Event::{self, Acquire, Finish, Release, Tick, Unlock, Work};
 use crate::lazy::{Lazy, Word};
 use crate::plan::{Lock, Plan, MOST_ACCEPTED, NOBODY};
+use crate::protocol::{Protocol, PROTOCOLS};
 use crate::replay::{replay, Answer};
 use crate::wrong::Wrong;
 
@@ -106,7 +107,8 @@ impl Tests {
 }
 
 fn answer(events: &[Event], wrong: Wrong) -> Answer {
-    replay(&book(events), 4 * events.len(), wrong).answer
+    let outcome = replay(&book(events), 4 * events.len(), wrong);
+    outcome.answers.second
 }
 
 fn run(name: &str) -> Answer {
@@ -215,13 +217,15 @@ fn runs_p5_to_p12(tests: &mut Tests) {
     tests.expect("P10: nothing refused", (p10.number, p10.place), (0, 0));
     tests.expect("P10: no rows", p10.rows.len(), 0);
     let plan = plan();
-    let fresh = Lazy::new(&plan, Wrong::Nothing);
-    tests.expect("P10: nobody runs", fresh.running, None);
-    tests.expect(
-        "P10: both words are 0",
-        (fresh.user_word, fresh.next_word),
-        (Word(0), Word(0)),
-    );
+    for protocol in PROTOCOLS {
+        let fresh = Lazy::new(&plan, protocol, Wrong::Nothing);
+        tests.expect("P10: nobody runs", fresh.running, None);
+        tests.expect(
+            "P10: both words are 0",
+            (fresh.user_word, fresh.second_word),
+            (Word(0), Word(0)),
+        );
+    }
 
     tests.expect("P11: bounds", run("P11").bounds, vec![0, 10, 4, 0]);
 
@@ -263,7 +267,7 @@ fn eager_calls(tests: &mut Tests) {
 fn single_steps(tests: &mut Tests) {
     let plan = plan();
     let mut eager = Eager::new(&plan, Wrong::Nothing);
-    let mut lazy = Lazy::new(&plan, Wrong::Nothing);
+    let mut lazy = Lazy::new(&plan, Protocol::Second, Wrong::Nothing);
     tests.expect(
         "eager: work of 0 is 20, before 12",
         eager.step(Work(0)),

@@ -1,6 +1,6 @@
 //! `--kernel`: the same lists on a real kernel. The program under judgement gives
-//! the rows of each list, the kernel runs it, and what ran after each event has
-//! to be the running task of its row. Where the kernel's calls for another
+//! the rows of each list by both protocols, the kernel runs it, and what ran after
+//! each event has to be the running task of both rows. Where the kernel's calls for another
 //! priority were counted, they have to be the eager calls.
 //!
 //! Then the judge goes wrong in what it expects, in each way that a kernel can
@@ -13,6 +13,7 @@ use crate::kernel_tally::{Calls, KernelTally};
 use crate::kernel_trial::Trial;
 use crate::lists;
 use crate::program::{Program, Replies};
+use crate::protocol::{ByProtocol, Protocol};
 use crate::requests::Request;
 use crate::wire::{self, SILENT};
 use crate::wrong::Wrong;
@@ -33,24 +34,31 @@ const TOLD: usize = 5;
 pub fn judge(options: &Options) -> Result<Ending, String> {
     let cases: Vec<Arc<Case>> = cases(options)?.into_iter().map(Arc::new).collect();
     let [kernel, program] = [0, 1].map(|at| &options.commands[at]);
-    let answers = ask(program, &cases, |case, replies| {
-        Ok((wire::read_replay(replies, case.row_space)?, true))
-    })?;
-    let runs = ask(kernel, &cases, |_, replies| {
+    let answers = |protocol| {
+        ask(program, &cases, protocol, |case, replies| {
+            Ok((wire::read_replay(replies, case.row_space)?, true))
+        })
+    };
+    let second = answers(Protocol::Second)?;
+    let first = answers(Protocol::First)?;
+    // A kernel knows neither protocol, and does not look at which one is asked.
+    let runs = ask(kernel, &cases, Protocol::Second, |_, replies| {
         let run = wire::read_run(replies)?;
         // After one that had to be ended no other is tried.
         let goes_on = run.ending != SILENT;
         Ok((run, goes_on))
     })?;
-    let (Some(answers), Some(runs)) = (answers, runs) else {
+    let (Some(second), Some(first), Some(runs)) = (second, first, runs) else {
         println!("FAILED");
         return Ok(Ending::Failed);
     };
+    let answers = second.into_iter().zip(first);
+    let answers = answers.map(|(second, first)| ByProtocol { second, first });
     let trials: Vec<Trial> = (cases.into_iter().zip(answers).zip(runs))
-        .map(|((case, answer), run)| Trial {
+        .map(|((case, answers), run)| Trial {
             events: lists::events(&case),
             case,
-            answer,
+            answers,
             run,
         })
         .collect();
@@ -67,14 +75,17 @@ fn cases(options: &Options) -> Result<Vec<Case>, String> {
     Ok(vec![case])
 }
 
-/// The replies of a program that is asked to replay each list: all, or up to the
-/// first after which the reader wants no more; nothing where one did not come.
+/// The replies of a program that is asked to replay each list by a protocol: all,
+/// or up to the first after which the reader wants no more; nothing where one did
+/// not come.
 fn ask<T>(
     command: &[String],
     cases: &[Arc<Case>],
+    protocol: Protocol,
     read: impl Fn(&Case, &mut Replies) -> io::Result<(T, bool)>,
 ) -> Result<Option<Vec<T>>, String> {
-    let requests: Vec<Request> = cases.iter().map(Request::replay).collect();
+    let replay = |case| Request::replay(case, protocol);
+    let requests: Vec<Request> = cases.iter().map(replay).collect();
     let mut program = Program::start(command, requests.into_iter())?;
     let mut replies = Vec::new();
     let has_replied = program.hear(|_, input| {
@@ -103,7 +114,7 @@ fn conclude(options: &Options, trials: &[Trial]) -> Ending {
         println!("FAILED");
         return Ending::Failed;
     }
-    println!("after every event the kernel ran the task of the program's row");
+    println!("after every event the kernel ran the task of the program's rows");
     Ending::Agrees
 }
 

@@ -43,6 +43,7 @@ mod own;
 mod plan;
 mod plans;
 mod program;
+mod protocol;
 mod random;
 mod refusals;
 mod replay;
@@ -69,6 +70,7 @@ mod writings;
 mod wrong;
 
 use judging::Ending;
+use protocol::ByProtocol;
 use requests::Amounts;
 use std::process::ExitCode;
 use step_tally::StepTally;
@@ -147,11 +149,17 @@ impl Options {
 
     /// Whether the generated books, steps and writings reached all that they
     /// have to. A run with fewer than the default number need not.
-    pub fn is_covered(&self, books: &Tally, steps: &StepTally, writings: &WriteTally) -> bool {
+    pub fn is_covered(
+        &self,
+        books: &Tally,
+        steps: &ByProtocol<StepTally>,
+        writings: &WriteTally,
+    ) -> bool {
         let has_all_books = self.amounts.short >= DEFAULT.short;
         let has_all_writings = self.amounts.writings >= DEFAULT.writings;
         let by_books = is_reached("books", &books.missing(), has_all_books);
-        let by_steps = is_reached("steps", &steps.missing(), self.is_full());
+        let missing = [steps.second.missing(), steps.first.missing()].concat();
+        let by_steps = is_reached("steps", &missing, self.is_full());
         let by_writings = is_reached("writings", &writings.missing(), has_all_writings);
         by_books && by_steps && by_writings
     }
@@ -260,18 +268,20 @@ fn number(word: &str) -> Result<u64, String> {
 fn write_book(kind: &str, path: &str) -> Result<Ending, String> {
     let case = generate::full_length(kind).ok_or(format!("no book is of kind {kind}"))?;
     let outcome = case.replay(Wrong::Nothing);
-    if outcome.violation.is_some() || outcome.answer.number != 0 {
+    let answers = &outcome.answers;
+    if outcome.violation.is_some() || answers.second.number != 0 {
         println!("{}: refused, or {:?}", case.name, outcome.violation);
         return Ok(Ending::Failed);
     }
     std::fs::write(path, &case.book).map_err(|error| format!("cannot write {path}: {error}"))?;
     println!(
-        "{}: {} bytes, {} events accepted, {} lazy and {} eager calls",
+        "{}: {} bytes, {} events accepted, {} lazy ({} by the first protocol) and {} eager calls",
         case.name,
         case.book.len(),
-        outcome.accepted,
-        outcome.answer.lazy_calls,
-        outcome.answer.eager_calls,
+        outcome.accepted.second,
+        answers.second.lazy_calls,
+        answers.first.lazy_calls,
+        answers.second.eager_calls,
     );
     Ok(Ending::Agrees)
 }

@@ -7,6 +7,7 @@ use crate::compare;
 use crate::crane;
 use crate::generate::Case;
 use crate::judging::Ending;
+use crate::protocol::{ByProtocol, Protocol};
 use crate::requests::{self, Ask};
 use crate::state_notation::reads_back;
 use crate::step_cases::StepCase;
@@ -30,7 +31,7 @@ pub fn judge_self(options: &Options) -> Ending {
     let mut right = tell("runs of the crane plan and single steps", crane::test());
     right &= tell("figures that are told apart", compare::test());
     right &= by_hand.test();
-    let mut own = Own::default();
+    let mut own = Own::new();
     own.try_by_hand(&by_hand.steps, &by_hand.writings);
     own.try_generated(options);
     right &= own.close(options);
@@ -52,10 +53,9 @@ fn count(changed: &mut Changed, is_other: impl Fn(Wrong) -> bool) {
     }
 }
 
-#[derive(Default)]
 struct Own {
     books: Tally,
-    steps: StepTally,
+    steps: ByProtocol<StepTally>,
     writings: WriteTally,
     violations: usize,
     changed_by_hand: Changed,
@@ -65,6 +65,19 @@ struct Own {
 }
 
 impl Own {
+    fn new() -> Own {
+        Own {
+            books: Tally::default(),
+            steps: ByProtocol::each(StepTally::new),
+            writings: WriteTally::default(),
+            violations: 0,
+            changed_by_hand: [0; WRONG_WAYS.len()],
+            changed_books: [0; WRONG_WAYS.len()],
+            changed_steps: [0; WRONG_WAYS.len()],
+            changed_writings: [0; WRONG_WAYS.len()],
+        }
+    }
+
     fn try_by_hand(&mut self, steps: &[StepCase], writings: &[WriteCase]) {
         for case in steps {
             let right = case.trial.step(Wrong::Nothing).stepped;
@@ -82,9 +95,10 @@ impl Own {
         for (at, request) in requests::generated(options.amounts).enumerate() {
             let goes_wrong = at % ONE_WRONG_IN == 0;
             let violation = match &request.ask {
-                Ask::Replay(case) => self.try_book(case, goes_wrong),
-                // The reader is the same as that of the replay.
-                Ask::Check(_) => None,
+                Ask::Replay(case, Protocol::Second) => self.try_book(case, goes_wrong),
+                // That was the replay by both protocols, and the reader is the
+                // same as that of the replay.
+                Ask::Replay(_, Protocol::First) | Ask::Check(_) => None,
                 Ask::Step(trial) => self.try_step(trial, goes_wrong),
                 Ask::Write(writing) => self.try_writing(writing, goes_wrong),
             };
@@ -99,7 +113,7 @@ impl Own {
         let outcome = case.replay(Wrong::Nothing);
         self.books.count(&outcome);
         if goes_wrong {
-            let is_other = |wrong| case.replay(wrong).answer != outcome.answer;
+            let is_other = |wrong| case.replay(wrong).answers != outcome.answers;
             count(&mut self.changed_books, is_other);
         }
         outcome.violation
@@ -107,7 +121,7 @@ impl Own {
 
     fn try_step(&mut self, trial: &Trial, goes_wrong: bool) -> Option<String> {
         let outcome = trial.step(Wrong::Nothing);
-        self.steps.count(trial, &outcome);
+        self.steps.of_mut(trial.protocol).count(trial, &outcome);
         if goes_wrong {
             let is_other = |wrong| trial.step(wrong).stepped != outcome.stepped;
             count(&mut self.changed_steps, is_other);
@@ -131,10 +145,12 @@ impl Own {
     /// Tells all; false if something is wrong or was not reached.
     fn close(&self, options: &Options) -> bool {
         self.books.print_table();
-        self.steps.print_table();
+        self.steps.second.print_table();
+        self.steps.first.print_table();
         self.writings.print_table();
         println!("{}", self.books.summary());
-        println!("{}", self.steps.summary());
+        println!("{}", self.steps.second.summary());
+        println!("{}", self.steps.first.summary());
         println!("{}", self.writings.summary());
         println!("{} violations of the judge's own demands", self.violations);
         let is_covered = options.is_covered(&self.books, &self.steps, &self.writings);

@@ -4,7 +4,7 @@
 //! of soundness to say.
 
 use crate::aims::Scene;
-use crate::plan::{MOST_LOCKS, MOST_OPEN, MOST_TASKS, NOBODY};
+use crate::plan::{MOST_ACCEPTED, MOST_LOCKS, MOST_OPEN, MOST_TASKS, NOBODY};
 use crate::plans;
 use crate::protocol::Protocol;
 use crate::random::Random;
@@ -12,7 +12,7 @@ use crate::sound;
 use crate::states::{self, push, refit};
 use crate::whole::{
     slot, Field, Per, Whole, ACCEPTED, FIELDS, LIMIT, LOCKS, OPEN, OWNER, RELEASED, RUNNING,
-    SECOND, TASKS, USER, USES,
+    SECOND, TASKS, UNITS, USER, USES,
 };
 
 /// Gives a figure another value.
@@ -66,7 +66,7 @@ fn used_slots(whole: &Whole) -> Vec<usize> {
 type Change = fn(&mut Random, &mut Whole) -> bool;
 
 #[rustfmt::skip] // a line each
-const CHANGES: [(&str, Change); 16] = [
+const CHANGES: [(&str, Change); 18] = [
     ("nobody runs", nobody_runs),
     ("an unreleased task runs", unreleased_runs),
     ("a lock open for two tasks", open_for_two),
@@ -77,6 +77,8 @@ const CHANGES: [(&str, Change); 16] = [
     ("one lock more open than can be", one_more_open),
     ("two equal release numbers", equal_numbers),
     ("fewer accepted events than a release number", fewer_accepted),
+    ("more accepted events than can be", more_accepted),
+    ("a section past its limit", past_limit),
     ("a lock without limit", without_limit),
     ("a lock without users", without_users),
     ("a use of an unknown lock", unknown_use),
@@ -278,6 +280,24 @@ fn fewer_accepted(random: &mut Random, whole: &mut Whole) -> bool {
     };
     let number = whole.get(RELEASED, task);
     whole.set(ACCEPTED, 0, number - 1);
+    true
+}
+
+fn more_accepted(random: &mut Random, whole: &mut Whole) -> bool {
+    let most = u64::from(MOST_ACCEPTED);
+    let more = random.pick(&[most + 1, most + 2, ACCEPTED.greatest()]);
+    whole.set(ACCEPTED, 0, more);
+    true
+}
+
+fn past_limit(random: &mut Random, whole: &mut Whole) -> bool {
+    let can_pass =
+        |whole: &Whole, lock| !is_closed(whole, lock) && whole.get(LIMIT, lock) < UNITS.greatest();
+    let Some(lock) = some_lock(random, whole, can_pass) else {
+        return false;
+    };
+    let units = random.pick(&[whole.get(LIMIT, lock) + 1, UNITS.greatest()]);
+    whole.set(UNITS, lock, units);
     true
 }
 

@@ -2,7 +2,7 @@
 //! has. Half start from sound states, a quarter from a state with one figure
 //! changed, every figure in its turn, and a quarter from other changed states.
 
-use crate::aims;
+use crate::aims::{self, Scene};
 use crate::broken;
 use crate::event::Event;
 use crate::plan::{Plan, MOST_ACCEPTED};
@@ -103,13 +103,25 @@ fn aimed_event(random: &mut Random, plan: &Plan, given: &Whole) -> (Event, Optio
     let is_exhausted = given.get(ACCEPTED, 0) == u64::from(MOST_ACCEPTED);
     let answer = |number: u8| Some(if is_exhausted { 11 } else { number });
     match random.below(10) {
-        0..=3 => (aims::accepted(random, plan, given), answer(0)),
+        0..=3 => (accepted_event(random, plan, given), answer(0)),
         4..=8 => {
             let (event, number) = refused_event(random, plan, given);
             (event, answer(number))
         }
         _ if is_exhausted => (aims::arbitrary(random, plan), Some(11)),
         _ => (aims::arbitrary(random, plan), None),
+    }
+}
+
+/// An event that a sound state accepts. An unlock, at which the protocols part, is
+/// more likely than another.
+fn accepted_event(random: &mut Random, plan: &Plan, given: &Whole) -> Event {
+    let newest = given
+        .running()
+        .and_then(|task| given.open_locks(task).pop());
+    match newest {
+        Some(lock) if random.one_in(4) => Event::Unlock(lock as u8),
+        _ => aims::accepted(random, plan, given),
     }
 }
 

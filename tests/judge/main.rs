@@ -50,6 +50,7 @@ mod replay;
 mod requests;
 mod resume;
 mod rounds;
+mod run_cases;
 mod sound;
 mod state_notation;
 mod states;
@@ -87,7 +88,7 @@ usage: judge [OPTION..] -- COMMAND ARGS..
 --seed N    of all that is generated (1)
 --count N   short books (20000)
 --long N    books of the most events (40)
---steps N   single steps (100000)
+--steps N   single steps (200000)
 --writes N  books to be written (10000)
 --lists N   lists for a real kernel (100)
 --book FILE for a real kernel this book alone, event by event
@@ -99,7 +100,7 @@ const DEFAULT: Amounts = Amounts {
     seed: 1,
     short: 20_000,
     long: 40,
-    steps: 100_000,
+    steps: 200_000,
     writings: 10_000,
     lists: 100,
 };

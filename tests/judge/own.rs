@@ -2,7 +2,7 @@
 //! made by hand and all that is generated through its own schedulers with all
 //! demands on, and shows that each wrong way changes some answers.
 
-use crate::by_hand::{self, tell};
+use crate::by_hand::{self, tell, ByHand};
 use crate::compare;
 use crate::crane;
 use crate::generate::Case;
@@ -10,11 +10,9 @@ use crate::judging::Ending;
 use crate::protocol::{ByProtocol, Protocol};
 use crate::requests::{self, Ask};
 use crate::state_notation::reads_back;
-use crate::step_cases::StepCase;
 use crate::step_tally::StepTally;
 use crate::tally::Tally;
 use crate::trials::Trial;
-use crate::write_cases::WriteCase;
 use crate::write_tally::WriteTally;
 use crate::writing::Writing;
 use crate::wrong::{Wrong, WRONG_WAYS};
@@ -32,7 +30,7 @@ pub fn judge_self(options: &Options) -> Ending {
     right &= tell("figures that are told apart", compare::test());
     right &= by_hand.test();
     let mut own = Own::new();
-    own.try_by_hand(&by_hand.steps, &by_hand.writings);
+    own.try_by_hand(&by_hand);
     own.try_generated(options);
     right &= own.close(options);
     if !right {
@@ -78,13 +76,16 @@ impl Own {
         }
     }
 
-    fn try_by_hand(&mut self, steps: &[StepCase], writings: &[WriteCase]) {
-        for case in steps {
+    fn try_by_hand(&mut self, by_hand: &ByHand) {
+        for case in &by_hand.steps {
             let right = case.trial.step(Wrong::Nothing).stepped;
             let is_other = |wrong| case.trial.step(wrong).stepped != right;
             count(&mut self.changed_by_hand, is_other);
         }
-        for case in writings {
+        for case in &by_hand.runs {
+            count(&mut self.changed_by_hand, |wrong| case.tells(wrong));
+        }
+        for case in &by_hand.writings {
             let right = case.writing.write(Wrong::Nothing).written;
             let is_other = |wrong| case.writing.write(wrong).written != right;
             count(&mut self.changed_by_hand, is_other);

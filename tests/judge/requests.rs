@@ -87,7 +87,7 @@ impl Request {
 
 /// How many generated steps there are for each short book, as long as there are
 /// both.
-const STEPS_FOR_A_BOOK: u64 = 5;
+const STEPS_FOR_A_BOOK: u64 = 10;
 
 /// How many of each sort are generated, and from which seed.
 #[derive(Clone, Copy)]
@@ -104,11 +104,12 @@ pub struct Amounts {
 /// The hand-made cases and the set pieces.
 pub fn by_hand(by_hand: ByHand) -> impl Iterator<Item = Request> {
     let steps = by_hand.steps.into_iter().map(|case| Ask::Step(case.trial));
+    let runs = by_hand.runs.into_iter().map(|case| case.case);
     let books = by_hand.books.into_iter().map(|case| case.case);
     let pieces = by_hand.pieces.into_iter().map(|piece| piece.case);
     let writings = by_hand.writings.into_iter().map(|case| case.writing);
     let asks = steps
-        .chain(books.chain(pieces).flat_map(of_book))
+        .chain(runs.chain(books).chain(pieces).flat_map(of_book))
         .chain(writings.flat_map(of_writing));
     asks.map(|ask| Request {
         ask,

@@ -101,8 +101,9 @@ fn miscounted(given: &Whole, event: Event, after: &Whole) -> Option<String> {
 }
 
 /// A release, a finish, a tick and a call enter the kernel: the kernel word is the
-/// user word then. No other event changes it. (That the next word is right is a
-/// matter of soundness.)
+/// user word then. No other event changes it. A call is an eager one too, since the
+/// kernel word was at most the user word. (That the next word is right is a matter
+/// of soundness.)
 fn misplaced(
     given: &Whole,
     event: Event,
@@ -117,6 +118,9 @@ fn misplaced(
         true => after.get(USER, 0),
         false => given.get(SECOND, 0),
     };
+    if call && after.get(EAGER, 0) == given.get(EAGER, 0) {
+        return Some("a call that is no eager one".to_string());
+    }
     let word = after.get(SECOND, 0);
     if word == left {
         return None;

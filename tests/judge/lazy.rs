@@ -245,6 +245,12 @@ impl<'p> Lazy<'p> {
             if self.wrong == Wrong::CallLeavesKernelWord && self.has_kernel_word() {
                 self.second_word = second_word;
             }
+        } else if self.wrong == Wrong::UnlockSetsKernelWord && self.has_kernel_word() {
+            self.set_second_word();
+        }
+        if self.wrong == Wrong::SameAgainUncounted && lazy_call && self.running == Some(task) {
+            self.calls -= 1;
+            return Ok(false);
         }
         Ok(lazy_call)
     }
@@ -347,6 +353,7 @@ impl<'p> Lazy<'p> {
             }
         }
         self.running = chosen;
+        let left = self.user_word;
         // From now on the user word is that of whoever runs, 0 with nobody.
         self.user_word = Word(0);
         if let Some(task) = chosen {
@@ -354,6 +361,9 @@ impl<'p> Lazy<'p> {
             self.tasks[task].kept = Kept(0);
         }
         self.set_second_word();
+        if self.wrong == Wrong::KernelWordBeforeSwitch && self.has_kernel_word() {
+            self.second_word = left;
+        }
     }
 
     fn elect(&self) -> Option<usize> {

@@ -47,8 +47,14 @@ pub enum Wrong {
     ReleaseLeavesKernelWord,
     /// An unlock that calls leaves the kernel word as it is.
     CallLeavesKernelWord,
+    /// An unlock without a call sets the kernel word as if it were a kernel entry.
+    UnlockSetsKernelWord,
+    /// A switch leaves the user word of the task that leaves in the kernel word.
+    KernelWordBeforeSwitch,
     /// An unlock calls also where the restored word equals the kernel word.
     KernelWordAtOrAbove,
+    /// A call that elects the same task again isn't one.
+    SameAgainUncounted,
     /// A state is sound also with a kernel word above the user word.
     KernelWordUnbounded,
     /// A state is sound only with a kernel word that is what the next word would
@@ -71,7 +77,7 @@ pub enum Wrong {
 }
 
 /// The wrong ways under the names of the command line.
-pub const WRONG_WAYS: [(&str, Wrong); 27] = [
+pub const WRONG_WAYS: [(&str, Wrong); 30] = [
     ("tail", Wrong::Tail),
     ("at-or-above", Wrong::AtOrAbove),
     ("gives-way", Wrong::GivesWay),
@@ -89,7 +95,10 @@ pub const WRONG_WAYS: [(&str, Wrong); 27] = [
     ("acquire-sets-kernel-word", Wrong::AcquireSetsKernelWord),
     ("release-leaves-kernel-word", Wrong::ReleaseLeavesKernelWord),
     ("call-leaves-kernel-word", Wrong::CallLeavesKernelWord),
+    ("unlock-sets-kernel-word", Wrong::UnlockSetsKernelWord),
+    ("kernel-word-before-switch", Wrong::KernelWordBeforeSwitch),
     ("kernel-word-at-or-above", Wrong::KernelWordAtOrAbove),
+    ("same-again-uncounted", Wrong::SameAgainUncounted),
     ("kernel-word-unbounded", Wrong::KernelWordUnbounded),
     ("kernel-word-as-next", Wrong::KernelWordAsNext),
     ("spared-by-kernel-word", Wrong::SparedByKernelWord),

@@ -80,7 +80,7 @@ impl<'p> Lazy<'p> {
         Lazy {
             plan,
             protocol,
-            wrong,
+            wrong: wrong.of(protocol),
             accepted: 0,
             running: None,
             user_word: Word(0),
@@ -156,7 +156,7 @@ impl<'p> Lazy<'p> {
         match self.wrong {
             Wrong::NewcomerRuns if switches => self.switch_to(Some(task)),
             _ if switches => self.switch(),
-            Wrong::ReleaseLeavesKernelWord if self.has_kernel_word() => {}
+            Wrong::ReleaseLeavesKernelWord => {}
             _ => self.set_second_word(),
         }
         Ok(false)
@@ -188,7 +188,7 @@ impl<'p> Lazy<'p> {
         let saved = self.user_word;
         self.tasks[task].open.push(OpenLock { lock, saved });
         self.user_word = saved.max(Word(self.plan.locks[lock].ceiling));
-        if self.wrong == Wrong::AcquireSetsKernelWord && self.has_kernel_word() {
+        if self.wrong == Wrong::AcquireSetsKernelWord {
             self.set_second_word();
         }
         self.sections[lock] = Section {
@@ -217,40 +217,41 @@ impl<'p> Lazy<'p> {
             holder: None,
             units: 0,
         };
-        let word_before = self.user_word;
+        let raised = self.user_word;
         self.user_word = match self.wrong {
             Wrong::Base => Word(self.plan.bases[task]),
             _ => newest.saved,
         };
         // After a switch the word is another task's, so this comes first.
-        let changes = self.user_word != word_before;
+        let changes = self.user_word != raised;
         if self.wrong.counts(Event::Unlock(lock as u8), changes) {
             self.eager_calls += 1;
         }
         // If the second word is above what was restored, this is a lazy call, and
         // the kernel switches, be it to the same task again. Else the kernel is
         // not entered, and the second word stays.
-        let second_word = self.second_word;
         let lazy_call = match self.wrong {
-            Wrong::AtOrAbove | Wrong::GivesWay => second_word >= self.user_word,
-            Wrong::KernelWordAtOrAbove if self.has_kernel_word() => second_word >= self.user_word,
-            _ => self.user_word < second_word,
+            Wrong::AtOrAbove | Wrong::GivesWay | Wrong::KernelWordAtOrAbove => {
+                self.second_word >= self.user_word
+            }
+            _ => self.user_word < self.second_word,
         };
-        if self.wrong == Wrong::GivesWay && self.user_word == second_word {
+        if self.wrong == Wrong::GivesWay && self.user_word == self.second_word {
             self.tasks[task].release_number = self.accepted + 1;
         }
+        let word_before = self.second_word;
         if lazy_call {
             self.calls += 1;
             self.switch();
-            if self.wrong == Wrong::CallLeavesKernelWord && self.has_kernel_word() {
-                self.second_word = second_word;
-            }
-        } else if self.wrong == Wrong::UnlockSetsKernelWord && self.has_kernel_word() {
-            self.set_second_word();
         }
-        if self.wrong == Wrong::SameAgainUncounted && lazy_call && self.running == Some(task) {
-            self.calls -= 1;
-            return Ok(false);
+        match self.wrong {
+            Wrong::CallLeavesKernelWord if lazy_call => self.second_word = word_before,
+            Wrong::UnlockSetsKernelWord if !lazy_call => self.set_second_word(),
+            Wrong::SameAgainUncounted if lazy_call && self.running == Some(task) => {
+                self.calls -= 1;
+                return Ok(false);
+            }
+            _ => {}
         }
         Ok(lazy_call)
     }
@@ -297,10 +298,8 @@ impl<'p> Lazy<'p> {
     /// Whether work by a task of this base is wrongly nobody's delay.
     fn spares_all(&self, base: u8) -> bool {
         match self.wrong {
-            Wrong::SparedByOne if !self.has_kernel_word() => {
-                self.second_word.0 <= base.saturating_add(1)
-            }
-            Wrong::SparedByKernelWord if self.has_kernel_word() => self.second_word.0 <= base,
+            Wrong::SparedByOne => self.second_word.0 <= base.saturating_add(1),
+            Wrong::SparedByKernelWord => self.second_word.0 <= base,
             _ => false,
         }
     }
@@ -327,7 +326,7 @@ impl<'p> Lazy<'p> {
     /// Tick: never refused. It is a kernel entry and no more. The next word of a
     /// sound state is what it was before.
     fn tick(&mut self) -> bool {
-        if self.wrong != Wrong::TickLeavesKernelWord || !self.has_kernel_word() {
+        if self.wrong != Wrong::TickLeavesKernelWord {
             self.set_second_word();
         }
         false
@@ -352,8 +351,8 @@ impl<'p> Lazy<'p> {
                 self.tasks[leaving].release_number = self.accepted + 1;
             }
         }
+        let word_of_leaving = self.user_word;
         self.running = chosen;
-        let left = self.user_word;
         // From now on the user word is that of whoever runs, 0 with nobody.
         self.user_word = Word(0);
         if let Some(task) = chosen {
@@ -361,8 +360,8 @@ impl<'p> Lazy<'p> {
             self.tasks[task].kept = Kept(0);
         }
         self.set_second_word();
-        if self.wrong == Wrong::KernelWordBeforeSwitch && self.has_kernel_word() {
-            self.second_word = left;
+        if self.wrong == Wrong::KernelWordBeforeSwitch {
+            self.second_word = word_of_leaving;
         }
     }
 
@@ -398,10 +397,5 @@ impl<'p> Lazy<'p> {
             }
             Protocol::First => self.user_word,
         };
-    }
-
-    /// Only for the wrong ways of one protocol: which one this is.
-    fn has_kernel_word(&self) -> bool {
-        self.protocol == Protocol::First
     }
 }

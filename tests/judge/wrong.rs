@@ -6,6 +6,7 @@
 //! program.
 
 use crate::event::Event;
+use crate::protocol::Protocol;
 
 #[derive(Clone, Copy, Debug, PartialEq, Eq)]
 pub enum Wrong {
@@ -111,6 +112,29 @@ pub const WRONG_WAYS: [(&str, Wrong); 30] = [
 ];
 
 impl Wrong {
+    /// The way of a scheduler by this protocol: one that is about the other
+    /// protocol's word does not touch it.
+    pub fn of(self, protocol: Protocol) -> Wrong {
+        let only = match self {
+            Wrong::SparedByOne => Protocol::Second,
+            Wrong::TickLeavesKernelWord
+            | Wrong::AcquireSetsKernelWord
+            | Wrong::ReleaseLeavesKernelWord
+            | Wrong::CallLeavesKernelWord
+            | Wrong::UnlockSetsKernelWord
+            | Wrong::KernelWordBeforeSwitch
+            | Wrong::KernelWordAtOrAbove
+            | Wrong::SameAgainUncounted
+            | Wrong::SparedByKernelWord => Protocol::First,
+            _ => return self,
+        };
+        if only == protocol {
+            self
+        } else {
+            Wrong::Nothing
+        }
+    }
+
     /// Whether an acquire or an unlock is an eager call, by whether it changes
     /// the priority of the task that does it.
     pub fn counts(self, act: Event, changes: bool) -> bool {

@@ -172,7 +172,9 @@ pub fn test() -> (usize, Vec<String>) {
     runs_p1_to_p4(&mut tests);
     runs_p5_to_p12(&mut tests);
     eager_calls(&mut tests);
-    PROTOCOLS.map(|protocol| single_steps(&mut tests, protocol));
+    for protocol in PROTOCOLS {
+        single_steps(&mut tests, protocol);
+    }
     wrong_ways(&mut tests);
     (tests.done, tests.failed)
 }

@@ -3,10 +3,10 @@
  *     kernel [--patience MILLISECONDS] [--wrong stays|raises-nothing]
  *     kernel --can
  *
- * From standard input it takes requests as the program `batch` does, for a replay alone: u32 command (1), u32 protocol, u32 size,
- * u32 room, then a book of `size` bytes; protocol and room are not looked at, since a kernel has its own. The reply is u8 ending (threads.h), u32 how many events were taken,
- * u8 who took it for each of these, u8 1 if the tasks' calls for another priority were counted, and u32 how many. Numbers are
- * little-endian. The end of the input ends the program.
+ * From standard input it takes requests as the program `batch` does, for a replay alone: u32 command (1), u32 protocol, u32
+ * size, u32 room, then a book of `size` bytes; neither the protocol, which a kernel has of its own, nor the room is looked at. The
+ * reply is u8 ending (threads.h), u32 how many events were taken, u8 who took it for each of these, u8 1 if the tasks' calls for
+ * another priority were counted, and u32 how many. Numbers are little-endian. The end of the input ends the program.
  *
  * With --wrong it goes wrong on purpose. --can says in one line why this machine cannot run lists, and ends with 4 then. */
 #define _GNU_SOURCE

@@ -13,7 +13,7 @@ use crate::kernel_tally::{Calls, KernelTally};
 use crate::kernel_trial::Trial;
 use crate::lists;
 use crate::program::{Program, Replies};
-use crate::protocol::{ByProtocol, Protocol};
+use crate::protocol::{ByProtocol, Protocol, PROTOCOLS};
 use crate::requests::Request;
 use crate::wire::{self, SILENT};
 use crate::wrong::Wrong;
@@ -21,9 +21,14 @@ use crate::Options;
 use std::io;
 use std::sync::Arc;
 
-/// The wrong ways that show in what a kernel runs, and those that show in the
-/// number of its calls alone.
-const BY_RUN: [Wrong; 3] = [Wrong::Tail, Wrong::GivesWay, Wrong::Base];
+/// The wrong ways that show in what a kernel runs, by each protocol that goes wrong
+/// in them, and those that show in the number of its calls alone.
+const BY_RUN: [Wrong; 4] = [
+    Wrong::Tail,
+    Wrong::GivesWay,
+    Wrong::Base,
+    Wrong::ReleaseLeavesKernelWord,
+];
 const BY_CALLS: [Wrong; 2] = [Wrong::EveryLockAct, Wrong::AcquiresAlone];
 
 /// So many lists that differ are told in words.
@@ -162,16 +167,25 @@ fn is_telling(options: &Options, trials: &[Trial]) -> bool {
     trials.iter().for_each(|trial| tally.count(trial));
     println!("{}", tally.summary());
     let is_covered = is_reached("lists", &tally.missing(), options.has_all_lists());
-    let by_run = BY_RUN.map(|wrong| is_told(trials, wrong, Trial::tells_by_run));
+    let by_run = BY_RUN.map(|wrong| {
+        let touched = PROTOCOLS.into_iter().filter(|it| wrong.touches(*it));
+        let told = touched.map(|protocol| {
+            let way = format!("{wrong:?} by the {} protocol", protocol.name());
+            is_told(trials, &way, |trial| trial.tells_by_run(wrong, protocol))
+        });
+        told.fold(true, |all, told| all & told)
+    });
     let has_calls = Calls::of_all(trials).kernel.is_some();
-    let by_calls =
-        BY_CALLS.map(|wrong| !has_calls || is_told(trials, wrong, Trial::tells_by_calls));
+    let by_calls = BY_CALLS.map(|wrong| {
+        let way = format!("{wrong:?}");
+        !has_calls || is_told(trials, &way, |trial| trial.tells_by_calls(wrong))
+    });
     is_covered && by_run.iter().chain(&by_calls).all(|told| *told)
 }
 
 /// Whether the kernel differs in some list from a judge gone wrong.
-fn is_told(trials: &[Trial], wrong: Wrong, tells: fn(&Trial, Wrong) -> bool) -> bool {
-    let differing = trials.iter().filter(|trial| tells(trial, wrong)).count();
-    println!("gone wrong as {wrong:?}: {differing} lists differ");
+fn is_told(trials: &[Trial], way: &str, tells: impl Fn(&Trial) -> bool) -> bool {
+    let differing = trials.iter().filter(|trial| tells(trial)).count();
+    println!("gone wrong as {way}: {differing} lists differ");
     differing > 0
 }

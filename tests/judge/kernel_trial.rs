@@ -5,7 +5,7 @@ use crate::compare;
 use crate::event::Event;
 use crate::generate::Case;
 use crate::plan::NOBODY;
-use crate::protocol::{ByProtocol, PROTOCOLS};
+use crate::protocol::{ByProtocol, Protocol, PROTOCOLS};
 use crate::replay::Answer;
 use crate::wire::{Run, WHOLE};
 use crate::wrong::Wrong;
@@ -43,14 +43,14 @@ impl Trial {
 
     /// Whether the kernel differs, in what it ran, from what a judge gone wrong
     /// expects.
-    pub fn tells_by_run(&self, wrong: Wrong) -> bool {
-        let expected = Expected::gone_wrong(&self.case, wrong);
+    pub fn tells_by_run(&self, wrong: Wrong, protocol: Protocol) -> bool {
+        let expected = Expected::gone_wrong(&self.case, wrong, protocol);
         expected.other_task(&self.events, &self.run).is_some()
     }
 
-    /// The same for its calls.
+    /// The same for its calls, which are those of the eager scheduler.
     pub fn tells_by_calls(&self, wrong: Wrong) -> bool {
-        let expected = Expected::gone_wrong(&self.case, wrong);
+        let expected = Expected::gone_wrong(&self.case, wrong, Protocol::Second);
         expected.other_calls(&self.run).is_some()
     }
 
@@ -90,9 +90,10 @@ impl Expected {
 
     /// By a judge gone wrong. It may refuse an event of the list, and no more is
     /// expected then.
-    fn gone_wrong(case: &Case, wrong: Wrong) -> Expected {
+    fn gone_wrong(case: &Case, wrong: Wrong, protocol: Protocol) -> Expected {
         let outcome = case.replay(wrong);
-        Expected::of(&outcome.answers.second, outcome.accepted.second)
+        let accepted = *outcome.accepted.of(protocol);
+        Expected::of(outcome.answers.of(protocol), accepted)
     }
 
     /// The first event after which the kernel ran another task, in words.

@@ -112,9 +112,18 @@ pub const WRONG_WAYS: [(&str, Wrong); 30] = [
 ];
 
 impl Wrong {
-    /// The way of a scheduler by this protocol: one that is about the other
-    /// protocol's word does not touch it.
+    /// The way of a scheduler by this protocol.
     pub fn of(self, protocol: Protocol) -> Wrong {
+        if self.touches(protocol) {
+            self
+        } else {
+            Wrong::Nothing
+        }
+    }
+
+    /// Whether a scheduler by this protocol goes wrong: not in a way that is about
+    /// the other protocol's word.
+    pub fn touches(self, protocol: Protocol) -> bool {
         let only = match self {
             Wrong::SparedByOne => Protocol::Second,
             Wrong::TickLeavesKernelWord
@@ -126,13 +135,9 @@ impl Wrong {
             | Wrong::KernelWordAtOrAbove
             | Wrong::SameAgainUncounted
             | Wrong::SparedByKernelWord => Protocol::First,
-            _ => return self,
+            _ => return true,
         };
-        if only == protocol {
-            self
-        } else {
-            Wrong::Nothing
-        }
+        only == protocol
     }
 
     /// Whether an acquire or an unlock is an eager call, by whether it changes

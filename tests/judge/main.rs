@@ -1,5 +1,5 @@
 //! An independent judge of the scheduler project: a second reading of the rules,
-//! with its own reader and writer of books, its own two schedulers and its own
+//! with its own reader and writer of books, its own schedulers and its own
 //! test of soundness. It makes books, records and states, has the program under
 //! judgement replay, check, write and step them, and compares every field and
 //! figure of every answer with its own. It shares no line with what it judges.

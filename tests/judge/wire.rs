@@ -7,18 +7,18 @@
 //! input ends the program.
 //!
 //! 1, replay by the protocol: the payload is a book, the room its row space in
-//! bytes. The reply is u8 number, u32 place, u32 lazy calls, u32 eager calls, u8 tasks of the
-//! plan (0 where 1 to 9 refused), u16 delay of each task, u16 bound of each
-//! task, then the whole row space, which the program fills with the byte 0xEE
-//! before the replay.
+//! bytes. The reply is u8 number, u32 place, u32 lazy calls, u32 eager calls, u8
+//! tasks of the plan (0 where 1 to 9 refused), u16 delay of each task, u16 bound
+//! of each task, then the whole row space, which the program fills with the byte
+//! 0xEE before the replay.
 //!
 //! 2, check: the payload and the room are as for 1. The reply is u8 number, u32
 //! place, u32 place of the event body in the book, then the plan, figure by
 //! figure; all 0 after the place where the book is refused.
 //!
-//! 3, step by the protocol: the payload is a plan and a state, figure by figure, then the four
-//! bytes of an event; the room is 0. The reply is u8 number, u8 lazy call, then
-//! the state after the event, figure by figure.
+//! 3, step by the protocol: the payload is a plan and a state, figure by figure,
+//! then the four bytes of an event; the room is 0. The reply is u8 number, u8 lazy
+//! call, then the state after the event, figure by figure.
 //!
 //! 4, write: the payload is four u32 counts, of tasks, locks, uses and events,
 //! then the tasks as u16, the locks as u32, the uses as u16 and the events as

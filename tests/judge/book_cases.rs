@@ -148,7 +148,8 @@ impl BookCase {
             u64::from(checked.place),
             u64::from(checked.events_at),
         );
-        let bounds: Vec<u64> = replayed.answer.bounds.into_iter().map(u64::from).collect();
+        let bounds = replayed.answers.second.bounds.iter().copied();
+        let bounds: Vec<u64> = bounds.map(u64::from).collect();
         let size = self.case.book.len() as u64;
         let mut wrong: Vec<String> = replayed.violation.into_iter().collect();
         if answer != expected.answer {

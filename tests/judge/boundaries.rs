@@ -314,10 +314,12 @@ pub fn test(pieces: &[SetPiece]) -> Vec<String> {
     let mut failed = Vec::new();
     for piece in pieces {
         let outcome = piece.case.replay(crate::wrong::Wrong::Nothing);
-        let got = (outcome.answer.number, outcome.answer.place);
-        if got != (piece.number, piece.place) {
-            let wanted = (piece.number, piece.place);
-            failed.push(format!("{}: got {got:?}, wanted {wanted:?}", piece.case.name));
+        for answer in [&outcome.answers.second, &outcome.answers.first] {
+            let got = (answer.number, answer.place);
+            if got != (piece.number, piece.place) {
+                let wanted = (piece.number, piece.place);
+                failed.push(format!("{}: got {got:?}, wanted {wanted:?}", piece.case.name));
+            }
         }
         if let Some(words) = outcome.violation {
             failed.push(format!("{}: {words}", piece.case.name));

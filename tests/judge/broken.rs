@@ -4,13 +4,15 @@
 //! of soundness to say.
 
 use crate::aims::Scene;
-use crate::plan::{MOST_LOCKS, MOST_OPEN, MOST_TASKS, NOBODY};
+use crate::plan::{MOST_ACCEPTED, MOST_LOCKS, MOST_OPEN, MOST_TASKS, NOBODY};
 use crate::plans;
+use crate::protocol::Protocol;
 use crate::random::Random;
+use crate::sound;
 use crate::states::{self, push, refit};
 use crate::whole::{
-    slot, Field, Per, Whole, ACCEPTED, FIELDS, LIMIT, LOCKS, OPEN, OWNER, RELEASED, RUNNING, TASKS,
-    USES,
+    slot, Field, Per, Whole, ACCEPTED, FIELDS, LIMIT, LOCKS, OPEN, OWNER, RELEASED, RUNNING,
+    SECOND, TASKS, UNITS, USER, USES,
 };
 
 /// Gives a figure another value.
@@ -64,7 +66,7 @@ fn used_slots(whole: &Whole) -> Vec<usize> {
 type Change = fn(&mut Random, &mut Whole) -> bool;
 
 #[rustfmt::skip] // a line each
-const CHANGES: [(&str, Change); 16] = [
+const CHANGES: [(&str, Change); 18] = [
     ("nobody runs", nobody_runs),
     ("an unreleased task runs", unreleased_runs),
     ("a lock open for two tasks", open_for_two),
@@ -75,6 +77,8 @@ const CHANGES: [(&str, Change); 16] = [
     ("one lock more open than can be", one_more_open),
     ("two equal release numbers", equal_numbers),
     ("fewer accepted events than a release number", fewer_accepted),
+    ("more accepted events than can be", more_accepted),
+    ("a section past its limit", past_limit),
     ("a lock without limit", without_limit),
     ("a lock without users", without_users),
     ("a use of an unknown lock", unknown_use),
@@ -84,13 +88,45 @@ const CHANGES: [(&str, Change); 16] = [
 ];
 
 /// Makes one of the changes, if the state has a place for one of those that are
-/// tried, and names it.
-pub fn change_several(random: &mut Random, whole: &mut Whole) -> Option<&'static str> {
+/// tried, and names it. The second word stays one that the protocol allows.
+pub fn change_several(
+    random: &mut Random,
+    whole: &mut Whole,
+    protocol: Protocol,
+) -> Option<&'static str> {
+    let kernel_word = whole.get(SECOND, 0);
     let tried = (0..4).map(|_| random.pick(&CHANGES)).collect::<Vec<_>>();
-    tried
+    let (name, _) = tried
         .into_iter()
-        .find(|(_, change)| change(random, whole))
-        .map(|(name, _)| name)
+        .find(|(_, change)| change(random, whole))?;
+    if protocol == Protocol::First {
+        // Some changes have put the next word there.
+        whole.set(SECOND, 0, kernel_word.min(whole.get(USER, 0)));
+    }
+    Some(name)
+}
+
+/// Changes the second word alone, to what the one protocol allows and the other
+/// mostly does not, or to what neither does, and names the change.
+pub fn change_second_word(random: &mut Random, whole: &mut Whole) -> &'static str {
+    let user = whole.get(USER, 0);
+    let greatest = SECOND.greatest();
+    let (name, word) = match random.below(8) {
+        0 | 1 => ("the next word", sound::next_by_rule(whole)),
+        2 => ("a kernel word of 0", 0),
+        3 => ("a kernel word at the user word", user),
+        4 => {
+            let word = random.between(0, user as usize) as u64;
+            ("a kernel word in its bound", word)
+        }
+        5 | 6 => {
+            let word = (user + 1).min(greatest);
+            ("a second word one above the user word", word)
+        }
+        _ => ("the greatest second word", greatest),
+    };
+    whole.set(SECOND, 0, word);
+    name
 }
 
 /// One of the plan's tasks for which this is so.
@@ -244,6 +280,24 @@ fn fewer_accepted(random: &mut Random, whole: &mut Whole) -> bool {
     };
     let number = whole.get(RELEASED, task);
     whole.set(ACCEPTED, 0, number - 1);
+    true
+}
+
+fn more_accepted(random: &mut Random, whole: &mut Whole) -> bool {
+    let most = u64::from(MOST_ACCEPTED);
+    let more = random.pick(&[most + 1, most + 2, ACCEPTED.greatest()]);
+    whole.set(ACCEPTED, 0, more);
+    true
+}
+
+fn past_limit(random: &mut Random, whole: &mut Whole) -> bool {
+    let can_pass =
+        |whole: &Whole, lock| !is_closed(whole, lock) && whole.get(LIMIT, lock) < UNITS.greatest();
+    let Some(lock) = some_lock(random, whole, can_pass) else {
+        return false;
+    };
+    let units = random.pick(&[whole.get(LIMIT, lock) + 1, UNITS.greatest()]);
+    whole.set(UNITS, lock, units);
     true
 }
 

@@ -1,14 +1,16 @@
-//! What was made by hand: the cases of the three files and the set pieces, each
+//! What was made by hand: the cases of the four files and the set pieces, each
 //! with its expected answer. The judge's own answers are held against these
 //! before any program's are held against the judge's.
 
 use crate::book_cases::{self, BookCase};
 use crate::boundaries::{self, SetPiece};
+use crate::run_cases::{self, RunCase};
 use crate::step_cases::{self, StepCase};
 use crate::write_cases::{self, WriteCase};
 
 pub struct ByHand {
     pub steps: Vec<StepCase>,
+    pub runs: Vec<RunCase>,
     pub books: Vec<BookCase>,
     pub pieces: Vec<SetPiece>,
     pub writings: Vec<WriteCase>,
@@ -19,6 +21,7 @@ pub fn read() -> Option<ByHand> {
     let told = |error: String| println!("{error}");
     Some(ByHand {
         steps: step_cases::cases().map_err(told).ok()?,
+        runs: run_cases::cases().map_err(told).ok()?,
         books: book_cases::cases().map_err(told).ok()?,
         pieces: boundaries::set_pieces(),
         writings: write_cases::cases().map_err(told).ok()?,
@@ -29,10 +32,12 @@ impl ByHand {
     /// Tests the judge itself and tells the outcome; false if anything differs.
     pub fn test(&self) -> bool {
         let steps = (self.steps.len(), step_cases::test(&self.steps));
+        let runs = (self.runs.len(), run_cases::test(&self.runs));
         let books = (self.books.len(), book_cases::test(&self.books));
         let pieces = (self.pieces.len(), boundaries::test(&self.pieces));
         let writings = (self.writings.len(), write_cases::test(&self.writings));
         let mut right = tell("hand-made steps", steps);
+        right &= tell("hand-made runs", runs);
         right &= tell("hand-made books", books);
         right &= tell("hand-made writings", writings);
         right & tell("set pieces at the edges of the rules", pieces)

@@ -126,7 +126,7 @@ pub fn figures(ours: &Whole, theirs: &Whole, other: &'static str) -> Vec<String>
 /// The first row byte that differs, and how many do.
 fn rows(judge: &[u8], program: &[u8]) -> Option<String> {
     let place = |at: usize| {
-        let field = ["running task", "user word", "next word", "lazy call"][at % 4];
+        let field = ["running task", "user word", "second word", "lazy call"][at % 4];
         format!("the {field} in the row of event {} (byte {at})", at / 4)
     };
     bytes("rows", judge, program, place)

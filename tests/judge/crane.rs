@@ -1,12 +1,14 @@
 //! RULES 18: the crane plan with its runs P1 to P12 and the values that are given
 //! for them, and the four mistakes, each of which must show on the run that is
-//! meant to show it.
+//! meant to show it. They are the second protocol's where nothing else is said;
+//! every row by both protocols is in `tests/cases/runs.txt`.
 
 use crate::draft::Draft;
 use crate::eager::Eager;
 use crate::event::Event::{self, Acquire, Finish, Release, Tick, Unlock, Work};
 use crate::lazy::{Lazy, Word};
 use crate::plan::{Lock, Plan, MOST_ACCEPTED, NOBODY};
+use crate::protocol::{ByProtocol, Protocol, PROTOCOLS};
 use crate::replay::{replay, Answer};
 use crate::wrong::Wrong;
 
@@ -46,7 +48,7 @@ pub const RUNS: [(&str, &[Event]); 12] = [
     ("P12", &[Release(0), Acquire(1), Release(1), Work(10), Work(1)]),
 ];
 
-/// What the program prints for P1, letter for letter.
+/// What the program prints for P1, letter for letter, by the second protocol.
 const P1_PRINTED: &str = "\
 event running user next call
 1 0 1 0 0
@@ -55,6 +57,21 @@ event running user next call
 4 0 5 3 0
 5 1 3 1 1
 6 0 1 0 0
+7 - 0 0 0
+calls 1 2
+delayed 0 2 0 0
+";
+
+/// The same by the first: the third column is the kernel word, under its old head.
+/// Both releases and the finishes leave the user word there, and so does the call.
+const P1_PRINTED_BY_FIRST: &str = "\
+event running user next call
+1 0 1 1 0
+2 0 5 1 0
+3 0 5 5 0
+4 0 5 5 0
+5 1 3 3 1
+6 0 1 1 0
 7 - 0 0 0
 calls 1 2
 delayed 0 2 0 0
@@ -106,7 +123,11 @@ impl Tests {
 }
 
 fn answer(events: &[Event], wrong: Wrong) -> Answer {
-    replay(&book(events), 4 * events.len(), wrong).answer
+    answers(events, wrong).second
+}
+
+fn answers(events: &[Event], wrong: Wrong) -> ByProtocol<Answer> {
+    replay(&book(events), 4 * events.len(), wrong).answers
 }
 
 fn run(name: &str) -> Answer {
@@ -151,7 +172,9 @@ pub fn test() -> (usize, Vec<String>) {
     runs_p1_to_p4(&mut tests);
     runs_p5_to_p12(&mut tests);
     eager_calls(&mut tests);
-    single_steps(&mut tests);
+    for protocol in PROTOCOLS {
+        single_steps(&mut tests, protocol);
+    }
     wrong_ways(&mut tests);
     (tests.done, tests.failed)
 }
@@ -161,6 +184,12 @@ fn runs_p1_to_p4(tests: &mut Tests) {
     tests.expect("P1: length of the book", book(RUNS[0].1).len(), 84);
     tests.expect("P1: nothing refused", (p1.number, p1.place), (0, 0));
     tests.expect("P1: the whole report", printed(&p1).as_str(), P1_PRINTED);
+    let by_first = answers(RUNS[0].1, Wrong::Nothing).first;
+    tests.expect(
+        "P1: the whole report by the first protocol",
+        printed(&by_first).as_str(),
+        P1_PRINTED_BY_FIRST,
+    );
 
     let p2 = run("P2");
     tests.expect("P2: nothing refused", p2.number, 0);
@@ -215,13 +244,15 @@ fn runs_p5_to_p12(tests: &mut Tests) {
     tests.expect("P10: nothing refused", (p10.number, p10.place), (0, 0));
     tests.expect("P10: no rows", p10.rows.len(), 0);
     let plan = plan();
-    let fresh = Lazy::new(&plan, Wrong::Nothing);
-    tests.expect("P10: nobody runs", fresh.running, None);
-    tests.expect(
-        "P10: both words are 0",
-        (fresh.user_word, fresh.next_word),
-        (Word(0), Word(0)),
-    );
+    for protocol in PROTOCOLS {
+        let fresh = Lazy::new(&plan, protocol, Wrong::Nothing);
+        tests.expect("P10: nobody runs", fresh.running, None);
+        tests.expect(
+            "P10: both words are 0",
+            (fresh.user_word, fresh.second_word),
+            (Word(0), Word(0)),
+        );
+    }
 
     tests.expect("P11: bounds", run("P11").bounds, vec![0, 10, 4, 0]);
 
@@ -260,10 +291,10 @@ fn eager_calls(tests: &mut Tests) {
 }
 
 /// What no book can show: 11, 20, and the order of 11 before 20 before 12.
-fn single_steps(tests: &mut Tests) {
+fn single_steps(tests: &mut Tests, protocol: Protocol) {
     let plan = plan();
     let mut eager = Eager::new(&plan, Wrong::Nothing);
-    let mut lazy = Lazy::new(&plan, Wrong::Nothing);
+    let mut lazy = Lazy::new(&plan, protocol, Wrong::Nothing);
     tests.expect(
         "eager: work of 0 is 20, before 12",
         eager.step(Work(0)),

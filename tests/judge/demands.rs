@@ -1,26 +1,88 @@
-//! What the judge demands of its own two schedulers while it judges: after
-//! every event they agree and the words are as defined, no lock has two
-//! holders, every section is within its limit and every delay within its bound,
-//! and there are no more lazy calls than eager ones; and at the end the counts
-//! equal the counts over the history.
+//! What the judge demands of its own three schedulers while it judges: after
+//! every event all refuse or accept it alike and run the same task, the words are
+//! as defined, no lock has two holders, every section is within its limit and
+//! every delay within its bound; the second protocol calls only where the first
+//! does, and that one only where the eager scheduler does; and at the end the
+//! counts equal the counts over the history.
 
 use crate::book::Book;
 use crate::eager::Eager;
 use crate::event::Event;
-use crate::lazy::Lazy;
+use crate::lazy::{Lazy, Word};
 use crate::plan::Plan;
+use crate::protocol::ByProtocol;
+use crate::replay::Answer;
 
-/// The demands after one accepted event; an error says in words what is wrong.
-pub fn after_event(plan: &Plan, bounds: &[u16], eager: &Eager, lazy: &Lazy) -> Result<(), String> {
-    same_task_and_words(eager, lazy)?;
+/// An event from a fresh start, and what each scheduler made of it.
+pub struct Happened {
+    pub event: Event,
+    /// The number that it is refused with, 0 if it is accepted.
+    pub by_eager: u8,
+    /// The same, and whether it was a lazy call.
+    pub by_lazy: ByProtocol<(u8, bool)>,
+    pub is_eager_call: bool,
+    /// As it was before the event.
+    pub kernel_word: Word,
+}
+
+/// The demands after one event; an error says in words what is wrong. The lazy
+/// schedulers are those of the second protocol and of the first.
+pub fn after_event(
+    happened: &Happened,
+    bounds: &[u16],
+    eager: &Eager,
+    (second, first): (&Lazy, &Lazy),
+) -> Result<(), String> {
+    let (by_second, by_first) = (happened.by_lazy.second, happened.by_lazy.first);
+    let numbers = [happened.by_eager, by_second.0, by_first.0];
+    if numbers != [numbers[0]; 3] {
+        let words = "the eager, the second and the first scheduler answer";
+        return Err(format!("{words} {numbers:?}"));
+    }
+    if numbers[0] == 17 {
+        return Err("17 occurred from a fresh start".to_string());
+    }
+    if numbers[0] != 0 {
+        return Ok(());
+    }
+    same_figures(bounds, eager, second)?;
+    same_kept_and_saved(second, first)?;
+    let next = eager.greatest_other_priority();
+    if second.second_word.0 != next {
+        let word = second.second_word.0;
+        return Err(format!("the next word is {word}, not {next}"));
+    }
+    kernel_word(happened, next, first)?;
+    let calls = [by_second.1, by_first.1, happened.is_eager_call];
+    if !calls.is_sorted() {
+        let words = "a call by the second, by the first and by the eager scheduler";
+        return Err(format!("{words}: {calls:?}"));
+    }
+    let calls = [second.calls, first.calls, eager.calls()];
+    if !calls.is_sorted() {
+        let words = "calls by the second, by the first and by the eager scheduler";
+        return Err(format!("{words}: {calls:?}"));
+    }
+    Ok(())
+}
+
+/// The second protocol's figures are the eager scheduler's, and within their
+/// bounds.
+fn same_figures(bounds: &[u16], eager: &Eager, lazy: &Lazy) -> Result<(), String> {
+    if eager.running() != lazy.running {
+        let (e, l) = (eager.running(), lazy.running);
+        return Err(format!(
+            "the eager scheduler runs {e:?}, the lazy one {l:?}"
+        ));
+    }
+    let user = eager.running().map_or(0, |task| eager.priority(task));
+    if lazy.user_word.0 != user {
+        return Err(format!("the user word is {}, not {user}", lazy.user_word.0));
+    }
     if eager.calls() != lazy.eager_calls {
         return Err("the counts of eager calls differ".to_string());
     }
-    if lazy.calls > eager.calls() {
-        let (l, e) = (lazy.calls, eager.calls());
-        return Err(format!("{l} lazy calls are more than {e} eager ones"));
-    }
-    holders_and_sections(plan, eager, lazy)?;
+    holders_and_sections(lazy.plan, eager, lazy)?;
     for (task, bound) in bounds.iter().enumerate() {
         if eager.release_number(task) != lazy.tasks[task].release_number {
             return Err(format!("the release numbers of task {task} differ"));
@@ -42,23 +104,56 @@ pub fn after_event(plan: &Plan, bounds: &[u16], eager: &Eager, lazy: &Lazy) -> R
     Ok(())
 }
 
-/// Both run the same task. The user word is its priority, and the next word the
-/// greatest one among the tasks that wait, as the eager scheduler works them
-/// out; 0 where there is none.
-fn same_task_and_words(eager: &Eager, lazy: &Lazy) -> Result<(), String> {
-    if eager.running() != lazy.running {
-        let (e, l) = (eager.running(), lazy.running);
+/// By both protocols all is the same but the second word and the lazy calls: who
+/// runs, the user word, and all figures of tasks and locks.
+fn same_kept_and_saved(second: &Lazy, first: &Lazy) -> Result<(), String> {
+    if second.running != first.running {
+        let (s, f) = (second.running, first.running);
+        return Err(format!("the second protocol runs {s:?}, the first {f:?}"));
+    }
+    if second.user_word != first.user_word {
+        let (s, f) = (second.user_word.0, first.user_word.0);
+        return Err(format!("the user words are {s} and {f}"));
+    }
+    let counts = |lazy: &Lazy| (lazy.accepted, lazy.eager_calls);
+    if counts(second) != counts(first) {
+        return Err("accepted events or eager calls differ by protocol".to_string());
+    }
+    let mut tasks = second.tasks.iter().zip(&first.tasks);
+    if let Some(task) = tasks.position(|(second, first)| second != first) {
+        return Err(format!("the figures of task {task} differ by protocol"));
+    }
+    let mut locks = second.sections.iter().zip(&first.sections);
+    if let Some(lock) = locks.position(|(second, first)| second != first) {
+        return Err(format!("the figures of lock {lock} differ by protocol"));
+    }
+    Ok(())
+}
+
+/// The kernel word is at least the priority of every other released task, of which
+/// this is the greatest, and at most the user word. A kernel entry leaves the user
+/// word there, and no other event changes it.
+fn kernel_word(happened: &Happened, greatest: u8, first: &Lazy) -> Result<(), String> {
+    let (word, user) = (first.second_word, first.user_word);
+    if word < Word(greatest) {
+        let word = word.0;
         return Err(format!(
-            "the eager scheduler runs {e:?}, the lazy one {l:?}"
+            "the kernel word {word} is below {greatest}, a waiting task's priority"
         ));
     }
-    let user = eager.running().map_or(0, |task| eager.priority(task));
-    if lazy.user_word.0 != user {
-        return Err(format!("the user word is {}, not {user}", lazy.user_word.0));
+    if word > user {
+        let (word, user) = (word.0, user.0);
+        return Err(format!(
+            "the kernel word {word} is above the user word {user}"
+        ));
     }
-    let next = eager.greatest_other_priority();
-    if lazy.next_word.0 != next {
-        return Err(format!("the next word is {}, not {next}", lazy.next_word.0));
+    let left = match happened.event.is_entry(happened.by_lazy.first.1) {
+        true => user,
+        false => happened.kernel_word,
+    };
+    if word != left {
+        let (word, left) = (word.0, left.0);
+        return Err(format!("the kernel word is {word}, not {left}"));
     }
     Ok(())
 }
@@ -95,32 +190,44 @@ fn holders_and_sections(plan: &Plan, eager: &Eager, lazy: &Lazy) -> Result<(), S
     Ok(())
 }
 
-/// The counts of the answer against those over the history, which is the list
+/// The counts of the answers against those over the history, which is the list
 /// of accepted events and the rows written for them.
-pub fn after_run(
-    book: &Book,
-    accepted: usize,
-    rows: &[u8],
-    calls: (u32, u32),
-    delays: &[u16],
-) -> Result<(), String> {
+pub fn after_run(book: &Book, accepted: usize, answers: &ByProtocol<Answer>) -> Result<(), String> {
     let history = &book.events[..accepted];
-    let lazy_calls = (0..accepted)
-        .filter(|place| rows[4 * place + 3] == 1)
-        .count();
-    let eager_calls = eager_over_history(&book.plan, history, rows);
-    if (lazy_calls as u32, eager_calls) != calls {
+    let (second, first) = (&answers.second, &answers.first);
+    for answer in [second, first] {
+        let calls = answer.rows.chunks(4).take(accepted);
+        let calls = calls.filter(|row| row[3] == 1).count();
+        if calls as u32 != answer.lazy_calls {
+            let lazy = answer.lazy_calls;
+            return Err(format!("{lazy} lazy calls, over the history {calls}"));
+        }
+    }
+    let eager_calls = eager_over_history(&book.plan, history, &second.rows);
+    if second.eager_calls != eager_calls {
+        let calls = second.eager_calls;
         return Err(format!(
-            "calls {calls:?}, over the history {lazy_calls} and {eager_calls}"
+            "{calls} eager calls, over the history {eager_calls}"
         ));
     }
-    for (task, delay) in delays.iter().enumerate() {
-        let counted = delay_over_history(&book.plan, history, rows, task);
+    for (task, delay) in second.delays.iter().enumerate() {
+        let counted = delay_over_history(&book.plan, history, &second.rows, task);
         if counted != u64::from(*delay) {
             return Err(format!(
                 "the delay of task {task} is {delay}, over the history {counted}"
             ));
         }
+    }
+    // By the first protocol the answer is the same but for the second words and
+    // the lazy calls.
+    let mut alike = first.clone();
+    alike.lazy_calls = second.lazy_calls;
+    let rows = alike.rows.chunks_mut(4).zip(second.rows.chunks(4));
+    for (row, others) in rows.take(accepted) {
+        row[2..].copy_from_slice(&others[2..]);
+    }
+    if alike != *second {
+        return Err("the answers differ by protocol in more than the second word".to_string());
     }
     Ok(())
 }

@@ -11,6 +11,12 @@ pub enum Event {
 }
 
 impl Event {
+    /// Whether an accepted event enters the kernel, given whether it was a lazy
+    /// call: only an unlock can be one.
+    pub fn is_entry(self, lazy_call: bool) -> bool {
+        lazy_call || matches!(self, Event::Release(_) | Event::Finish | Event::Tick)
+    }
+
     /// The kinds are numbered from 1 in the order above. The amount is
     /// little-endian, and a field that the kind has no use for is 0.
     pub fn record(self) -> [u8; 4] {

@@ -1,6 +1,6 @@
 //! `--kernel`: the same lists on a real kernel. The program under judgement gives
-//! the rows of each list, the kernel runs it, and what ran after each event has
-//! to be the running task of its row. Where the kernel's calls for another
+//! the rows of each list by both protocols, the kernel runs it, and what ran after
+//! each event has to be the running task of both rows. Where the kernel's calls for another
 //! priority were counted, they have to be the eager calls.
 //!
 //! Then the judge goes wrong in what it expects, in each way that a kernel can
@@ -13,6 +13,7 @@ use crate::kernel_tally::{Calls, KernelTally};
 use crate::kernel_trial::Trial;
 use crate::lists;
 use crate::program::{Program, Replies};
+use crate::protocol::{ByProtocol, Protocol, PROTOCOLS};
 use crate::requests::Request;
 use crate::wire::{self, SILENT};
 use crate::wrong::Wrong;
@@ -20,9 +21,14 @@ use crate::Options;
 use std::io;
 use std::sync::Arc;
 
-/// The wrong ways that show in what a kernel runs, and those that show in the
-/// number of its calls alone.
-const BY_RUN: [Wrong; 3] = [Wrong::Tail, Wrong::GivesWay, Wrong::Base];
+/// The wrong ways that show in what a kernel runs, by each protocol that goes wrong
+/// in them, and those that show in the number of its calls alone.
+const BY_RUN: [Wrong; 4] = [
+    Wrong::Tail,
+    Wrong::GivesWay,
+    Wrong::Base,
+    Wrong::ReleaseLeavesKernelWord,
+];
 const BY_CALLS: [Wrong; 2] = [Wrong::EveryLockAct, Wrong::AcquiresAlone];
 
 /// So many lists that differ are told in words.
@@ -33,24 +39,31 @@ const TOLD: usize = 5;
 pub fn judge(options: &Options) -> Result<Ending, String> {
     let cases: Vec<Arc<Case>> = cases(options)?.into_iter().map(Arc::new).collect();
     let [kernel, program] = [0, 1].map(|at| &options.commands[at]);
-    let answers = ask(program, &cases, |case, replies| {
-        Ok((wire::read_replay(replies, case.row_space)?, true))
-    })?;
-    let runs = ask(kernel, &cases, |_, replies| {
+    let answers = |protocol| {
+        ask(program, &cases, protocol, |case, replies| {
+            Ok((wire::read_replay(replies, case.row_space)?, true))
+        })
+    };
+    let second = answers(Protocol::Second)?;
+    let first = answers(Protocol::First)?;
+    // A kernel knows neither protocol, and does not look at which one is asked.
+    let runs = ask(kernel, &cases, Protocol::Second, |_, replies| {
         let run = wire::read_run(replies)?;
         // After one that had to be ended no other is tried.
         let goes_on = run.ending != SILENT;
         Ok((run, goes_on))
     })?;
-    let (Some(answers), Some(runs)) = (answers, runs) else {
+    let (Some(second), Some(first), Some(runs)) = (second, first, runs) else {
         println!("FAILED");
         return Ok(Ending::Failed);
     };
+    let answers = second.into_iter().zip(first);
+    let answers = answers.map(|(second, first)| ByProtocol { second, first });
     let trials: Vec<Trial> = (cases.into_iter().zip(answers).zip(runs))
-        .map(|((case, answer), run)| Trial {
+        .map(|((case, answers), run)| Trial {
             events: lists::events(&case),
             case,
-            answer,
+            answers,
             run,
         })
         .collect();
@@ -67,14 +80,17 @@ fn cases(options: &Options) -> Result<Vec<Case>, String> {
     Ok(vec![case])
 }
 
-/// The replies of a program that is asked to replay each list: all, or up to the
-/// first after which the reader wants no more; nothing where one did not come.
+/// The replies of a program that is asked to replay each list by a protocol: all,
+/// or up to the first after which the reader wants no more; nothing where one did
+/// not come.
 fn ask<T>(
     command: &[String],
     cases: &[Arc<Case>],
+    protocol: Protocol,
     read: impl Fn(&Case, &mut Replies) -> io::Result<(T, bool)>,
 ) -> Result<Option<Vec<T>>, String> {
-    let requests: Vec<Request> = cases.iter().map(Request::replay).collect();
+    let replay = |case| Request::replay(case, protocol);
+    let requests: Vec<Request> = cases.iter().map(replay).collect();
     let mut program = Program::start(command, requests.into_iter())?;
     let mut replies = Vec::new();
     let has_replied = program.hear(|_, input| {
@@ -103,7 +119,7 @@ fn conclude(options: &Options, trials: &[Trial]) -> Ending {
         println!("FAILED");
         return Ending::Failed;
     }
-    println!("after every event the kernel ran the task of the program's row");
+    println!("after every event the kernel ran the task of the program's rows");
     Ending::Agrees
 }
 
@@ -151,16 +167,25 @@ fn is_telling(options: &Options, trials: &[Trial]) -> bool {
     trials.iter().for_each(|trial| tally.count(trial));
     println!("{}", tally.summary());
     let is_covered = is_reached("lists", &tally.missing(), options.has_all_lists());
-    let by_run = BY_RUN.map(|wrong| is_told(trials, wrong, Trial::tells_by_run));
+    let by_run = BY_RUN.map(|wrong| {
+        let touched = PROTOCOLS.into_iter().filter(|it| wrong.touches(*it));
+        let told = touched.map(|protocol| {
+            let way = format!("{wrong:?} by the {} protocol", protocol.name());
+            is_told(trials, &way, |trial| trial.tells_by_run(wrong, protocol))
+        });
+        told.fold(true, |all, told| all & told)
+    });
     let has_calls = Calls::of_all(trials).kernel.is_some();
-    let by_calls =
-        BY_CALLS.map(|wrong| !has_calls || is_told(trials, wrong, Trial::tells_by_calls));
+    let by_calls = BY_CALLS.map(|wrong| {
+        let way = format!("{wrong:?}");
+        !has_calls || is_told(trials, &way, |trial| trial.tells_by_calls(wrong))
+    });
     is_covered && by_run.iter().chain(&by_calls).all(|told| *told)
 }
 
 /// Whether the kernel differs in some list from a judge gone wrong.
-fn is_told(trials: &[Trial], wrong: Wrong, tells: fn(&Trial, Wrong) -> bool) -> bool {
-    let differing = trials.iter().filter(|trial| tells(trial, wrong)).count();
-    println!("gone wrong as {wrong:?}: {differing} lists differ");
+fn is_told(trials: &[Trial], way: &str, tells: impl Fn(&Trial) -> bool) -> bool {
+    let differing = trials.iter().filter(|trial| tells(trial)).count();
+    println!("gone wrong as {way}: {differing} lists differ");
     differing > 0
 }

@@ -1,5 +1,5 @@
 //! Counting what the lists for a real kernel reach, so that its agreement means
-//! something, and the calls of both schedulers beside the kernel's own.
+//! something, and the calls of all schedulers beside the kernel's own.
 
 use crate::event::Event;
 use crate::kernel_trial::Trial;
@@ -15,7 +15,8 @@ pub struct KernelTally {
     ties: usize,
     /// Unlocks of which this is so, and after which their task goes on.
     unlocks_at_ties: usize,
-    /// Unlocks that are lazy calls.
+    /// Unlocks that are lazy calls by the second protocol: they are those after
+    /// which another task runs.
     calls: usize,
     /// Events after which nobody runs.
     idle: usize,
@@ -27,13 +28,14 @@ pub struct KernelTally {
 impl KernelTally {
     /// Counts a list whose events are all accepted.
     pub fn count(&mut self, trial: &Trial) {
-        let tasks = trial.answer.delays.len();
+        let answer = &trial.answers.second;
+        let tasks = answer.delays.len();
         self.lists += 1;
         self.events += trial.events.len();
         self.tasks = self.tasks.max(tasks);
         let mut open = vec![0; tasks];
         let mut before = NOBODY;
-        for (event, row) in trial.events.iter().zip(trial.answer.rows.chunks(4)) {
+        for (event, row) in trial.events.iter().zip(answer.rows.chunks(4)) {
             let (running, user, next, call) = (row[0], row[1], row[2], row[3]);
             let is_tie = running != NOBODY && user == next;
             match event {
@@ -85,10 +87,12 @@ impl KernelTally {
     }
 }
 
-/// The calls of both schedulers, and those of the kernel where they were counted.
+/// The calls of all schedulers, and those of the kernel where they were counted.
 #[derive(Clone, Copy)]
 pub struct Calls {
-    lazy: u32,
+    /// By the second protocol and by the first.
+    second: u32,
+    first: u32,
     eager: u32,
     pub kernel: Option<u32>,
 }
@@ -96,36 +100,45 @@ pub struct Calls {
 impl Calls {
     pub fn of(trial: &Trial) -> Calls {
         Calls {
-            lazy: trial.answer.lazy_calls,
-            eager: trial.answer.eager_calls,
+            second: trial.answers.second.lazy_calls,
+            first: trial.answers.first.lazy_calls,
+            eager: trial.answers.second.eager_calls,
             kernel: trial.run.calls,
         }
     }
 
     pub fn of_all(trials: &[Trial]) -> Calls {
         let none = Calls {
-            lazy: 0,
+            second: 0,
+            first: 0,
             eager: 0,
             kernel: Some(0),
         };
         trials.iter().map(Calls::of).fold(none, |sum, one| Calls {
-            lazy: sum.lazy + one.lazy,
+            second: sum.second + one.second,
+            first: sum.first + one.first,
             eager: sum.eager + one.eager,
             kernel: sum.kernel.zip(one.kernel).map(|(sum, one)| sum + one),
         })
     }
 
-    /// Saved is what the lazy scheduler leaves out of what the eager one does.
+    /// Saved is what the second protocol leaves out of what the eager scheduler
+    /// does.
     pub fn print_head() {
-        println!("calls:  eager  kernel   lazy  saved");
+        println!("calls:  eager  kernel  first second  saved");
     }
 
     pub fn print(self, name: &str) {
-        let Calls { lazy, eager, .. } = self;
+        let Calls {
+            second,
+            first,
+            eager,
+            ..
+        } = self;
         let kernel = self.kernel.map_or("-".to_string(), |it| it.to_string());
-        let (left_out, all) = (u64::from(eager.saturating_sub(lazy)), u64::from(eager));
+        let (left_out, all) = (u64::from(eager.saturating_sub(second)), u64::from(eager));
         let saved = (100 * left_out + all / 2).checked_div(all);
         let saved = saved.map_or("-".to_string(), |percent| format!("{percent} %"));
-        println!("{eager:>13} {kernel:>7} {lazy:>6} {saved:>6}  {name}");
+        println!("{eager:>13} {kernel:>7} {first:>6} {second:>6} {saved:>6}  {name}");
     }
 }

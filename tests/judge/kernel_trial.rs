@@ -5,16 +5,17 @@ use crate::compare;
 use crate::event::Event;
 use crate::generate::Case;
 use crate::plan::NOBODY;
+use crate::protocol::{ByProtocol, Protocol, PROTOCOLS};
 use crate::replay::Answer;
 use crate::wire::{Run, WHOLE};
 use crate::wrong::Wrong;
 use std::sync::Arc;
 
-/// A list, what the program answers and what the kernel made of it.
+/// A list, what the program answers by each protocol and what the kernel made of it.
 pub struct Trial {
     pub case: Arc<Case>,
     pub events: Vec<Event>,
-    pub answer: Answer,
+    pub answers: ByProtocol<Answer>,
     pub run: Run,
 }
 
@@ -22,11 +23,17 @@ impl Trial {
     /// What differs, in words: the program from the judge, and the kernel from
     /// the program.
     pub fn differences(&self) -> Vec<String> {
-        let judge = self.case.replay(Wrong::Nothing).answer;
-        let mut found = compare::answers(&judge, &self.answer);
-        let expected = Expected::of(&self.answer, self.events.len());
-        found.extend(expected.other_task(&self.events, &self.run));
-        found.extend(expected.other_calls(&self.run));
+        let judge = self.case.replay(Wrong::Nothing).answers;
+        let mut found = Vec::new();
+        for protocol in PROTOCOLS {
+            let answer = self.answers.of(protocol);
+            let expected = Expected::of(answer, self.events.len());
+            let mut by_protocol = compare::answers(judge.of(protocol), answer);
+            by_protocol.extend(expected.other_task(&self.events, &self.run));
+            by_protocol.extend(expected.other_calls(&self.run));
+            let told = by_protocol.iter();
+            found.extend(told.map(|words| format!("{} protocol: {words}", protocol.name())));
+        }
         if self.run.ending != WHOLE || self.run.who.len() != self.events.len() + 1 {
             let (taken, words) = (self.run.who.len(), self.run.ending_in_words());
             found.push(format!("after {taken} events that were taken: {words}"));
@@ -36,14 +43,14 @@ impl Trial {
 
     /// Whether the kernel differs, in what it ran, from what a judge gone wrong
     /// expects.
-    pub fn tells_by_run(&self, wrong: Wrong) -> bool {
-        let expected = Expected::gone_wrong(&self.case, wrong);
+    pub fn tells_by_run(&self, wrong: Wrong, protocol: Protocol) -> bool {
+        let expected = Expected::gone_wrong(&self.case, wrong, protocol);
         expected.other_task(&self.events, &self.run).is_some()
     }
 
-    /// The same for its calls.
+    /// The same for its calls, which are those of the eager scheduler.
     pub fn tells_by_calls(&self, wrong: Wrong) -> bool {
-        let expected = Expected::gone_wrong(&self.case, wrong);
+        let expected = Expected::gone_wrong(&self.case, wrong, Protocol::Second);
         expected.other_calls(&self.run).is_some()
     }
 
@@ -52,7 +59,10 @@ impl Trial {
     pub fn show(&self) {
         println!("{:<26}{:<10}kernel", "event", "row");
         for (at, event) in self.events.iter().enumerate() {
-            let (row, ran) = (self.answer.rows[4 * at], self.run.who.get(at + 1).copied());
+            let (row, ran) = (
+                self.answers.second.rows[4 * at],
+                self.run.who.get(at + 1).copied(),
+            );
             let event = format!("{} {event:?}", at + 1);
             let told = ran.map_or("-".to_string(), named);
             let note = if ran == Some(row) { "" } else { ", differs" };
@@ -80,9 +90,10 @@ impl Expected {
 
     /// By a judge gone wrong. It may refuse an event of the list, and no more is
     /// expected then.
-    fn gone_wrong(case: &Case, wrong: Wrong) -> Expected {
+    fn gone_wrong(case: &Case, wrong: Wrong, protocol: Protocol) -> Expected {
         let outcome = case.replay(wrong);
-        Expected::of(&outcome.answer, outcome.accepted)
+        let accepted = *outcome.accepted.of(protocol);
+        Expected::of(outcome.answers.of(protocol), accepted)
     }
 
     /// The first event after which the kernel ran another task, in words.

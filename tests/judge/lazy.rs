@@ -1,10 +1,15 @@
-//! The lazy scheduler: the user word, the next word, kept priorities, saved
-//! words, switches and lazy calls, to the letter of the rules, also where the
-//! running task isn't the most urgent one. It never works out a priority from
-//! the open locks; nothing here is shared with the eager scheduler.
+//! The lazy scheduler, by either protocol: the user word, the second word, kept
+//! priorities, saved words, switches and lazy calls, to the letter of the rules,
+//! also where the running task isn't the most urgent one. It never works out a
+//! priority from the open locks; nothing here is shared with the eager scheduler.
+//!
+//! The protocols part in one place, `set_second_word`. Every kernel entry ends
+//! there: a release, a finish, a tick and an unlock that calls. Nothing else sets
+//! the second word.
 
 use crate::event::Event;
 use crate::plan::{Plan, MOST_ACCEPTED, MOST_OPEN, MOST_UNITS, NOBODY};
+use crate::protocol::Protocol;
 use crate::wrong::Wrong;
 
 /// A number of user space. It is another type than the kernel's number, so that
@@ -17,14 +22,14 @@ pub struct Word(pub u8);
 pub struct Kept(pub u8);
 
 /// An open lock of a task, with the user word that its acquire saved.
-#[derive(Clone, Copy)]
+#[derive(Clone, Copy, PartialEq, Eq)]
 pub struct OpenLock {
     pub lock: usize,
     pub saved: Word,
 }
 
 /// The figures of one task.
-#[derive(Clone)]
+#[derive(Clone, PartialEq, Eq)]
 pub struct TaskFigures {
     /// 0 while the task isn't released.
     pub release_number: u32,
@@ -36,7 +41,7 @@ pub struct TaskFigures {
 }
 
 /// The figures of one lock.
-#[derive(Clone)]
+#[derive(Clone, PartialEq, Eq)]
 pub struct Section {
     pub holder: Option<usize>,
     pub units: u32,
@@ -44,11 +49,13 @@ pub struct Section {
 
 pub struct Lazy<'p> {
     pub plan: &'p Plan,
+    pub protocol: Protocol,
     pub wrong: Wrong,
     pub accepted: u32,
     pub running: Option<usize>,
     pub user_word: Word,
-    pub next_word: Word,
+    /// The next word or the kernel word, by the protocol.
+    pub second_word: Word,
     pub tasks: Vec<TaskFigures>,
     pub sections: Vec<Section>,
     pub calls: u32,
@@ -59,7 +66,7 @@ pub struct Lazy<'p> {
 
 impl<'p> Lazy<'p> {
     /// The fresh start.
-    pub fn new(plan: &'p Plan, wrong: Wrong) -> Lazy<'p> {
+    pub fn new(plan: &'p Plan, protocol: Protocol, wrong: Wrong) -> Lazy<'p> {
         let figures = TaskFigures {
             release_number: 0,
             kept: Kept(0),
@@ -72,11 +79,12 @@ impl<'p> Lazy<'p> {
         };
         Lazy {
             plan,
-            wrong,
+            protocol,
+            wrong: wrong.of(protocol),
             accepted: 0,
             running: None,
             user_word: Word(0),
-            next_word: Word(0),
+            second_word: Word(0),
             tasks: vec![figures; plan.bases.len()],
             sections: vec![closed; plan.locks.len()],
             calls: 0,
@@ -95,7 +103,7 @@ impl<'p> Lazy<'p> {
         [
             running,
             self.user_word.0,
-            self.next_word.0,
+            self.second_word.0,
             u8::from(lazy_call),
         ]
     }
@@ -115,7 +123,7 @@ impl<'p> Lazy<'p> {
             Event::Unlock(lock) => self.unlock(usize::from(lock))?,
             Event::Work(amount) => self.work(amount)?,
             Event::Finish => self.finish()?,
-            Event::Tick => false,
+            Event::Tick => self.tick(),
         };
         self.accepted += 1;
         Ok(lazy_call)
@@ -148,7 +156,8 @@ impl<'p> Lazy<'p> {
         match self.wrong {
             Wrong::NewcomerRuns if switches => self.switch_to(Some(task)),
             _ if switches => self.switch(),
-            _ => self.set_next_word(),
+            Wrong::ReleaseLeavesKernelWord => {}
+            _ => self.set_second_word(),
         }
         Ok(false)
     }
@@ -174,10 +183,14 @@ impl<'p> Lazy<'p> {
         if self.tasks[task].open.len() >= most_open {
             return Err(18);
         }
-        // The user word is saved and rises to the ceiling, if it is below it.
+        // The user word is saved and rises to the ceiling, if it is below it. The
+        // kernel knows nothing of it, so the second word stays.
         let saved = self.user_word;
         self.tasks[task].open.push(OpenLock { lock, saved });
         self.user_word = saved.max(Word(self.plan.locks[lock].ceiling));
+        if self.wrong == Wrong::AcquireSetsKernelWord {
+            self.set_second_word();
+        }
         self.sections[lock] = Section {
             holder: Some(task),
             units: 0,
@@ -204,28 +217,41 @@ impl<'p> Lazy<'p> {
             holder: None,
             units: 0,
         };
-        let word_before = self.user_word;
+        let raised = self.user_word;
         self.user_word = match self.wrong {
             Wrong::Base => Word(self.plan.bases[task]),
             _ => newest.saved,
         };
         // After a switch the word is another task's, so this comes first.
-        let changes = self.user_word != word_before;
+        let changes = self.user_word != raised;
         if self.wrong.counts(Event::Unlock(lock as u8), changes) {
             self.eager_calls += 1;
         }
-        // If the next word is above what was restored, this is a lazy call, and
-        // the kernel switches.
+        // If the second word is above what was restored, this is a lazy call, and
+        // the kernel switches, be it to the same task again. Else the kernel is
+        // not entered, and the second word stays.
         let lazy_call = match self.wrong {
-            Wrong::AtOrAbove | Wrong::GivesWay => self.next_word >= self.user_word,
-            _ => self.user_word < self.next_word,
+            Wrong::AtOrAbove | Wrong::GivesWay | Wrong::KernelWordAtOrAbove => {
+                self.second_word >= self.user_word
+            }
+            _ => self.user_word < self.second_word,
         };
-        if self.wrong == Wrong::GivesWay && self.user_word == self.next_word {
+        if self.wrong == Wrong::GivesWay && self.user_word == self.second_word {
             self.tasks[task].release_number = self.accepted + 1;
         }
+        let word_before = self.second_word;
         if lazy_call {
             self.calls += 1;
             self.switch();
+        }
+        match self.wrong {
+            Wrong::CallLeavesKernelWord if lazy_call => self.second_word = word_before,
+            Wrong::UnlockSetsKernelWord if !lazy_call => self.set_second_word(),
+            Wrong::SameAgainUncounted if lazy_call && self.running == Some(task) => {
+                self.calls -= 1;
+                return Ok(false);
+            }
+            _ => {}
         }
         Ok(lazy_call)
     }
@@ -255,8 +281,7 @@ impl<'p> Lazy<'p> {
     /// stays at its greatest value when it gets there.
     fn delay_others(&mut self, worker: usize, amount: u16) {
         let base_of_worker = self.plan.bases[worker];
-        let one_above = base_of_worker.saturating_add(1);
-        if self.wrong == Wrong::SparedByOne && self.next_word.0 <= one_above {
+        if self.spares_all(base_of_worker) {
             return;
         }
         for (figures, base) in self.tasks.iter_mut().zip(&self.plan.bases) {
@@ -267,6 +292,15 @@ impl<'p> Lazy<'p> {
                     _ => sum.min(u32::from(MOST_UNITS)) as u16,
                 };
             }
+        }
+    }
+
+    /// Whether work by a task of this base is wrongly nobody's delay.
+    fn spares_all(&self, base: u8) -> bool {
+        match self.wrong {
+            Wrong::SparedByOne => self.second_word.0 <= base.saturating_add(1),
+            Wrong::SparedByKernelWord => self.second_word.0 <= base,
+            _ => false,
         }
     }
 
@@ -289,6 +323,15 @@ impl<'p> Lazy<'p> {
         Ok(false)
     }
 
+    /// Tick: never refused. It is a kernel entry and no more. The next word of a
+    /// sound state is what it was before.
+    fn tick(&mut self) -> bool {
+        if self.wrong != Wrong::TickLeavesKernelWord {
+            self.set_second_word();
+        }
+        false
+    }
+
     /// The user word is kept as the priority of the task that leaves. Whoever of
     /// the released tasks has the greatest kept priority is next, and of equal
     /// ones the one released first. While a task runs, nothing is kept for it.
@@ -308,6 +351,7 @@ impl<'p> Lazy<'p> {
                 self.tasks[leaving].release_number = self.accepted + 1;
             }
         }
+        let word_of_leaving = self.user_word;
         self.running = chosen;
         // From now on the user word is that of whoever runs, 0 with nobody.
         self.user_word = Word(0);
@@ -315,7 +359,10 @@ impl<'p> Lazy<'p> {
             self.user_word = Word(self.tasks[task].kept.0);
             self.tasks[task].kept = Kept(0);
         }
-        self.set_next_word();
+        self.set_second_word();
+        if self.wrong == Wrong::KernelWordBeforeSwitch {
+            self.second_word = word_of_leaving;
+        }
     }
 
     fn elect(&self) -> Option<usize> {
@@ -336,11 +383,19 @@ impl<'p> Lazy<'p> {
         chosen
     }
 
+    /// What every kernel entry leaves in the second word, after any switch.
+    ///
     /// The next word tells how urgent the most urgent waiting task is, 0 without
     /// one: it is the greatest of all kept priorities, since nothing is kept for
-    /// the running task nor for an unreleased one.
-    fn set_next_word(&mut self) {
-        let greatest = self.tasks.iter().map(|figures| figures.kept).max();
-        self.next_word = Word(greatest.unwrap_or(Kept(0)).0);
+    /// the running task nor for an unreleased one. The kernel word is the user
+    /// word of the task that runs now, 0 with nobody.
+    fn set_second_word(&mut self) {
+        self.second_word = match self.protocol {
+            Protocol::Second => {
+                let greatest = self.tasks.iter().map(|figures| figures.kept).max();
+                Word(greatest.unwrap_or(Kept(0)).0)
+            }
+            Protocol::First => self.user_word,
+        };
     }
 }

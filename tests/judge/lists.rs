@@ -44,11 +44,11 @@ pub fn of_book(name: &str, book: &[u8]) -> Option<Case> {
 fn until_refused(name: String, plan: &Plan, events: &[Event]) -> Case {
     let whole = case(name, plan, events);
     let outcome = whole.replay(Wrong::Nothing);
-    let name = match outcome.answer.number {
+    let name = match outcome.answers.second.number {
         0 => whole.name,
         number => format!("{} up to its refusal {number}", whole.name),
     };
-    case(name, plan, &events[..outcome.accepted])
+    case(name, plan, &events[..outcome.accepted.second])
 }
 
 /// The generated list of this number: small and large plans in turn, with deep

@@ -1,5 +1,5 @@
 //! An independent judge of the scheduler project: a second reading of the rules,
-//! with its own reader and writer of books, its own two schedulers and its own
+//! with its own reader and writer of books, its own schedulers and its own
 //! test of soundness. It makes books, records and states, has the program under
 //! judgement replay, check, write and step them, and compares every field and
 //! figure of every answer with its own. It shares no line with what it judges.
@@ -43,17 +43,20 @@ mod own;
 mod plan;
 mod plans;
 mod program;
+mod protocol;
 mod random;
 mod refusals;
 mod replay;
 mod requests;
 mod resume;
 mod rounds;
+mod run_cases;
 mod sound;
 mod state_notation;
 mod states;
 mod step;
 mod step_cases;
+mod step_rules;
 mod step_tally;
 mod tally;
 mod trials;
@@ -61,6 +64,7 @@ mod verdict;
 mod walk;
 mod whole;
 mod wire;
+mod word_rules;
 mod write_cases;
 mod write_tally;
 mod writer;
@@ -69,6 +73,7 @@ mod writings;
 mod wrong;
 
 use judging::Ending;
+use protocol::ByProtocol;
 use requests::Amounts;
 use std::process::ExitCode;
 use step_tally::StepTally;
@@ -85,7 +90,7 @@ usage: judge [OPTION..] -- COMMAND ARGS..
 --seed N    of all that is generated (1)
 --count N   short books (20000)
 --long N    books of the most events (40)
---steps N   single steps (100000)
+--steps N   single steps (200000)
 --writes N  books to be written (10000)
 --lists N   lists for a real kernel (100)
 --book FILE for a real kernel this book alone, event by event
@@ -97,7 +102,7 @@ const DEFAULT: Amounts = Amounts {
     seed: 1,
     short: 20_000,
     long: 40,
-    steps: 100_000,
+    steps: 200_000,
     writings: 10_000,
     lists: 100,
 };
@@ -147,11 +152,17 @@ impl Options {
 
     /// Whether the generated books, steps and writings reached all that they
     /// have to. A run with fewer than the default number need not.
-    pub fn is_covered(&self, books: &Tally, steps: &StepTally, writings: &WriteTally) -> bool {
+    pub fn is_covered(
+        &self,
+        books: &Tally,
+        steps: &ByProtocol<StepTally>,
+        writings: &WriteTally,
+    ) -> bool {
         let has_all_books = self.amounts.short >= DEFAULT.short;
         let has_all_writings = self.amounts.writings >= DEFAULT.writings;
         let by_books = is_reached("books", &books.missing(), has_all_books);
-        let by_steps = is_reached("steps", &steps.missing(), self.is_full());
+        let missing = [steps.second.missing(), steps.first.missing()].concat();
+        let by_steps = is_reached("steps", &missing, self.is_full());
         let by_writings = is_reached("writings", &writings.missing(), has_all_writings);
         by_books && by_steps && by_writings
     }
@@ -260,18 +271,20 @@ fn number(word: &str) -> Result<u64, String> {
 fn write_book(kind: &str, path: &str) -> Result<Ending, String> {
     let case = generate::full_length(kind).ok_or(format!("no book is of kind {kind}"))?;
     let outcome = case.replay(Wrong::Nothing);
-    if outcome.violation.is_some() || outcome.answer.number != 0 {
+    let answers = &outcome.answers;
+    if outcome.violation.is_some() || answers.second.number != 0 {
         println!("{}: refused, or {:?}", case.name, outcome.violation);
         return Ok(Ending::Failed);
     }
     std::fs::write(path, &case.book).map_err(|error| format!("cannot write {path}: {error}"))?;
     println!(
-        "{}: {} bytes, {} events accepted, {} lazy and {} eager calls",
+        "{}: {} bytes, {} events accepted, {} lazy ({} by the first protocol) and {} eager calls",
         case.name,
         case.book.len(),
-        outcome.accepted,
-        outcome.answer.lazy_calls,
-        outcome.answer.eager_calls,
+        outcome.accepted.second,
+        answers.second.lazy_calls,
+        answers.first.lazy_calls,
+        answers.second.eager_calls,
     );
     Ok(Ending::Agrees)
 }

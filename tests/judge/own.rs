@@ -2,18 +2,17 @@
 //! made by hand and all that is generated through its own schedulers with all
 //! demands on, and shows that each wrong way changes some answers.
 
-use crate::by_hand::{self, tell};
+use crate::by_hand::{self, tell, ByHand};
 use crate::compare;
 use crate::crane;
 use crate::generate::Case;
 use crate::judging::Ending;
+use crate::protocol::{ByProtocol, Protocol};
 use crate::requests::{self, Ask};
 use crate::state_notation::reads_back;
-use crate::step_cases::StepCase;
 use crate::step_tally::StepTally;
 use crate::tally::Tally;
 use crate::trials::Trial;
-use crate::write_cases::WriteCase;
 use crate::write_tally::WriteTally;
 use crate::writing::Writing;
 use crate::wrong::{Wrong, WRONG_WAYS};
@@ -30,8 +29,8 @@ pub fn judge_self(options: &Options) -> Ending {
     let mut right = tell("runs of the crane plan and single steps", crane::test());
     right &= tell("figures that are told apart", compare::test());
     right &= by_hand.test();
-    let mut own = Own::default();
-    own.try_by_hand(&by_hand.steps, &by_hand.writings);
+    let mut own = Own::new();
+    own.try_by_hand(&by_hand);
     own.try_generated(options);
     right &= own.close(options);
     if !right {
@@ -52,10 +51,9 @@ fn count(changed: &mut Changed, is_other: impl Fn(Wrong) -> bool) {
     }
 }
 
-#[derive(Default)]
 struct Own {
     books: Tally,
-    steps: StepTally,
+    steps: ByProtocol<StepTally>,
     writings: WriteTally,
     violations: usize,
     changed_by_hand: Changed,
@@ -65,13 +63,29 @@ struct Own {
 }
 
 impl Own {
-    fn try_by_hand(&mut self, steps: &[StepCase], writings: &[WriteCase]) {
-        for case in steps {
+    fn new() -> Own {
+        Own {
+            books: Tally::default(),
+            steps: ByProtocol::each(StepTally::new),
+            writings: WriteTally::default(),
+            violations: 0,
+            changed_by_hand: [0; WRONG_WAYS.len()],
+            changed_books: [0; WRONG_WAYS.len()],
+            changed_steps: [0; WRONG_WAYS.len()],
+            changed_writings: [0; WRONG_WAYS.len()],
+        }
+    }
+
+    fn try_by_hand(&mut self, by_hand: &ByHand) {
+        for case in &by_hand.steps {
             let right = case.trial.step(Wrong::Nothing).stepped;
             let is_other = |wrong| case.trial.step(wrong).stepped != right;
             count(&mut self.changed_by_hand, is_other);
         }
-        for case in writings {
+        for case in &by_hand.runs {
+            count(&mut self.changed_by_hand, |wrong| case.tells(wrong));
+        }
+        for case in &by_hand.writings {
             let right = case.writing.write(Wrong::Nothing).written;
             let is_other = |wrong| case.writing.write(wrong).written != right;
             count(&mut self.changed_by_hand, is_other);
@@ -82,9 +96,10 @@ impl Own {
         for (at, request) in requests::generated(options.amounts).enumerate() {
             let goes_wrong = at % ONE_WRONG_IN == 0;
             let violation = match &request.ask {
-                Ask::Replay(case) => self.try_book(case, goes_wrong),
-                // The reader is the same as that of the replay.
-                Ask::Check(_) => None,
+                Ask::Replay(case, Protocol::Second) => self.try_book(case, goes_wrong),
+                // That was the replay by both protocols, and the reader is the
+                // same as that of the replay.
+                Ask::Replay(_, Protocol::First) | Ask::Check(_) => None,
                 Ask::Step(trial) => self.try_step(trial, goes_wrong),
                 Ask::Write(writing) => self.try_writing(writing, goes_wrong),
             };
@@ -99,7 +114,7 @@ impl Own {
         let outcome = case.replay(Wrong::Nothing);
         self.books.count(&outcome);
         if goes_wrong {
-            let is_other = |wrong| case.replay(wrong).answer != outcome.answer;
+            let is_other = |wrong| case.replay(wrong).answers != outcome.answers;
             count(&mut self.changed_books, is_other);
         }
         outcome.violation
@@ -107,7 +122,7 @@ impl Own {
 
     fn try_step(&mut self, trial: &Trial, goes_wrong: bool) -> Option<String> {
         let outcome = trial.step(Wrong::Nothing);
-        self.steps.count(trial, &outcome);
+        self.steps.of_mut(trial.protocol).count(trial, &outcome);
         if goes_wrong {
             let is_other = |wrong| trial.step(wrong).stepped != outcome.stepped;
             count(&mut self.changed_steps, is_other);
@@ -131,10 +146,12 @@ impl Own {
     /// Tells all; false if something is wrong or was not reached.
     fn close(&self, options: &Options) -> bool {
         self.books.print_table();
-        self.steps.print_table();
+        self.steps.second.print_table();
+        self.steps.first.print_table();
         self.writings.print_table();
         println!("{}", self.books.summary());
-        println!("{}", self.steps.summary());
+        println!("{}", self.steps.second.summary());
+        println!("{}", self.steps.first.summary());
         println!("{}", self.writings.summary());
         println!("{} violations of the judge's own demands", self.violations);
         let is_covered = options.is_covered(&self.books, &self.steps, &self.writings);

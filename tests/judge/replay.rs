@@ -1,11 +1,13 @@
-//! The replay of a book: the reader's tests 1 to 9, then event after event until
-//! one is refused. Both schedulers take each event side by side.
+//! The replay of a book by both protocols: the reader's tests 1 to 9, then event
+//! after event until one is refused. The eager scheduler and both lazy ones take
+//! each event side by side.
 
 use crate::book::{self, Book};
-use crate::demands;
+use crate::demands::{self, Happened};
 use crate::eager::Eager;
 use crate::event::Event;
 use crate::lazy::Lazy;
+use crate::protocol::ByProtocol;
 use crate::resume::figures;
 use crate::sound;
 use crate::wrong::Wrong;
@@ -13,7 +15,7 @@ use crate::wrong::Wrong;
 /// The byte that fills the row space before a replay.
 pub const FILL: u8 = 0xEE;
 
-/// All that a program under judgement has to answer for a book.
+/// All that a program under judgement has to answer for a book and a protocol.
 #[derive(Clone, Debug, PartialEq, Eq)]
 pub struct Answer {
     /// 0 if nothing is refused.
@@ -29,10 +31,10 @@ pub struct Answer {
 }
 
 pub struct Outcome {
-    pub answer: Answer,
+    pub answers: ByProtocol<Answer>,
     /// How many events were accepted, and how many of these were acquires or
-    /// unlocks.
-    pub accepted: usize,
+    /// unlocks; by both protocols as many, unless the judge goes wrong.
+    pub accepted: ByProtocol<usize>,
     pub lock_acts: usize,
     /// The first of the judge's own demands that did not hold, in words.
     pub violation: Option<String>,
@@ -43,7 +45,7 @@ pub fn replay(bytes: &[u8], row_space: usize, wrong: Wrong) -> Outcome {
         Ok(book) => run(&book, row_space, wrong),
         // There is no state then, and no row is written.
         Err(refusal) => Outcome {
-            answer: Answer {
+            answers: ByProtocol::each(|_| Answer {
                 number: refusal.number,
                 place: refusal.place,
                 lazy_calls: 0,
@@ -51,69 +53,130 @@ pub fn replay(bytes: &[u8], row_space: usize, wrong: Wrong) -> Outcome {
                 delays: Vec::new(),
                 bounds: Vec::new(),
                 rows: vec![FILL; row_space],
-            },
-            accepted: 0,
+            }),
+            accepted: ByProtocol::default(),
             lock_acts: 0,
             violation: None,
         },
     }
 }
 
-/// The answer names the number and the place of the first event that is
-/// refused, and has the figures of the state before it. Each accepted event
-/// writes its row; the rest of the row space keeps its fill.
+/// A lazy scheduler on its way through a book.
+struct Run<'p> {
+    lazy: Lazy<'p>,
+    bounds: &'p [u16],
+    rows: Vec<u8>,
+    accepted: usize,
+    /// There from the first event on that is refused, or from the end.
+    answer: Option<Answer>,
+}
+
+impl<'p> Run<'p> {
+    fn new(lazy: Lazy<'p>, bounds: &'p [u16], row_space: usize) -> Run<'p> {
+        Run {
+            lazy,
+            bounds,
+            rows: vec![FILL; row_space],
+            accepted: 0,
+            answer: None,
+        }
+    }
+
+    /// The next event, unless one was refused. Each accepted one writes its row;
+    /// the rest of the row space keeps its fill. What it is answered, and whether
+    /// it was a lazy call.
+    fn take(&mut self, event: Event, eager: &Eager, by_eager: u8) -> (u8, bool) {
+        if let Some(answer) = &self.answer {
+            return (answer.number, false);
+        }
+        let by_lazy = self.lazy.step(event);
+        let lazy_call = by_lazy == Ok(true);
+        // In a wrong mode the two may part; then the lazy one's word counts.
+        match by_lazy.err().unwrap_or(by_eager) {
+            0 => {
+                let at = 4 * self.accepted;
+                self.rows[at..at + 4].copy_from_slice(&self.lazy.row(lazy_call));
+                self.accepted += 1;
+            }
+            number => self.end(number, eager),
+        }
+        (by_lazy.err().unwrap_or(0), lazy_call)
+    }
+
+    /// The answer names the number and the place of the first event that is
+    /// refused, and has the figures of the state before it. (A refused event
+    /// changes nothing.)
+    fn end(&mut self, number: u8, eager: &Eager) {
+        let place = if number == 0 { 0 } else { self.accepted as u32 };
+        self.answer = Some(Answer {
+            number,
+            place,
+            lazy_calls: self.lazy.calls,
+            eager_calls: eager.calls(),
+            delays: eager.delays().to_vec(),
+            bounds: self.bounds.to_vec(),
+            rows: std::mem::take(&mut self.rows),
+        });
+    }
+
+    /// The answer, also where nothing was refused.
+    fn answer(mut self, eager: &Eager) -> Answer {
+        if self.answer.is_none() {
+            self.end(0, eager);
+        }
+        self.answer.expect("it has ended")
+    }
+}
+
 fn run(book: &Book, row_space: usize, wrong: Wrong) -> Outcome {
     let bounds = book.plan.bounds();
     let mut eager = Eager::new(&book.plan, wrong);
-    let mut lazy = Lazy::new(&book.plan, wrong);
-    let mut rows = vec![FILL; row_space];
-    let (mut number, mut place, mut accepted) = (0, 0, 0);
+    let mut runs = ByProtocol::each(|protocol| {
+        let lazy = Lazy::new(&book.plan, protocol, wrong);
+        Run::new(lazy, &bounds, row_space)
+    });
     let mut violation = None;
     for (at, event) in book.events.iter().enumerate() {
+        let (eager_calls, kernel_word) = (eager.calls(), runs.first.lazy.second_word);
         let by_eager = eager.step(*event).err().unwrap_or(0);
-        let by_lazy = lazy.step(*event);
-        // In a wrong mode the two may part; then the lazy one's word counts.
-        let refused = by_lazy.err().unwrap_or(by_eager);
-        let mut demand = Ok(());
-        if wrong == Wrong::Nothing && by_eager != by_lazy.err().unwrap_or(0) {
-            demand = Err(format!(
-                "the eager scheduler answers {by_eager}, the lazy {by_lazy:?}"
-            ));
-        } else if wrong == Wrong::Nothing && refused == 17 {
-            demand = Err("17 occurred from a fresh start".to_string());
-        } else if refused == 0 {
-            rows[4 * at..4 * at + 4].copy_from_slice(&lazy.row(by_lazy == Ok(true)));
-            accepted = at + 1;
-            if wrong == Wrong::Nothing {
-                demand = demands::after_event(&book.plan, &bounds, &eager, &lazy);
-            }
+        let by_lazy = ByProtocol {
+            second: runs.second.take(*event, &eager, by_eager),
+            first: runs.first.take(*event, &eager, by_eager),
+        };
+        if wrong == Wrong::Nothing && violation.is_none() {
+            let happened = Happened {
+                event: *event,
+                by_eager,
+                by_lazy,
+                is_eager_call: eager.calls() > eager_calls,
+                kernel_word,
+            };
+            let lazies = (&runs.second.lazy, &runs.first.lazy);
+            violation = demands::after_event(&happened, &bounds, &eager, lazies)
+                .map_err(|words| format!("at event {at}, {event:?}: {words}"))
+                .err();
         }
-        if let (Err(words), None) = (demand, &violation) {
-            violation = Some(format!("at event {at}, {event:?}: {words}"));
-        }
-        if refused != 0 {
-            (number, place) = (refused, at as u32);
+        if runs.second.answer.is_some() && runs.first.answer.is_some() {
             break;
         }
     }
+    let accepted = ByProtocol::each(|protocol| runs.of(protocol).accepted);
     if wrong == Wrong::Nothing && violation.is_none() {
-        let calls = (lazy.calls, eager.calls());
-        violation = demands::after_run(book, accepted, &rows, calls, eager.delays())
-            .and_then(|()| is_sound(&lazy))
-            .err();
+        let lazies = [&runs.second.lazy, &runs.first.lazy];
+        violation = lazies.iter().find_map(|lazy| is_sound(lazy).err());
     }
+    let answers = ByProtocol {
+        second: runs.second.answer(&eager),
+        first: runs.first.answer(&eager),
+    };
+    if wrong == Wrong::Nothing && violation.is_none() {
+        violation = demands::after_run(book, accepted.second, &answers).err();
+    }
+    let history = &book.events[..accepted.second];
     Outcome {
-        answer: Answer {
-            number,
-            place,
-            lazy_calls: lazy.calls,
-            eager_calls: eager.calls(),
-            delays: eager.delays().to_vec(),
-            bounds,
-            rows,
-        },
+        answers,
+        lock_acts: history.iter().filter(is_lock_act).count(),
         accepted,
-        lock_acts: book.events[..accepted].iter().filter(is_lock_act).count(),
         violation,
     }
 }
@@ -124,9 +187,13 @@ fn is_lock_act(event: &&Event) -> bool {
 
 /// A state that is reached from a fresh start is sound.
 fn is_sound(lazy: &Lazy) -> Result<(), String> {
-    let broken = sound::names(&sound::broken(&figures(lazy)));
+    let broken = sound::broken(&figures(lazy), lazy.protocol);
     if broken.is_empty() {
         return Ok(());
     }
-    Err(format!("the last state is not sound: {broken:?}"))
+    let (protocol, names) = (lazy.protocol, sound::names(&broken));
+    Err(format!(
+        "the last state of the {} protocol is not sound: {names:?}",
+        protocol.name()
+    ))
 }

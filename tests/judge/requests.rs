@@ -1,10 +1,12 @@
 //! What a program under judgement is asked, and in which order: the hand-made
 //! cases, the set pieces, then generated books, writings and steps in turn, and
-//! the long books last. Every book is replayed, checked and, where its records
-//! can be taken out of it, written again; what is written is checked before.
+//! the long books last. Every book is replayed by both protocols, checked and,
+//! where its records can be taken out of it, written again; what is written is
+//! checked before.
 
 use crate::by_hand::ByHand;
 use crate::generate::{self, Case};
+use crate::protocol::{Protocol, PROTOCOLS};
 use crate::trials::{self, Trial};
 use crate::wire::{self, Command};
 use crate::writing::Writing;
@@ -13,7 +15,7 @@ use std::borrow::Cow;
 use std::sync::Arc;
 
 pub enum Ask {
-    Replay(Arc<Case>),
+    Replay(Arc<Case>, Protocol),
     Check(Arc<Case>),
     Step(Trial),
     Write(Writing),
@@ -32,28 +34,29 @@ pub struct Request {
 
 impl Request {
     /// The replay of a generated book.
-    pub fn replay(case: &Arc<Case>) -> Request {
+    pub fn replay(case: &Arc<Case>, protocol: Protocol) -> Request {
         Request {
-            ask: Ask::Replay(Arc::clone(case)),
+            ask: Ask::Replay(Arc::clone(case), protocol),
             source: Source::Generated,
         }
     }
 
     /// The request as it goes to the program.
     pub fn bytes(&self) -> Vec<u8> {
-        let (command, room) = match &self.ask {
-            Ask::Replay(case) => (Command::Replay, case.row_space),
-            Ask::Check(case) => (Command::Check, case.row_space),
-            Ask::Step(_) => (Command::Step, 0),
-            Ask::Write(writing) => (Command::Write, writing.room),
+        let none = Protocol::Second;
+        let (command, protocol, room) = match &self.ask {
+            Ask::Replay(case, protocol) => (Command::Replay, *protocol, case.row_space),
+            Ask::Check(case) => (Command::Check, none, case.row_space),
+            Ask::Step(trial) => (Command::Step, trial.protocol, 0),
+            Ask::Write(writing) => (Command::Write, none, writing.room),
         };
-        wire::request(command, &self.payload(), room)
+        wire::request(command, protocol, &self.payload(), room)
     }
 
     /// A book, a plan with a state and an event, or records.
     pub fn payload(&self) -> Cow<'_, [u8]> {
         match &self.ask {
-            Ask::Replay(case) | Ask::Check(case) => Cow::from(&case.book),
+            Ask::Replay(case, _) | Ask::Check(case) => Cow::from(&case.book),
             Ask::Step(trial) => {
                 let record = trial.event.record();
                 Cow::from([trial.given.bytes(), &record[..]].concat())
@@ -65,9 +68,18 @@ impl Request {
     /// What is asked, in words.
     pub fn name(&self) -> String {
         match &self.ask {
-            Ask::Replay(case) => format!("replay of {}", case.told()),
+            Ask::Replay(case, protocol) => {
+                format!(
+                    "replay by the {} protocol of {}",
+                    protocol.name(),
+                    case.told()
+                )
+            }
             Ask::Check(case) => format!("check of {}", case.told()),
-            Ask::Step(trial) => format!("{}, {:?}", trial.name, trial.event),
+            Ask::Step(trial) => {
+                let (name, protocol) = (&trial.name, trial.protocol.name());
+                format!("{name} by the {protocol} protocol, {:?}", trial.event)
+            }
             Ask::Write(writing) => format!("writing of {}", writing.told()),
         }
     }
@@ -75,7 +87,7 @@ impl Request {
 
 /// How many generated steps there are for each short book, as long as there are
 /// both.
-const STEPS_FOR_A_BOOK: u64 = 5;
+const STEPS_FOR_A_BOOK: u64 = 10;
 
 /// How many of each sort are generated, and from which seed.
 #[derive(Clone, Copy)]
@@ -92,11 +104,12 @@ pub struct Amounts {
 /// The hand-made cases and the set pieces.
 pub fn by_hand(by_hand: ByHand) -> impl Iterator<Item = Request> {
     let steps = by_hand.steps.into_iter().map(|case| Ask::Step(case.trial));
+    let runs = by_hand.runs.into_iter().map(|case| case.case);
     let books = by_hand.books.into_iter().map(|case| case.case);
     let pieces = by_hand.pieces.into_iter().map(|piece| piece.case);
     let writings = by_hand.writings.into_iter().map(|case| case.writing);
     let asks = steps
-        .chain(books.chain(pieces).flat_map(of_book))
+        .chain(runs.chain(books).chain(pieces).flat_map(of_book))
         .chain(writings.flat_map(of_writing));
     asks.map(|ask| Request {
         ask,
@@ -134,7 +147,9 @@ pub fn generated(amounts: Amounts) -> impl Iterator<Item = Request> {
 fn of_book(case: Case) -> Vec<Ask> {
     let case = Arc::new(case);
     let again = Writing::of_book(&case);
-    let mut asks = vec![Ask::Replay(Arc::clone(&case)), Ask::Check(case)];
+    let replays = PROTOCOLS.map(|protocol| Ask::Replay(Arc::clone(&case), protocol));
+    let mut asks = Vec::from(replays);
+    asks.push(Ask::Check(case));
     asks.extend(again.map(Ask::Write));
     asks
 }

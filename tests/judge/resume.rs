@@ -2,21 +2,22 @@
 
 use crate::lazy::{Kept, Lazy, OpenLock, TaskFigures, Word};
 use crate::plan::{Plan, MOST_OPEN, NOBODY};
+use crate::protocol::Protocol;
 use crate::whole::{
-    slot, Whole, ACCEPTED, DELAY, EAGER, KEPT, LAZY, NEXT, OPEN, OWNER, RELEASED, ROW, RUNNING,
-    SAVED, UNITS, USER,
+    slot, Whole, ACCEPTED, DELAY, EAGER, KEPT, LAZY, OPEN, OWNER, RELEASED, ROW, RUNNING, SAVED,
+    SECOND, UNITS, USER,
 };
 use crate::wrong::Wrong;
 
 /// The scheduler that a sound state stands for. The plan is that of the state.
-pub fn resume<'p>(plan: &'p Plan, whole: &Whole, wrong: Wrong) -> Lazy<'p> {
-    let mut lazy = Lazy::new(plan, wrong);
+pub fn resume<'p>(plan: &'p Plan, whole: &Whole, protocol: Protocol, wrong: Wrong) -> Lazy<'p> {
+    let mut lazy = Lazy::new(plan, protocol, wrong);
     lazy.accepted = whole.get(ACCEPTED, 0) as u32;
     lazy.running = Some(whole.get(RUNNING, 0))
         .filter(|running| *running != u64::from(NOBODY))
         .map(|running| running as usize);
     lazy.user_word = Word(whole.get(USER, 0) as u8);
-    lazy.next_word = Word(whole.get(NEXT, 0) as u8);
+    lazy.second_word = Word(whole.get(SECOND, 0) as u8);
     lazy.calls = whole.get(LAZY, 0) as u32;
     lazy.eager_calls = whole.get(EAGER, 0) as u32;
     for task in 0..lazy.tasks.len() {
@@ -55,7 +56,7 @@ pub fn figures(lazy: &Lazy) -> Whole {
     let running = lazy.running.map_or(u64::from(NOBODY), |task| task as u64);
     whole.set(RUNNING, 0, running);
     whole.set(USER, 0, u64::from(lazy.user_word.0));
-    whole.set(NEXT, 0, u64::from(lazy.next_word.0));
+    whole.set(SECOND, 0, u64::from(lazy.second_word.0));
     whole.set(LAZY, 0, u64::from(lazy.calls));
     whole.set(EAGER, 0, u64::from(lazy.eager_calls));
     for (task, figures) in lazy.tasks.iter().enumerate() {

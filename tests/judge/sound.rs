@@ -3,27 +3,41 @@
 //! not looked at, and an unknown lock counts as one of ceiling 0. So every
 //! condition can be the only one that is broken.
 //!
+//! Two conditions are about the second word, and each protocol asks one of them:
+//! the next word is what the rules give, the kernel word has only a bound. All
+//! others are asked by both.
+//!
 //! That no delay is greater than the rules allow is not in the list: a delay's
 //! two bytes cannot hold more. The number of uses is in it with the other
 //! counts, but cannot be too great while every task may use every lock.
 
 use crate::plan::{MOST_ACCEPTED, MOST_LOCKS, MOST_OPEN, MOST_TASKS, MOST_USES, NOBODY};
+use crate::protocol::Protocol;
 use crate::whole::{
-    slot, Field, Whole, ACCEPTED, BASE, CEILING, DELAY, EAGER, KEPT, LAZY, LIMIT, LOCKS, NEXT,
-    OPEN, OWNER, RELEASED, ROW, RUNNING, SAVED, TASKS, UNITS, USER, USES,
+    slot, Field, Whole, ACCEPTED, BASE, CEILING, DELAY, EAGER, KEPT, LAZY, LIMIT, LOCKS, OPEN,
+    OWNER, RELEASED, ROW, RUNNING, SAVED, SECOND, TASKS, UNITS, USER, USES,
 };
+use crate::wrong::Wrong;
 
 pub struct Condition {
     pub name: &'static str,
+    /// The protocol that alone asks it.
+    of: Option<Protocol>,
     holds: fn(&Whole) -> bool,
 }
 
 const fn condition(name: &'static str, holds: fn(&Whole) -> bool) -> Condition {
-    Condition { name, holds }
+    let of = None;
+    Condition { name, of, holds }
+}
+
+const fn of_one(of: Protocol, name: &'static str, holds: fn(&Whole) -> bool) -> Condition {
+    let of = Some(of);
+    Condition { name, of, holds }
 }
 
 #[rustfmt::skip] // a line each
-pub const CONDITIONS: [Condition; 29] = [
+pub const CONDITIONS: [Condition; 30] = [
     // Of the plan: 2, 4, 5, 6 and 7, and nothing past its tasks and locks.
     condition("counts of the plan in range", counts_in_range),
     condition("no base is 0", bases),
@@ -35,7 +49,8 @@ pub const CONDITIONS: [Condition; 29] = [
     condition("somebody runs if a task is released, and only then", nobody),
     condition("whoever runs is released", runner_is_released),
     condition("user word", user_word),
-    condition("next word", next_word),
+    of_one(Protocol::Second, "next word", next_word),
+    of_one(Protocol::First, "kernel word at most the user word", kernel_word),
     condition("kept priorities of released tasks", kept),
     condition("saved priorities", saved),
     // Counts and release numbers.
@@ -60,9 +75,32 @@ pub const CONDITIONS: [Condition; 29] = [
     condition("unused places of the state are 0", state_rest),
 ];
 
-/// The places of all conditions that are broken; none for a sound state.
-pub fn broken(whole: &Whole) -> Vec<usize> {
+impl Condition {
+    pub fn is_asked(&self, protocol: Protocol) -> bool {
+        self.of.is_none_or(|of| of == protocol)
+    }
+
+    /// The same by a judge that may have gone wrong.
+    fn is_asked_by(&self, protocol: Protocol, wrong: Wrong) -> bool {
+        let is_bound = self.of == Some(Protocol::First);
+        match wrong {
+            Wrong::KernelWordUnbounded if is_bound => false,
+            Wrong::KernelWordAsNext if !is_bound => true,
+            _ => self.is_asked(protocol),
+        }
+    }
+}
+
+/// The places of all conditions that are broken; none for a state that is sound by
+/// this protocol.
+pub fn broken(whole: &Whole, protocol: Protocol) -> Vec<usize> {
+    broken_by(whole, protocol, Wrong::Nothing)
+}
+
+/// The same by a judge that may have gone wrong.
+pub fn broken_by(whole: &Whole, protocol: Protocol, wrong: Wrong) -> Vec<usize> {
     (0..CONDITIONS.len())
+        .filter(|place| CONDITIONS[*place].is_asked_by(protocol, wrong))
         .filter(|place| !(CONDITIONS[*place].holds)(whole))
         .collect()
 }
@@ -203,8 +241,13 @@ fn user_word(whole: &Whole) -> bool {
     whole.get(USER, 0) == user_by_rule(whole)
 }
 
-fn next_word(whole: &Whole) -> bool {
-    whole.get(NEXT, 0) == next_by_rule(whole)
+pub fn next_word(whole: &Whole) -> bool {
+    whole.get(SECOND, 0) == next_by_rule(whole)
+}
+
+/// Nothing else is asked of it: it may be below the priority of another task.
+pub fn kernel_word(whole: &Whole) -> bool {
+    whole.get(SECOND, 0) <= whole.get(USER, 0)
 }
 
 fn kept(whole: &Whole) -> bool {

@@ -1,15 +1,20 @@
 //! A plan and a state in the notation of the hand-made steps: `FIELD VALUE`,
 //! `FIELD PLACE VALUE`, or `FIELD TASK V.V..` for a row, newest first. The uses
-//! of a task are its locks, parted by dots. Any state can be written so, and is
-//! read back as the same state.
+//! of a task are its locks, parted by dots. The second word can be called by the
+//! name that a protocol has for it. Any state can be written so, and is read back
+//! as the same state.
 
 use crate::notation::{dotted, narrow, number, split_word};
 use crate::plan::{MOST_LOCKS, MOST_OPEN, MOST_TASKS};
-use crate::whole::{slot, Field, Per, Whole, FIELDS, USES};
+use crate::whole::{slot, Field, Per, Whole, FIELDS, SECOND, USES};
 
 /// Changes one figure, or one row.
 pub fn change(whole: &mut Whole, item: &str) -> Result<(), String> {
     let (name, rest) = split_word(item);
+    let name = match name {
+        "next" | "kernel" => SECOND.name,
+        _ => name,
+    };
     let field = FIELDS.into_iter().find(|field| field.name == name);
     let field = field.ok_or_else(|| format!("{name} is no field"))?;
     if field.per == Per::One {

@@ -1,15 +1,17 @@
 //! Random sound states that mostly no fresh start reaches: any of the released
 //! tasks runs, locks are open that their holders never could have taken beside
-//! each other, and counts and delays are at their edges.
+//! each other, the kernel word is any that its bound allows, and counts and delays
+//! are at their edges.
 
 use crate::aims::Scene;
 use crate::plan::{Plan, MOST_ACCEPTED, MOST_OPEN, MOST_UNITS, NOBODY};
 use crate::plans;
+use crate::protocol::Protocol;
 use crate::random::Random;
 use crate::sound;
 use crate::whole::{
-    slot, Whole, ACCEPTED, DELAY, EAGER, KEPT, LAZY, LOCKS, NEXT, OPEN, OWNER, RELEASED, ROW,
-    RUNNING, SAVED, TASKS, UNITS, USER,
+    slot, Whole, ACCEPTED, CEILING, DELAY, EAGER, KEPT, LAZY, LOCKS, OPEN, OWNER, RELEASED, ROW,
+    RUNNING, SAVED, SECOND, TASKS, UNITS, USER,
 };
 
 impl Scene for Whole {
@@ -34,17 +36,60 @@ impl Scene for Whole {
     }
 }
 
-/// A plan, and a sound state of it.
-pub fn any(random: &mut Random) -> (Plan, Whole) {
+/// A plan, and a state of it that is sound by this protocol.
+pub fn any(random: &mut Random, protocol: Protocol) -> (Plan, Whole) {
     let plan = match random.below(10) {
         0..=5 => plans::any(random),
         6..=8 => plans::deep(random),
         _ => plans::contended(random),
     };
-    let whole = of_plan(random, &plan);
+    let mut whole = of_plan(random, &plan);
+    if protocol == Protocol::First {
+        if random.one_in(2) {
+            raise_by_newest(&mut whole);
+        }
+        set_kernel_word(random, &mut whole);
+    }
     (plan, whole)
 }
 
+/// Puts the open lock of the running task that has the greatest ceiling in front,
+/// so that the unlock of it mostly lowers the user word.
+fn raise_by_newest(whole: &mut Whole) {
+    let Some(task) = whole.running() else {
+        return;
+    };
+    let lock_at = |at: usize| whole.get(ROW, slot(task, at));
+    let ceiling_at = |at: &usize| whole.get(CEILING, lock_at(*at) as usize);
+    let Some(at) = (0..whole.get(OPEN, task) as usize).max_by_key(ceiling_at) else {
+        return;
+    };
+    let (newest, greatest) = (lock_at(0), lock_at(at));
+    whole.set(ROW, slot(task, 0), greatest);
+    whole.set(ROW, slot(task, at), newest);
+    refit(whole);
+}
+
+/// Any kernel word up to the user word. Often it is one of these: none, the user
+/// word, what the newest unlock would restore, and one more.
+fn set_kernel_word(random: &mut Random, whole: &mut Whole) {
+    let user = whole.get(USER, 0);
+    let newest = whole
+        .running()
+        .filter(|task| whole.get(OPEN, *task) > 0)
+        .map(|task| whole.get(SAVED, slot(task, 0)));
+    let word = match (random.below(8), newest) {
+        (0 | 1, _) => 0,
+        (2 | 3, _) => user,
+        (4, Some(restored)) => restored,
+        (5, Some(restored)) => restored + 1,
+        (6, _) => sound::next_by_rule(whole),
+        _ => random.between(0, user as usize) as u64,
+    };
+    whole.set(SECOND, 0, word.min(user));
+}
+
+/// A state that is sound by the second protocol.
 pub fn of_plan(random: &mut Random, plan: &Plan) -> Whole {
     let mut whole = Whole::fresh(plan);
     let mut released = released_tasks(random, plan.bases.len());
@@ -161,8 +206,8 @@ pub fn push(whole: &mut Whole, task: usize, lock: usize) {
     whole.set(OPEN, task, open + 1);
 }
 
-/// Sets all that follows from who runs, the release numbers and the rows: both
-/// words, the kept and saved priorities, and the owners.
+/// Sets all that follows from who runs, the release numbers and the rows: the user
+/// word and the next word, the kept and saved priorities, and the owners.
 pub fn refit(whole: &mut Whole) {
     let (tasks, locks) = (whole.get(TASKS, 0) as usize, whole.get(LOCKS, 0) as usize);
     for lock in 0..locks {
@@ -181,5 +226,5 @@ pub fn refit(whole: &mut Whole) {
         whole.set(KEPT, task, sound::kept_by_rule(whole, task));
     }
     whole.set(USER, 0, sound::user_by_rule(whole));
-    whole.set(NEXT, 0, sound::next_by_rule(whole));
+    whole.set(SECOND, 0, sound::next_by_rule(whole));
 }

@@ -1,11 +1,12 @@
-//! A single step from any state: 10 where it isn't sound, and else one step of
-//! the lazy scheduler that the figures stand for.
+//! A single step from any state by either protocol: 10 where the state isn't sound,
+//! and else one step of the lazy scheduler that the figures stand for.
 
 use crate::aims::Scene;
 use crate::event::Event;
+use crate::protocol::Protocol;
 use crate::resume::{figures, resume};
 use crate::sound;
-use crate::whole::{Whole, EAGER};
+use crate::whole::{Whole, EAGER, SECOND, USER};
 use crate::wrong::Wrong;
 
 /// All that a program under judgement has to answer for a step.
@@ -27,8 +28,8 @@ pub struct Outcome {
     pub violation: Option<String>,
 }
 
-pub fn step(given: &Whole, event: Event, wrong: Wrong) -> Outcome {
-    let broken = sound::broken(given);
+pub fn step(given: &Whole, event: Event, protocol: Protocol, wrong: Wrong) -> Outcome {
+    let broken = sound::broken_by(given, protocol, wrong);
     if !broken.is_empty() {
         return Outcome {
             stepped: refused(given, 10),
@@ -37,12 +38,14 @@ pub fn step(given: &Whole, event: Event, wrong: Wrong) -> Outcome {
         };
     }
     let plan = given.plan();
-    let mut lazy = resume(&plan, given, wrong);
+    let mut lazy = resume(&plan, given, protocol, wrong);
     let answer = lazy.step(event);
     let after = figures(&lazy);
     let violation = match answer {
         _ if wrong != Wrong::Nothing => None,
-        Ok(_) => unsound(&after).or_else(|| miscounted(given, event, &after)),
+        Ok(call) => unsound(&after, protocol)
+            .or_else(|| miscounted(given, event, &after))
+            .or_else(|| misplaced(given, event, protocol, call, &after)),
         Err(_) if after == *given => None,
         Err(_) => Some("a refused step changed the judge's own scheduler".to_string()),
     };
@@ -72,8 +75,8 @@ fn refused(given: &Whole, number: u8) -> Stepped {
 /// From a sound state an accepted event leads to a sound one. The test of
 /// soundness works out all priorities from the open locks, which the lazy
 /// scheduler never does.
-fn unsound(after: &Whole) -> Option<String> {
-    let names = sound::names(&sound::broken(after));
+fn unsound(after: &Whole, protocol: Protocol) -> Option<String> {
+    let names = sound::names(&sound::broken(after, protocol));
     if names.is_empty() {
         return None;
     }
@@ -95,4 +98,32 @@ fn miscounted(given: &Whole, event: Event, after: &Whole) -> Option<String> {
         return None;
     }
     Some(format!("{counted} eager calls are counted, not {calls}"))
+}
+
+/// A release, a finish, a tick and a call enter the kernel: the kernel word is the
+/// user word then. No other event changes it. A call is an eager one too, since the
+/// kernel word was at most the user word. (That the next word is right is a matter
+/// of soundness.)
+fn misplaced(
+    given: &Whole,
+    event: Event,
+    protocol: Protocol,
+    call: bool,
+    after: &Whole,
+) -> Option<String> {
+    if protocol == Protocol::Second {
+        return None;
+    }
+    let left = match event.is_entry(call) {
+        true => after.get(USER, 0),
+        false => given.get(SECOND, 0),
+    };
+    if call && after.get(EAGER, 0) == given.get(EAGER, 0) {
+        return Some("a call that is no eager one".to_string());
+    }
+    let word = after.get(SECOND, 0);
+    if word == left {
+        return None;
+    }
+    Some(format!("the kernel word is {word}, not {left}"))
 }

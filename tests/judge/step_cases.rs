@@ -6,10 +6,11 @@ use crate::compare;
 use crate::event::Event;
 use crate::notation::{columns, event, narrow, number, numbers, read_lines, split_word};
 use crate::plan::{Lock, Plan};
+use crate::protocol::{Protocol, PROTOCOLS};
 use crate::state_notation::change;
 use crate::step::{step, Outcome, Stepped};
 use crate::trials::Trial;
-use crate::whole::{Whole, ACCEPTED, DELAY, EAGER, LAZY, NEXT, RUNNING, USER};
+use crate::whole::{Whole, ACCEPTED, DELAY, EAGER, LAZY, RUNNING, SECOND, USER};
 use crate::wrong::Wrong;
 use std::collections::HashMap;
 
@@ -33,35 +34,60 @@ struct Expected {
 }
 
 pub fn cases() -> Result<Vec<StepCase>, String> {
-    let mut reader = Reader::default();
+    let mut reader = Reader::new();
     read_lines(TEXT, |line| reader.read(line)).map_err(|error| format!("steps.txt, {error}"))?;
     Ok(reader.cases)
 }
 
-#[derive(Default)]
 struct Reader {
     plans: HashMap<&'static str, Plan>,
     states: HashMap<&'static str, Whole>,
+    /// By which protocols the lines step that follow.
+    protocols: &'static [Protocol],
     cases: Vec<StepCase>,
 }
 
+/// What a line `protocol ..` can say.
+const SAID: [(&str, &[Protocol]); 3] = [
+    ("second", &[Protocol::Second]),
+    ("first", &[Protocol::First]),
+    ("both", &PROTOCOLS),
+];
+
 impl Reader {
+    fn new() -> Reader {
+        Reader {
+            plans: HashMap::new(),
+            states: HashMap::new(),
+            protocols: &[Protocol::Second],
+            cases: Vec::new(),
+        }
+    }
+
     fn read(&mut self, line: &'static str) -> Result<(), String> {
         if line.contains('|') {
-            let case = self.case(&columns(line))?;
-            let is_same = |other: &StepCase| other.trial.name == case.trial.name;
+            let columns = columns(line);
+            let is_same = |other: &StepCase| other.trial.name == columns[0];
             if self.cases.iter().any(is_same) {
                 return Err("another case has this name".to_string());
             }
-            self.cases.push(case);
+            for protocol in self.protocols {
+                let case = self.case(&columns, *protocol)?;
+                self.cases.push(case);
+            }
             return Ok(());
         }
         let (kind, rest) = split_word(line);
+        if kind == "protocol" {
+            let said = SAID.iter().find(|(name, _)| *name == rest);
+            self.protocols = said.ok_or(format!("{rest} is no protocol"))?.1;
+            return Ok(());
+        }
         let (name, text) = rest.split_once('=').ok_or("no `=` and no columns")?;
         let is_new = match kind {
             "plan" => self.plans.insert(name.trim(), plan(text)?).is_none(),
             "state" => {
-                let state = self.state(text)?;
+                let state = self.state(text, self.protocols[0])?;
                 self.states.insert(name.trim(), state).is_none()
             }
             _ => return Err(format!("{kind} is neither a plan nor a state")),
@@ -70,12 +96,12 @@ impl Reader {
     }
 
     /// NAME | state | event | answer, and further columns for the state after.
-    fn case(&self, columns: &[&str]) -> Result<StepCase, String> {
+    fn case(&self, columns: &[&str], protocol: Protocol) -> Result<StepCase, String> {
         let [name, given, happens, answer, further @ ..] = columns else {
             return Err("too few columns".to_string());
         };
         let mut expected = Expected {
-            answer: self::answer(answer)?,
+            answer: self::answer(answer, protocol)?,
             delays: None,
             counts: None,
             becomes: None,
@@ -85,13 +111,14 @@ impl Reader {
             match kind {
                 "delays" => expected.delays = Some(numbers(rest)?),
                 "counts" => expected.counts = Some(numbers(rest)?),
-                "becomes" => expected.becomes = Some(self.state(rest)?),
+                "becomes" => expected.becomes = Some(self.state(rest, protocol)?),
                 _ => return Err(format!("{column} says nothing of a state")),
             }
         }
         let trial = Trial {
             name: name.to_string(),
-            given: self.state(given)?,
+            protocol,
+            given: self.state(given, self.protocols[0])?,
             event: event(happens)?,
             changed: None,
             aimed: None,
@@ -100,7 +127,7 @@ impl Reader {
     }
 
     /// A known state or the fresh start of a plan, then changes.
-    fn state(&self, text: &str) -> Result<Whole, String> {
+    fn state(&self, text: &str, protocol: Protocol) -> Result<Whole, String> {
         let mut items = text.split(',').map(str::trim);
         let first = items.next().unwrap_or_default();
         let known = match first.strip_prefix("fresh of ") {
@@ -110,7 +137,7 @@ impl Reader {
         let mut whole = known.ok_or_else(|| format!("{first} is unknown"))?;
         for item in items {
             match item.strip_prefix("then ") {
-                Some(happens) => whole = after(&whole, event(happens)?)?,
+                Some(happens) => whole = after(&whole, event(happens)?, protocol)?,
                 None => change(&mut whole, item)?,
             }
         }
@@ -118,21 +145,32 @@ impl Reader {
     }
 }
 
-/// `0 call running user next`, or `number same`.
-fn answer(text: &str) -> Result<Vec<u64>, String> {
+/// `0 call running user second`, or `number same`. Where the protocols answer
+/// differently, `/` parts the second's number from the first's.
+fn answer(text: &str, protocol: Protocol) -> Result<Vec<u64>, String> {
     if let Some(refusal) = text.strip_suffix(" same") {
         return Ok(vec![number(refusal)?]);
     }
-    let answer = numbers(text)?;
+    let of_protocol = |word| match (split_slash(word), protocol) {
+        ((second, _), Protocol::Second) => second,
+        ((_, first), Protocol::First) => first,
+    };
+    let words: Vec<&str> = text.split_whitespace().map(of_protocol).collect();
+    let answer = numbers(&words.join(" "))?;
     if answer.len() == 5 && answer[0] == 0 {
         return Ok(answer);
     }
     Err(format!("{text} is no answer"))
 }
 
+/// What stands for the second protocol, and what for the first.
+fn split_slash(word: &str) -> (&str, &str) {
+    word.split_once('/').unwrap_or((word, word))
+}
+
 /// The state after an event, which has to be accepted.
-fn after(whole: &Whole, event: Event) -> Result<Whole, String> {
-    let stepped = step(whole, event, Wrong::Nothing).stepped;
+fn after(whole: &Whole, event: Event, protocol: Protocol) -> Result<Whole, String> {
+    let stepped = step(whole, event, protocol, Wrong::Nothing).stepped;
     match stepped.number {
         0 => Ok(stepped.after),
         number => Err(format!("{event:?} is refused with {number}")),
@@ -191,7 +229,7 @@ impl Expected {
         let mut answer = vec![u64::from(stepped.number)];
         if stepped.number == 0 {
             answer.push(u64::from(stepped.call));
-            answer.extend([RUNNING, USER, NEXT].map(|field| after.get(field, 0)));
+            answer.extend([RUNNING, USER, SECOND].map(|field| after.get(field, 0)));
         }
         let mut wrong = Vec::new();
         let mut hold = |what: &str, wanted: &[u64], got: Vec<u64>| {
@@ -222,7 +260,10 @@ impl StepCase {
         wrong.extend(outcome.violation.clone());
         wrong
             .iter()
-            .map(|words| format!("{}: {words}", self.trial.name))
+            .map(|words| {
+                let (name, protocol) = (&self.trial.name, self.trial.protocol.name());
+                format!("{name} by the {protocol} protocol: {words}")
+            })
             .collect()
     }
 }

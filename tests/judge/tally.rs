@@ -1,6 +1,8 @@
 //! Counting what the generated books reached: how often each number was the
 //! answer, and whether the rules that are easy to miss were met at all.
 
+use crate::plan::NOBODY;
+use crate::protocol::ByProtocol;
 use crate::refusals::{FROM_BOOKS, WORDS};
 use crate::replay::Outcome;
 
@@ -10,8 +12,10 @@ pub struct Tally {
     accepted_events: usize,
     /// Accepted acquires and unlocks.
     lock_acts: usize,
-    lazy_calls: u64,
+    lazy_calls: ByProtocol<u64>,
     eager_calls: u64,
+    /// Calls of the first protocol after which the same task goes on.
+    same_again: usize,
     answers: [usize; WORDS.len()],
     /// The least and the greatest place of each number.
     places: [Option<(u32, u32)>; WORDS.len()],
@@ -22,11 +26,14 @@ pub struct Tally {
 
 impl Tally {
     pub fn count(&mut self, outcome: &Outcome) {
-        let answer = &outcome.answer;
+        // The figures that both protocols have alike are taken from the second.
+        let answer = &outcome.answers.second;
         self.books += 1;
-        self.accepted_events += outcome.accepted;
+        self.accepted_events += outcome.accepted.second;
         self.lock_acts += outcome.lock_acts;
-        self.lazy_calls += u64::from(answer.lazy_calls);
+        self.lazy_calls.second += u64::from(answer.lazy_calls);
+        self.lazy_calls.first += u64::from(outcome.answers.first.lazy_calls);
+        self.same_again += same_again(&outcome.answers.first.rows, outcome.accepted.first);
         self.eager_calls += u64::from(answer.eager_calls);
         let number = usize::from(answer.number);
         self.answers[number] += 1;
@@ -47,7 +54,19 @@ impl Tally {
             (format!("answer {number}"), times > 0)
         });
         let rules = [
-            ("a lazy call", self.lazy_calls > 0),
+            ("a lazy call", self.lazy_calls.second > 0),
+            (
+                "a lazy call by the first protocol alone",
+                self.lazy_calls.first > self.lazy_calls.second,
+            ),
+            (
+                "an eager call that is no lazy one by the first protocol",
+                self.eager_calls > self.lazy_calls.first,
+            ),
+            (
+                "a call that elects the same task again",
+                self.same_again > 0,
+            ),
             (
                 "an acquire or unlock that is no eager call",
                 self.lock_acts as u64 > self.eager_calls,
@@ -80,15 +99,30 @@ impl Tally {
 
     pub fn summary(&self) -> String {
         format!(
-            "{} generated books, {} events accepted, {} acquires and unlocks, {} lazy and \
-             {} eager calls, {} delays ({} at their bound)",
+            "{} generated books, {} events accepted, {} acquires and unlocks, {} lazy calls by the \
+             second and {} by the first protocol ({} elect the same task again), {} eager calls, \
+             {} delays ({} at their bound)",
             self.books,
             self.accepted_events,
             self.lock_acts,
-            self.lazy_calls,
+            self.lazy_calls.second,
+            self.lazy_calls.first,
+            self.same_again,
             self.eager_calls,
             self.delayed,
             self.at_bound,
         )
     }
+}
+
+/// How many of the rows of accepted events have a call and the same running task
+/// as the row before.
+fn same_again(rows: &[u8], accepted: usize) -> usize {
+    let mut before = NOBODY;
+    let mut times = 0;
+    for row in rows.chunks(4).take(accepted) {
+        times += usize::from(row[3] == 1 && row[0] == before);
+        before = row[0];
+    }
+    times
 }

@@ -2,19 +2,21 @@
 //! has. Half start from sound states, a quarter from a state with one figure
 //! changed, every figure in its turn, and a quarter from other changed states.
 
-use crate::aims;
+use crate::aims::{self, Scene};
 use crate::broken;
 use crate::event::Event;
 use crate::plan::{Plan, MOST_ACCEPTED};
+use crate::protocol::{Protocol, PROTOCOLS};
 use crate::random::Random;
 use crate::states;
 use crate::step::{step, Outcome};
 use crate::whole::{figure, number_of, Whole, ACCEPTED, FIGURES};
 use crate::wrong::Wrong;
 
-/// A state and the event that is tried on it.
+/// A state and the event that is tried on it by a protocol.
 pub struct Trial {
     pub name: String,
+    pub protocol: Protocol,
     pub given: Whole,
     pub event: Event,
     /// The number of the figure that was changed.
@@ -25,7 +27,7 @@ pub struct Trial {
 
 impl Trial {
     pub fn step(&self, wrong: Wrong) -> Outcome {
-        let mut outcome = step(&self.given, self.event, wrong);
+        let mut outcome = step(&self.given, self.event, self.protocol, wrong);
         let number = outcome.stepped.number;
         let missed = self.aimed.filter(|aimed| *aimed != number);
         if let (Some(aimed), Wrong::Nothing) = (missed, wrong) {
@@ -39,11 +41,16 @@ impl Trial {
 /// The step of this number.
 pub fn trial(seed: u64, number: u64) -> Trial {
     let random = &mut Random::for_case(seed, 3, number);
-    let (plan, mut given) = states::any(random);
-    if number % 4 < 2 {
+    let (turn, sort) = ((number / 4) as usize, number % 4);
+    // Both protocols in turn; the next time that a figure comes it is with the
+    // other one.
+    let protocol = PROTOCOLS[(turn + turn / FIGURES) % PROTOCOLS.len()];
+    let (plan, mut given) = states::any(random, protocol);
+    if sort < 2 {
         let (event, aimed) = aimed_event(random, &plan, &given);
         return Trial {
             name: format!("step {number} (sound state)"),
+            protocol,
             given,
             event,
             changed: None,
@@ -51,11 +58,12 @@ pub fn trial(seed: u64, number: u64) -> Trial {
         };
     }
     let event = any_event(random, &plan, &given);
-    let turn = Some((number / 4) as usize % FIGURES).filter(|_| number % 4 == 2);
-    let several = if turn.is_none() && random.one_in(2) {
-        broken::change_several(random, &mut given)
-    } else {
-        None
+    let turn = Some(turn % FIGURES).filter(|_| sort == 2);
+    let several = match random.below(8) {
+        _ if turn.is_some() => None,
+        0..=3 => broken::change_several(random, &mut given, protocol),
+        4 | 5 => Some(broken::change_second_word(random, &mut given)),
+        _ => None,
     };
     let (sort, changed) = match several {
         Some(name) => (name.to_string(), None),
@@ -63,6 +71,7 @@ pub fn trial(seed: u64, number: u64) -> Trial {
     };
     Trial {
         name: format!("step {number} ({sort})"),
+        protocol,
         given,
         event,
         changed,
@@ -94,13 +103,25 @@ fn aimed_event(random: &mut Random, plan: &Plan, given: &Whole) -> (Event, Optio
     let is_exhausted = given.get(ACCEPTED, 0) == u64::from(MOST_ACCEPTED);
     let answer = |number: u8| Some(if is_exhausted { 11 } else { number });
     match random.below(10) {
-        0..=3 => (aims::accepted(random, plan, given), answer(0)),
+        0..=3 => (accepted_event(random, plan, given), answer(0)),
         4..=8 => {
             let (event, number) = refused_event(random, plan, given);
             (event, answer(number))
         }
         _ if is_exhausted => (aims::arbitrary(random, plan), Some(11)),
         _ => (aims::arbitrary(random, plan), None),
+    }
+}
+
+/// An event that a sound state accepts. An unlock, at which the protocols part, is
+/// more likely than another.
+fn accepted_event(random: &mut Random, plan: &Plan, given: &Whole) -> Event {
+    let newest = given
+        .running()
+        .and_then(|task| given.open_locks(task).pop());
+    match newest {
+        Some(lock) if random.one_in(4) => Event::Unlock(lock as u8),
+        _ => aims::accepted(random, plan, given),
     }
 }
 

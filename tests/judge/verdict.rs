@@ -4,7 +4,10 @@
 
 use crate::check::Checked;
 use crate::compare;
+use crate::generate::Case;
+use crate::protocol::ByProtocol;
 use crate::refusals::named;
+use crate::replay;
 use crate::requests::{Ask, Request, Source};
 use crate::sound;
 use crate::state_notation::written;
@@ -16,6 +19,7 @@ use crate::write_tally::WriteTally;
 use crate::wrong::Wrong;
 use crate::Options;
 use std::io::{Read, Result};
+use std::sync::Arc;
 
 /// So many differing replies are told in words; the others are only counted.
 const TOLD: usize = 5;
@@ -36,8 +40,11 @@ pub struct Verdict<'o> {
     /// How often the judge was not content with itself.
     pub violations: usize,
     books: Tally,
-    steps: StepTally,
+    steps: ByProtocol<StepTally>,
     writings: WriteTally,
+    /// The book that was replayed last, and the judge's answers for it, which are
+    /// those for both protocols.
+    replayed: Option<(Arc<Case>, replay::Outcome)>,
     /// The program's latest answer to a check.
     checked: Option<Checked>,
 }
@@ -51,8 +58,9 @@ impl<'o> Verdict<'o> {
             differing: 0,
             violations: 0,
             books: Tally::default(),
-            steps: StepTally::default(),
+            steps: ByProtocol::each(StepTally::new),
             writings: WriteTally::default(),
+            replayed: None,
             checked: None,
         }
     }
@@ -62,14 +70,12 @@ impl<'o> Verdict<'o> {
         let wrong = self.options.wrong;
         let is_generated = request.source == Source::Generated;
         let (found, violation) = match &request.ask {
-            Ask::Replay(case) => {
+            Ask::Replay(case, protocol) => {
                 let reply = wire::read_replay(replies, case.row_space)?;
-                let outcome = case.replay(wrong);
-                if is_generated {
-                    self.books.count(&outcome);
-                }
-                let found = compare::answers(&outcome.answer, &reply);
-                (found, outcome.violation)
+                let violation = self.replay(case, is_generated);
+                let (_, outcome) = self.replayed.as_ref().expect("it was replayed just now");
+                let found = compare::answers(outcome.answers.of(*protocol), &reply);
+                (found, violation)
             }
             Ask::Check(case) => {
                 let reply = wire::read_check(replies)?;
@@ -81,7 +87,7 @@ impl<'o> Verdict<'o> {
                 let reply = wire::read_step(replies, &trial.given)?;
                 let outcome = trial.step(wrong);
                 if is_generated {
-                    self.steps.count(trial, &outcome);
+                    self.steps.of_mut(trial.protocol).count(trial, &outcome);
                 }
                 let found = compare::steps(&outcome.stepped, &reply);
                 (found, outcome.violation)
@@ -104,6 +110,22 @@ impl<'o> Verdict<'o> {
         self.by_hand += usize::from(!is_generated);
         self.conclude(request, &found, violation);
         Ok(())
+    }
+
+    /// The judge's own replay of a book, unless that is done; what it demands of
+    /// itself and did not hold.
+    fn replay(&mut self, case: &Arc<Case>, is_generated: bool) -> Option<String> {
+        let replayed = self.replayed.as_ref();
+        if replayed.is_some_and(|(latest, _)| Arc::ptr_eq(latest, case)) {
+            return None;
+        }
+        let mut outcome = case.replay(self.options.wrong);
+        if is_generated {
+            self.books.count(&outcome);
+        }
+        let violation = outcome.violation.take();
+        self.replayed = Some((Arc::clone(case), outcome));
+        violation
     }
 
     fn conclude(&mut self, request: &Request, found: &[String], violation: Option<String>) {
@@ -129,10 +151,12 @@ impl<'o> Verdict<'o> {
     /// not.
     pub fn close(&self) -> bool {
         self.books.print_table();
-        self.steps.print_table();
+        self.steps.second.print_table();
+        self.steps.first.print_table();
         self.writings.print_table();
         println!("{}", self.books.summary());
-        println!("{}", self.steps.summary());
+        println!("{}", self.steps.second.summary());
+        println!("{}", self.steps.first.summary());
         println!("{}", self.writings.summary());
         println!(
             "{} replies, {} of them to hand-made cases and set pieces: {} differ",
@@ -152,7 +176,7 @@ fn tell(request: &Request, found: &[String]) {
         println!("  and {} more", found.len() - TOLD_FIELDS);
     }
     match &request.ask {
-        Ask::Replay(case) | Ask::Check(case) if case.book.len() <= SHORT_BOOK => {
+        Ask::Replay(case, _) | Ask::Check(case) if case.book.len() <= SHORT_BOOK => {
             print!("{}", hex_dump(&case.book));
         }
         Ask::Step(trial) => tell_state(trial),

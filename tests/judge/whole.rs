@@ -85,8 +85,9 @@ pub const USES: Field = LIMIT.then("uses", Per::Task, 4);
 pub const ACCEPTED: Field = USES.then("accepted", Per::One, 4);
 pub const RUNNING: Field = ACCEPTED.then("running", Per::One, 1);
 pub const USER: Field = RUNNING.then("user", Per::One, 1);
-pub const NEXT: Field = USER.then("next", Per::One, 1);
-pub const LAZY: Field = NEXT.then("lazy", Per::One, 4);
+/// The next word of the second protocol, the kernel word of the first.
+pub const SECOND: Field = USER.then("second", Per::One, 1);
+pub const LAZY: Field = SECOND.then("lazy", Per::One, 4);
 pub const EAGER: Field = LAZY.then("eager", Per::One, 4);
 /// Release numbers; 0 for a task that isn't released.
 pub const RELEASED: Field = EAGER.then("released", Per::Task, 4);
@@ -103,8 +104,8 @@ pub const UNITS: Field = SAVED.then("units", Per::Lock, 2);
 pub const OWNER: Field = UNITS.then("owner", Per::Lock, 1);
 
 pub const FIELDS: [Field; 20] = [
-    TASKS, LOCKS, BASE, CEILING, LIMIT, USES, ACCEPTED, RUNNING, USER, NEXT, LAZY, EAGER, RELEASED,
-    KEPT, DELAY, OPEN, ROW, SAVED, UNITS, OWNER,
+    TASKS, LOCKS, BASE, CEILING, LIMIT, USES, ACCEPTED, RUNNING, USER, SECOND, LAZY, EAGER,
+    RELEASED, KEPT, DELAY, OPEN, ROW, SAVED, UNITS, OWNER,
 ];
 
 pub const PLAN_BYTES: usize = USES.end();

@@ -1,22 +1,24 @@
 //! The wire between the judge and the `batch` program under judgement. All
 //! numbers are little-endian.
 //!
-//! To the program, for each request: u32 command, u32 size, u32 room, then a
-//! payload of `size` bytes. The end of the input ends the program.
+//! To the program, for each request a head of 16 bytes, u32 command, u32 protocol,
+//! u32 size, u32 room, then a payload of `size` bytes. The protocol is 1 for the
+//! first and 2 for the second; commands that have none are sent 2. The end of the
+//! input ends the program.
 //!
-//! 1, replay: the payload is a book, the room its row space in bytes. The reply
-//! is u8 number, u32 place, u32 lazy calls, u32 eager calls, u8 tasks of the
-//! plan (0 where 1 to 9 refused), u16 delay of each task, u16 bound of each
-//! task, then the whole row space, which the program fills with the byte 0xEE
-//! before the replay.
+//! 1, replay by the protocol: the payload is a book, the room its row space in
+//! bytes. The reply is u8 number, u32 place, u32 lazy calls, u32 eager calls, u8
+//! tasks of the plan (0 where 1 to 9 refused), u16 delay of each task, u16 bound
+//! of each task, then the whole row space, which the program fills with the byte
+//! 0xEE before the replay.
 //!
 //! 2, check: the payload and the room are as for 1. The reply is u8 number, u32
 //! place, u32 place of the event body in the book, then the plan, figure by
 //! figure; all 0 after the place where the book is refused.
 //!
-//! 3, step: the payload is a plan and a state, figure by figure, then the four
-//! bytes of an event; the room is 0. The reply is u8 number, u8 lazy call, then
-//! the state after the event, figure by figure.
+//! 3, step by the protocol: the payload is a plan and a state, figure by figure,
+//! then the four bytes of an event; the room is 0. The reply is u8 number, u8 lazy
+//! call, then the state after the event, figure by figure.
 //!
 //! 4, write: the payload is four u32 counts, of tasks, locks, uses and events,
 //! then the tasks as u16, the locks as u32, the uses as u16 and the events as
@@ -32,6 +34,7 @@
 
 use crate::book::LARGEST_BOOK;
 use crate::check::Checked;
+use crate::protocol::Protocol;
 use crate::replay::Answer;
 use crate::step::Stepped;
 use crate::whole::Whole;
@@ -60,9 +63,10 @@ pub enum Command {
     Write = 4,
 }
 
-pub fn request(command: Command, payload: &[u8], room: usize) -> Vec<u8> {
+pub fn request(command: Command, protocol: Protocol, payload: &[u8], room: usize) -> Vec<u8> {
     assert!(payload.len() <= MOST_PAYLOAD && room <= MOST_BYTES);
-    let head = [command as u32, payload.len() as u32, room as u32];
+    let (size, room) = (payload.len() as u32, room as u32);
+    let head = [command as u32, protocol as u32, size, room];
     let head = head.map(u32::to_le_bytes).concat();
     [&head[..], payload].concat()
 }

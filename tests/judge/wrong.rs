@@ -1,10 +1,12 @@
 //! Ways to go wrong on purpose: the four mistakes of RULES 18.4 and one close to
-//! them, others that only single steps can show, some of the count of eager calls
-//! and some of the writer of books. The judge can follow one of them; a right
+//! them, others that only single steps can show, some of the count of eager calls,
+//! some of the kernel word, which is the first protocol's, and some of the writer
+//! of books. The judge can follow one of them; a right
 //! program must then differ from it, which shows that the judge is able to fail a
 //! program.
 
 use crate::event::Event;
+use crate::protocol::Protocol;
 
 #[derive(Clone, Copy, Debug, PartialEq, Eq)]
 pub enum Wrong {
@@ -12,7 +14,7 @@ pub enum Wrong {
     Nothing,
     /// A task that is preempted counts as released anew.
     Tail,
-    /// An unlock calls also where the restored word equals the next word.
+    /// An unlock calls also where the restored word equals the second word.
     AtOrAbove,
     /// The same, and the task goes behind the others of its priority. From a
     /// fresh start a call alone elects it again.
@@ -38,6 +40,29 @@ pub enum Wrong {
     OneMoreOpen,
     /// The word of a task that finishes stays as its kept priority.
     KeptStays,
+    /// A tick leaves the kernel word as it is.
+    TickLeavesKernelWord,
+    /// An acquire sets the kernel word as if it were a kernel entry.
+    AcquireSetsKernelWord,
+    /// A release that does not switch leaves the kernel word as it is.
+    ReleaseLeavesKernelWord,
+    /// An unlock that calls leaves the kernel word as it is.
+    CallLeavesKernelWord,
+    /// An unlock without a call sets the kernel word as if it were a kernel entry.
+    UnlockSetsKernelWord,
+    /// A switch leaves the user word of the task that leaves in the kernel word.
+    KernelWordBeforeSwitch,
+    /// An unlock calls also where the restored word equals the kernel word.
+    KernelWordAtOrAbove,
+    /// A call that elects the same task again isn't one.
+    SameAgainUncounted,
+    /// A state is sound also with a kernel word above the user word.
+    KernelWordUnbounded,
+    /// A state is sound only with a kernel word that is what the next word would
+    /// be.
+    KernelWordAsNext,
+    /// Work is nobody's delay where the kernel word is not above the worker's base.
+    SparedByKernelWord,
     /// Every acquire and every unlock is an eager call.
     EveryLockAct,
     /// Of those that change a priority only acquires are eager calls.
@@ -53,7 +78,7 @@ pub enum Wrong {
 }
 
 /// The wrong ways under the names of the command line.
-pub const WRONG_WAYS: [(&str, Wrong); 19] = [
+pub const WRONG_WAYS: [(&str, Wrong); 30] = [
     ("tail", Wrong::Tail),
     ("at-or-above", Wrong::AtOrAbove),
     ("gives-way", Wrong::GivesWay),
@@ -67,6 +92,17 @@ pub const WRONG_WAYS: [(&str, Wrong); 19] = [
     ("delay-wraps", Wrong::DelayWraps),
     ("one-more-open", Wrong::OneMoreOpen),
     ("kept-stays", Wrong::KeptStays),
+    ("tick-leaves-kernel-word", Wrong::TickLeavesKernelWord),
+    ("acquire-sets-kernel-word", Wrong::AcquireSetsKernelWord),
+    ("release-leaves-kernel-word", Wrong::ReleaseLeavesKernelWord),
+    ("call-leaves-kernel-word", Wrong::CallLeavesKernelWord),
+    ("unlock-sets-kernel-word", Wrong::UnlockSetsKernelWord),
+    ("kernel-word-before-switch", Wrong::KernelWordBeforeSwitch),
+    ("kernel-word-at-or-above", Wrong::KernelWordAtOrAbove),
+    ("same-again-uncounted", Wrong::SameAgainUncounted),
+    ("kernel-word-unbounded", Wrong::KernelWordUnbounded),
+    ("kernel-word-as-next", Wrong::KernelWordAsNext),
+    ("spared-by-kernel-word", Wrong::SparedByKernelWord),
     ("every-lock-act", Wrong::EveryLockAct),
     ("acquires-alone", Wrong::AcquiresAlone),
     ("room-before-8", Wrong::RoomBefore8),
@@ -76,6 +112,34 @@ pub const WRONG_WAYS: [(&str, Wrong); 19] = [
 ];
 
 impl Wrong {
+    /// The way of a scheduler by this protocol.
+    pub fn of(self, protocol: Protocol) -> Wrong {
+        if self.touches(protocol) {
+            self
+        } else {
+            Wrong::Nothing
+        }
+    }
+
+    /// Whether a scheduler by this protocol goes wrong: not in a way that is about
+    /// the other protocol's word.
+    pub fn touches(self, protocol: Protocol) -> bool {
+        let only = match self {
+            Wrong::SparedByOne => Protocol::Second,
+            Wrong::TickLeavesKernelWord
+            | Wrong::AcquireSetsKernelWord
+            | Wrong::ReleaseLeavesKernelWord
+            | Wrong::CallLeavesKernelWord
+            | Wrong::UnlockSetsKernelWord
+            | Wrong::KernelWordBeforeSwitch
+            | Wrong::KernelWordAtOrAbove
+            | Wrong::SameAgainUncounted
+            | Wrong::SparedByKernelWord => Protocol::First,
+            _ => return true,
+        };
+        only == protocol
+    }
+
     /// Whether an acquire or an unlock is an eager call, by whether it changes
     /// the priority of the task that does it.
     pub fn counts(self, act: Event, changes: bool) -> bool {

@@ -3,10 +3,10 @@
  *     kernel [--patience MILLISECONDS] [--wrong stays|raises-nothing]
  *     kernel --can
  *
- * From standard input it takes requests as the program `batch` does, for a replay alone: u32 command (1), u32 size, u32 room,
- * then a book of `size` bytes; the room is not looked at. The reply is u8 ending (threads.h), u32 how many events were taken,
- * u8 who took it for each of these, u8 1 if the tasks' calls for another priority were counted, and u32 how many. Numbers are
- * little-endian. The end of the input ends the program.
+ * From standard input it takes requests as the program `batch` does, for a replay alone: u32 command (1), u32 protocol, u32
+ * size, u32 room, then a book of `size` bytes; neither the protocol, which a kernel has of its own, nor the room is looked at. The
+ * reply is u8 ending (threads.h), u32 how many events were taken, u8 who took it for each of these, u8 1 if the tasks' calls for
+ * another priority were counted, and u32 how many. Numbers are little-endian. The end of the input ends the program.
  *
  * With --wrong it goes wrong on purpose. --can says in one line why this machine cannot run lists, and ends with 4 then. */
 #define _GNU_SOURCE
@@ -45,10 +45,10 @@ static bool reply(const struct trace *trace) {
 static bool reply_to_all(const struct options *options, struct trace *trace) {
     enum { REPLAY = 1 };
     static uint8_t book[1 << 20];
-    uint8_t head[12];
+    uint8_t head[16];
     size_t had;
     while ((had = fread(head, 1, sizeof head, stdin)) == sizeof head) {
-        size_t size = four_bytes(head + 4);
+        size_t size = four_bytes(head + 8);
         if (four_bytes(head) != REPLAY || size > sizeof book || fread(book, 1, size, stdin) != size) return false;
         struct list list;
         memset(trace, 0, sizeof *trace);

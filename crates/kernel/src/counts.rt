@@ -13,12 +13,23 @@ ghost use Rattle.rules.specs.Schedulers.FiguresAfter.{differs};
 ghost use Rattle.kernel.specs.Lent.{acceptedWith, refusedAs, turnOf};
 ghost use Rattle.kernel.specs.Ready.{Counts};
 
+// Field by field: a head handed on whole is copied through memory, which a short book's replay feels.
 pub fn refused(h: Head, why: Refusal) -> Acted
     ensures { λ r. ⌜ r ≡ refusedAs h why ⌝ }
 {
+    let user = h.user;
+    let next = h.next;
+    let head = Head {
+        accepted: h.accepted,
+        running: h.running,
+        user: user,
+        next: next,
+        lazy: h.lazy,
+        eager: h.eager,
+    };
     Acted {
         answer: Answer::Refused(why),
-        head: h,
+        head: head,
     }
 }
 

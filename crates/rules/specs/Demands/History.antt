@@ -21,7 +21,7 @@ use Rattle.rules.specs.declared.state.State.{State}
 use Rattle.rules.specs.declared.event.Event.{Event}
 use Rattle.rules.specs.declared.event.Event.the-variants.{Release, Acquire, Unlock, Work, Finish, Tick}
 
--- the event at place k; past the list's end it is a tick, which does nothing but count
+-- the event at place k; past the list's end it is a tick, which lets who runs go on
 abbrev pub eventAt : List Event → ℕ → Event
 eventAt es k = getD es k Tick
 

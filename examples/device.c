@@ -1,7 +1,8 @@
-/* Checks and replays a book from C: `device [BOOK]`, or the book on standard input. Build it so:
+/* Checks and replays a book from C: `device [--first] [BOOK]`, or the book on standard input. Build it so:
  *     rt staticlib device
  *     cc -Iinclude examples/device.c target/staticlib/libdevice.a -o device */
 #include <stdio.h>
+#include <string.h>
 
 #include "recorder.h"
 
@@ -10,6 +11,12 @@ static uint8_t book[RECORDER_MAX_BOOK + 1];
 static uint8_t rows[RECORDER_MAX_EVENTS * RECORDER_ROW_BYTES];
 
 int main(int count, char **words) {
+    uint8_t protocol = RECORDER_SECOND;
+    if (count > 1 && strcmp(words[1], "--first") == 0) {
+        protocol = RECORDER_FIRST;
+        count--;
+        words++;
+    }
     FILE *in = count > 1 ? fopen(words[1], "rb") : stdin;
     if (in == NULL) {
         perror(words[1]);
@@ -21,7 +28,7 @@ int main(int count, char **words) {
     printf("check %u %zu\n", (unsigned)c.number, c.place);
     printf("plan %zu %zu, events at %zu\n", c.plan.tasks, c.plan.locks, c.events);
 
-    struct recorder_replay r = recorder_replay(book, length, rows, sizeof rows);
+    struct recorder_replay r = recorder_replay(protocol, book, length, rows, sizeof rows);
     const struct recorder_state *s = &r.state;
     for (uint32_t k = 0; k < s->accepted; k++) {
         const uint8_t *row = rows + k * RECORDER_ROW_BYTES;

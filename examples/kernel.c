@@ -29,7 +29,7 @@ int main(void) {
     struct recorder_state state = recorder_fresh();
     for (size_t k = 0; k < COUNT(events); k++) {
         const struct event *e = &events[k];
-        struct recorder_step step = recorder_step(load.plan, state, e->kind, e->id, e->amount);
+        struct recorder_step step = recorder_step(RECORDER_SECOND, load.plan, state, e->kind, e->id, e->amount);
         if (step.number != 0) {
             printf("refused %u %zu\n", (unsigned)step.number, k);
             return 1;

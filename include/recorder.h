@@ -28,6 +28,11 @@ extern "C" {
 /* The running task's byte where nobody runs. */
 #define RECORDER_NOBODY 255
 
+/* The lazy protocols, by their numbers. Where a protocol is asked for, 1 is the first and every other number the second.
+ * A state belongs to the protocol that made it: the second word of a state is a next word or a kernel word. */
+#define RECORDER_SECOND 2 /* next word: the greatest priority of the other released tasks */
+#define RECORDER_FIRST 1  /* kernel word: the user word at the latest entry to the kernel */
+
 /* A plan. A task or a lock is its place, from 0. Places past the last one hold 0. */
 struct recorder_plan {
     size_t tasks;
@@ -43,7 +48,7 @@ struct recorder_state {
     uint32_t accepted; /* how many events were accepted */
     uint8_t running;   /* the running task, or RECORDER_NOBODY */
     uint8_t user;      /* the user word */
-    uint8_t next;      /* the next word */
+    uint8_t next;      /* the second word: the next word, or the kernel word */
     uint32_t lazy;     /* the lazy scheduler's calls */
     uint32_t eager;    /* the eager scheduler's calls: acquires and unlocks that changed their task's priority */
     uint32_t released[RECORDER_MAX_TASKS]; /* each task's release number; 0 where it is not released */
@@ -126,14 +131,15 @@ struct recorder_write recorder_write(const uint16_t *tasks, size_t task_count, c
 /* The state before the first event. */
 struct recorder_state recorder_fresh(void);
 
-/* Steps one event of a kind; what the kind does not use is 0, or it is refused by 8. Work of 0 units is an event, which
- * 20 refuses. Plan and state may be anything: what no scheduler can be in is refused by 10. */
-struct recorder_step recorder_step(struct recorder_plan plan, struct recorder_state state, uint8_t kind, uint8_t id,
-                                   uint16_t amount);
+/* Steps one event of a kind by a protocol; what the kind does not use is 0, or it is refused by 8. Work of 0 units is an
+ * event, which 20 refuses. Plan and state may be anything: what no scheduler of the protocol can be in is refused by 10. */
+struct recorder_step recorder_step(uint8_t protocol, struct recorder_plan plan, struct recorder_state state, uint8_t kind,
+                                   uint8_t id, uint16_t amount);
 
-/* Replays a book up to its first refusal. The accepted event at place k has the four row bytes from 4 * k on: who runs
- * after it, the user word, the next word, and whether it was a lazy call, as 1 or 0. No other row byte changes. */
-struct recorder_replay recorder_replay(const uint8_t *book, size_t length, uint8_t *rows, size_t room);
+/* Replays a book by a protocol up to its first refusal. The accepted event at place k has the four row bytes from 4 * k
+ * on: who runs after it, the user word, the second word, and whether it was a lazy call, as 1 or 0. No other row byte
+ * changes. */
+struct recorder_replay recorder_replay(uint8_t protocol, const uint8_t *book, size_t length, uint8_t *rows, size_t room);
 
 /* The bound on the delay of a task of the book's plan; 0 for any other task, and for a book that is refused. */
 uint16_t recorder_bound(const uint8_t *book, size_t length, size_t task);

@@ -46,8 +46,16 @@ static void show(const struct recorder_state *s) {
 
 static struct recorder_state step(struct recorder_plan plan, struct recorder_state s, uint8_t kind, uint8_t id,
                                   uint16_t amount) {
-    struct recorder_step r = recorder_step(plan, s, kind, id, amount);
+    struct recorder_step r = recorder_step(RECORDER_SECOND, plan, s, kind, id, amount);
     printf("step %u %u %u: %u %u\n", kind, id, amount, r.number, r.calls);
+    return r.state;
+}
+
+/* The same by a protocol that is named, with the words after it. */
+static struct recorder_state step_by(uint8_t protocol, struct recorder_plan plan, struct recorder_state s, uint8_t kind,
+                                     uint8_t id) {
+    struct recorder_step r = recorder_step(protocol, plan, s, kind, id, 0);
+    printf("by %u step %u %u: %u %u words %u %u\n", protocol, kind, id, r.number, r.calls, r.state.user, r.state.next);
     return r.state;
 }
 
@@ -80,5 +88,24 @@ int main(void) {
     s.saved[0] = 258;
     s = step(plan, s, RECORDER_TICK, 0, 0);
     show(&s);
+
+    /* P2 by the first protocol; then whose state it is: 1 names the first, every other number the second */
+    s = recorder_fresh();
+    s = step_by(RECORDER_FIRST, plan, s, RECORDER_RELEASE, 0);
+    s = step_by(RECORDER_FIRST, plan, s, RECORDER_ACQUIRE, 1);
+    s = step_by(RECORDER_FIRST, plan, s, RECORDER_ACQUIRE, 0);
+    s = step_by(RECORDER_FIRST, plan, s, RECORDER_RELEASE, 1);
+    s = step_by(RECORDER_FIRST, plan, s, RECORDER_UNLOCK, 0);
+    s = step_by(RECORDER_FIRST, plan, s, RECORDER_UNLOCK, 1);
+    show(&s);
+    step_by(RECORDER_FIRST, plan, s, RECORDER_TICK, 0);
+    step_by(RECORDER_SECOND, plan, s, RECORDER_TICK, 0);
+    s.next = 1;
+    step_by(RECORDER_FIRST, plan, s, RECORDER_TICK, 0);
+    step_by(RECORDER_SECOND, plan, s, RECORDER_TICK, 0);
+    step_by(0, plan, s, RECORDER_TICK, 0);
+    step_by(255, plan, s, RECORDER_TICK, 0);
+    s.next = 4;
+    step_by(RECORDER_FIRST, plan, s, RECORDER_TICK, 0);
     return 0;
 }

@@ -27,7 +27,8 @@ pub struct DeviceReplay {
 #[no_mangle]
 pub extern "C" fn recorder_replay(protocol: u8, book: &[u8], rows: &mut [u8]) -> DeviceReplay
     ensures { λ r. ⌜ r ≡ replaySpelled (replayOf (protocolNamed protocol) (now (book .entry)) (now (rows .entry)) .verdict)
-        (checkedOf (now (book .entry)) (length (now (rows .entry))) .plan) (replayOf (protocolNamed protocol) (now (book .entry)) (now (rows .entry)) .state) ⌝ }
+        (checkedOf (now (book .entry)) (length (now (rows .entry))) .plan)
+        (replayOf (protocolNamed protocol) (now (book .entry)) (now (rows .entry)) .state) ⌝ }
     ensures { λ _. ⌜ now (rows .exit) ≡ replayOf (protocolNamed protocol) (now (book .entry)) (now (rows .entry)) .rows ⌝ }
 {
     let r = scheduler::replay(named(protocol), book, rows);

@@ -82,7 +82,8 @@ work-done h turn r turns n a base released delay depth takes units delay₂ unit
   words = λ kept saved owner. uncalled h turn kept saved owner ∙ rw turns;
 })
 
-pub unlock-done : (pr : Protocol) (h : Head) (r : Acted) (n l row u : ℕ) (released kept depth takes saved units owner kept₂ saved₂ owner₂ : List ℕ) (given : Unlocked)
+pub unlock-done : (pr : Protocol) (h : Head) (r : Acted) (n l row u : ℕ) (released kept depth takes saved units owner kept₂ saved₂ owner₂ : List ℕ)
+    (given : Unlocked)
     → row ≡ at takes (h .running) → u ≡ under row → UnlockWords pr h n l released kept saved owner given kept₂ saved₂ owner₂
     → r ≡ acceptedWith h (given .turn) (given .call) (differs (h .user .0) (given .back .0))
     → UnlockDone pr h n l released kept depth takes saved units owner r kept₂ (set depth (h .running) (at depth (h .running) - 1))

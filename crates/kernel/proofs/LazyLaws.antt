@@ -9,9 +9,8 @@ use lib.ListN.{set}
 use lib.Seq.{set-getD}
 use borrow.Author.Tests.{ltb-true}
 use Rattle.rules.specs.Numbers.Choice.{if_then_else_}
-use Rattle.rules.specs.Numbers.Place.{at, greatest}
+use Rattle.rules.specs.Numbers.Place.{at}
 use Rattle.rules.specs.Numbers.Row.{newest, under, pushed}
-use Rattle.rules.specs.Schedulers.Protocol.{secondWord}
 use Rattle.rules.specs.Schedulers.Lazy.{Words, callsFor, bestKept, runsOn, switched, stays, afterRelease, afterAcquire, restored, afterUnlock}
 use Rattle.rules.specs.declared.protocol.Protocol.{Protocol}
 use Rattle.rules.specs.declared.state.Head.{Head}
@@ -125,6 +124,7 @@ module _ (pr : Protocol) (n l row u : ℕ) (h : Head) (released kept saved owner
 -- ---- finish: nothing was kept for the task that runs
 
 pub finish-switches : (pr : Protocol) (n : ℕ) (h : Head) (released kept kept₂ : List ℕ) (after : Turn) → at kept (h .running) ≡ 0
-    → ((w : Words) → turned after kept₂ w ≡ switched pr n released kept w) → (w : Words) → turned after kept₂ w ≡ switched pr n released (set kept (h .running) 0) w
+    → ((w : Words) → turned after kept₂ w ≡ switched pr n released kept w)
+    → (w : Words) → turned after kept₂ w ≡ switched pr n released (set kept (h .running) 0) w
 finish-switches pr n h released kept kept₂ after z e w =
     e w ∙ ap (λ ks. switched pr n released ks w) (sym (set-getD kept (h .running) 0) ∙ ap (set kept (h .running)) z)

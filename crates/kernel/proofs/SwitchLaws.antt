@@ -56,19 +56,23 @@ unfolding secondWord
 word-none Second = refl
 word-none First = refl
 
-module _ (pr : Protocol) (n : ℕ) (released kept : List ℕ) (few : n ≤ maxTasks) (sized : length kept ≡ maxTasks) (q : ℕ) (named : q ≡ elected (at released) (at kept) n) where
+module _ (pr : Protocol) (n : ℕ) (released kept : List ℕ) (few : n ≤ maxTasks) (sized : length kept ≡ maxTasks) (q : ℕ)
+    (named : q ≡ elected (at released) (at kept) n) where
   pub none-runs : q ≡ nobody → (t : Turn) → t ≡ idleTurn → (w : Words) → turned t kept w ≡ switched pr n released kept w
   unfolding switched runsOn
   none-runs z t e w = rw (e, ← named, z, set-past kept nobody 0 (omega arith), ← none-past kept maxTasks nobody sized (omega arith), none, word-none pr)
     where
       none : greatest (at kept) n ≡ 0
-      none = ⊎-elim (λ g. g) (λ o. absurd (omega (arith, elected-lead (at released) (at kept) n (omega arith) o .within))) (eq-zero-or-pos (greatest (at kept) n))
+      none = ⊎-elim (λ g. g) (λ o. absurd (omega (arith, elected-lead (at released) (at kept) n (omega arith) o .within)))
+          (eq-zero-or-pos (greatest (at kept) n))
 
   module _ (d : q ≢ nobody) where
     pub found-best : at kept q ≡ bestKept kept n
-    found-best = rw named (elected-lead (at released) (at kept) n (omega arith) (elected-some (at released) (at kept) n (omega arith) (λ z. d (named ∙ z))) .keyed)
+    found-best = rw named (elected-lead (at released) (at kept) n (omega arith)
+        (elected-some (at released) (at kept) n (omega arith) (λ z. d (named ∙ z))) .keyed)
 
-    pub found-runs : (t : Turn) (kept₂ : List ℕ) → ((w : Words) → turned t kept₂ w ≡ runsOn pr n kept w q) → (w : Words) → turned t kept₂ w ≡ switched pr n released kept w
+    pub found-runs : (t : Turn) (kept₂ : List ℕ) → ((w : Words) → turned t kept₂ w ≡ runsOn pr n kept w q)
+        → (w : Words) → turned t kept₂ w ≡ switched pr n released kept w
     unfolding switched
     found-runs t kept₂ e w = e w ∙ ap (runsOn pr n kept w) named
 

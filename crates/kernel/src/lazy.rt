@@ -128,11 +128,11 @@ pub fn after_acquire(
     let row = saved[x];
     saved[x] = push_word(row, user);
     owner[y] = h.running + 1;
-    let next = h.next;
+    let second = h.next;
     Turn {
         running: h.running,
         user: raised(user, ceiling),
-        next: next,
+        next: second,
     }
 }
 

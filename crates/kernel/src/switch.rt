@@ -47,7 +47,8 @@ pub fn keep(
 ) -> u64
     requires { ⌜ (n ≤ maxTasks) × (length (now kept) ≡ maxTasks) × (now tree ≡ tournamentOf n (now released) (now kept)) ⌝ }
     ensures { λ r. ⌜ (now (kept .exit) ≡ set (now (kept .entry)) t (priority .0)) × (length (now (kept .exit)) ≡ maxTasks) ⌝ }
-    ensures { λ r. ⌜ (now (tree .exit) ≡ tournamentOf n (now (released .entry)) (now (kept .exit))) × (r ≡ rootOf n (now (released .entry)) (now (kept .exit))) ⌝ }
+    ensures { λ r. ⌜ (now (tree .exit) ≡ tournamentOf n (now (released .entry)) (now (kept .exit)))
+        × (r ≡ rootOf n (now (released .entry)) (now (kept .exit))) ⌝ }
 {
     let x = t as usize;
     if x >= MAX_TASKS {

@@ -41,7 +41,8 @@ front-below v o (suc n) (x ∷ xs) h zero = h 0
 front-below v o (suc n) (x ∷ xs) h (suc i) = front-below v o n xs (λ i. h (suc i)) i
 
 -- the report of a run
-module _ (pr : Protocol) {p : Plan} (O : Obeys p) (es : List Event) (few : length es ≤ maxEvents) (rows : List ℕ) (ran : Ran) (a : ℕ) (R : RanUpTo pr p es rows ran a) where
+module _ (pr : Protocol) {p : Plan} (O : Obeys p) (es : List Event) (few : length es ≤ maxEvents) (rows : List ℕ) (ran : Ran) (a : ℕ)
+    (R : RanUpTo pr p es rows ran a) where
   ran-fits : length (reportOf (ran .verdict) a (ran .rows) (ran .state .head .lazy) (ran .state .head .eager) (take (p .tasks) (ran .state .delay)))
       ≤ reportSpace
   unfolding verdictPlace
@@ -103,7 +104,8 @@ front-whole : (out t : List ℕ) → length t ≤ length out → take (length t)
 front-whole out t h = ap (take (length t)) (stored-front out t h) ∙ take-append-seam t _
 
 -- the report of a replay, in a buffer with room for every text
-module _ (pr : Protocol) (b rows : List ℕ) (r : Replayed) (ran : ranAs r rows ≡ ranOf pr b) (planned : r .plan ≡ checkedOf b (length (replicate {A = ℕ} rowSpace 0)) .plan)
+module _ (pr : Protocol) (b rows : List ℕ) (r : Replayed) (ran : ranAs r rows ≡ ranOf pr b)
+    (planned : r .plan ≡ checkedOf b (length (replicate {A = ℕ} rowSpace 0)) .plan)
     (out : List ℕ) (room : reportSpace ≤ length out) (n : ℕ) (counted : n ≡ min (length (reported r rows)) (length out)) where
   pub whole-length : n ≡ length (textOf pr b)
   whole-length = omega (arith, text-fits pr b, counted ∙ ap (λ (t : List ℕ). min (length t) (length out)) (text-is pr b rows r ran planned))

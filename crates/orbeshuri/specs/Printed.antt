@@ -52,7 +52,8 @@ unfolding book block blockByFirst bookOfRefused blockOfRefused
     withBit most countFault taskFault lockFault declares users usersBase ceilingFault taskFaultAt lockFaultAt countFaultOf useFault masksOf planOf recordChecks
     loadChecks sizeOf bodyAt layoutFault contentsChecks eventChecks checkOf checkedAs
     has priority saves holds priorityOf rankOf earlier earliest elected elsewhere notNewest pastLimit testsOf releaseOrder acquireOrder unlockOrder workOrder
-    finishOrder refusalOf differs eagerCalls charged delayed figuresAfter secondWord callsFor runsOn switched stays afterRelease afterAcquire restored afterUnlock
+    finishOrder refusalOf differs eagerCalls charged delayed figuresAfter
+    secondWord callsFor runsOn switched stays afterRelease afterAcquire restored afterUnlock
     wordsAfter lazyCall keptOf savedOf ownerOf
     taskObeys lockObeys spareObeys obeys rowTest ownTest numberNew numberTest taskTest lockTest runsTest secondTest headTest spareTest soundTest
     afterOf answered actOf stepOf withRow onward runFrom replayAs replayOf

@@ -341,11 +341,13 @@ one-word-of a b c r q h k = h ∙ sym k
 pub one-top : (κs : Lfts 1) (a : _) (b c : _) (r q : ℕ) → top.Post κs a r b → top.Post κs a q c → r ≡ q
 one-top κs a b c r q h k = h ∙ sym k
 
-pub one-put : (κs : Lfts 1) (a : _) (b c : _) (r q : ℕ) → put.Post κs a r b → put.Post κs a q c → (f : ℕ → ℕ) → a .1 .0 ≤ maxTasks → now (a .0) ≡ treeOf (a .1 .0) f
+pub one-put : (κs : Lfts 1) (a : _) (b c : _) (r q : ℕ) → put.Post κs a r b → put.Post κs a q c
+    → (f : ℕ → ℕ) → a .1 .0 ≤ maxTasks → now (a .0) ≡ treeOf (a .1 .0) f
     → (r ≡ q) × (now (b .0) ≡ now (c .0))
 one-put κs a b c r q h k f few e = (h .1 f few e ∙ sym (k .1 f few e), h .0 f few e ∙ sym (k .0 f few e))
 
-pub one-build : (κs : Lfts 3) (a : _) (b c : _) (r q : _) → build.Post κs a r b → build.Post κs a q c → a .0 ≤ maxTasks → now (a .1 .1 .1 .0) ≡ replicate places 0
+pub one-build : (κs : Lfts 3) (a : _) (b c : _) (r q : _) → build.Post κs a r b → build.Post κs a q c
+    → a .0 ≤ maxTasks → now (a .1 .1 .1 .0) ≡ replicate places 0
     → now (b .1 .1 .1 .0) ≡ now (c .1 .1 .1 .0)
 one-build κs a b c r q h k few e = h few e ∙ sym (k few e)
 
@@ -362,6 +364,7 @@ pub one-act : (κs : Lfts 13) (a : _) (b c : _) (r q : Acted) → act.Post κs a
     × (now (b .1 .1 .1 .1 .1 .1 .1 .1 .1 .1 .1 .1 .1 .1 .1 .1 .0) ≡ now (c .1 .1 .1 .1 .1 .1 .1 .1 .1 .1 .1 .1 .1 .1 .1 .1 .0))
 one-act κs a b c r q h k = (
   h .0 ∙ sym (k .0),
-  h .1 ∙ ap₂ (tournamentOf (a .1 .1 .0)) (ap (λ (x : Stepped). x .state .released) (h .0 ∙ sym (k .0))) (ap (λ (x : Stepped). x .state .kept) (h .0 ∙ sym (k .0)))
+  h .1 ∙ ap₂ (tournamentOf (a .1 .1 .0)) (ap (λ (x : Stepped). x .state .released) (h .0 ∙ sym (k .0)))
+      (ap (λ (x : Stepped). x .state .kept) (h .0 ∙ sym (k .0)))
       ∙ sym (k .1),
 )

@@ -1,7 +1,7 @@
 -- Demands 2 and 3, said of what `replay` returns, and of the row bytes as it leaves them. Assumes nothing.
 use mathlib.Core.Path.{_≡_, sym, _∙_, ap, ap₂, subst}
 use mathlib.Core.List.{List}
-use Prim.Native.Nat.{ℕ, _*_, _≤_, _<_}
+use Prim.Native.Nat.{ℕ, _*_, _<_}
 use contract.Lifetimes.{Lfts}
 use native.Mathlib.Omega.{arith}
 use lib.ListN.{length, replicate, length-replicate}
@@ -33,8 +33,8 @@ replay-keeps κs a b r h e =
     subst (λ (x : Ran). RanUpTo (a .0) (planIn (now (a .1 .0))) (eventsOf (now (a .1 .0))) (now (a .1 .1 .0)) x (x .state .head .accepted)) (sym (h .0))
     (replayed (a .0) (now (a .1 .0)) (now (a .1 .1 .0)) .ran e)
 
--- of two replays of one book with the same row bytes, the one by the first protocol and the other by the second: the same is refused, and the calls of the first
--- lie between those of the second and the eager ones
+-- of two replays of one book with the same row bytes, the one by the first protocol and the other by the second: the same is refused, and the calls of the
+-- first lie between those of the second and the eager ones
 pub replays-compare : (κs ls : Lfts 2) (a : _) (b : _) (r : Replayed) (c : _) (d : _) (q : Replayed) → replay.Post κs a r b → replay.Post ls c q d
     → a .0 ≡ First → c .0 ≡ Second → now (a .1 .0) ≡ now (c .1 .0) → now (a .1 .1 .0) ≡ now (c .1 .1 .0)
     → Compared (ranAs r (now (b .1 .1 .0))) (ranAs q (now (d .1 .1 .0)))

@@ -1,12 +1,11 @@
 -- Demands 2 and 3, said of a run of `step` from a fresh start. Assumes nothing.
-use mathlib.Core.Path.{_≡_, refl, sym, _∙_, ap, subst}
+use mathlib.Core.Path.{_≡_, sym, _∙_, ap, subst}
 use mathlib.Core.Bool.{true}
 use mathlib.Core.List.{List}
-use Prim.Native.Nat.{ℕ, zero, suc, _≤_}
+use Prim.Native.Nat.{ℕ, zero, suc}
 use native.Mathlib.Omega.{arith}
 use Rattle.rules.specs.Books.Plan.{Obeys}
-use Rattle.rules.specs.Numbers.Place.{at}
-use Rattle.rules.specs.Schedulers.Figures.{figuresOf, holds}
+use Rattle.rules.specs.Schedulers.Figures.{holds}
 use Rattle.rules.specs.Replays.Step.{stepOf}
 use Rattle.rules.specs.Demands.History.{eventAt, lazyAt}
 use Rattle.rules.specs.Demands.Demand2.{Demand2}

@@ -48,7 +48,8 @@ pub made-tree : (pr : Protocol) (p : Plan) (s : State) (n : ℕ) (rows tree made
 made-tree pr p s n rows tree made R e = e (few-tasks (R .sound .sound .plan)) refl
 
 module _ (pr : Protocol) (p : Plan) (events : ℕ → Event) (n : ℕ) (first : State) (start : List ℕ) where
-  pub going-start : RunReady pr p first n start → n < 2 ^ 64 → Going pr p events n first start 0 (record { verdict = Verdict.Passed; state = first; rows = start })
+  pub going-start : RunReady pr p first n start → n < 2 ^ 64
+      → Going pr p events n first start 0 (record { verdict = Verdict.Passed; state = first; rows = start })
   unfolding Going leftFrom
   going-start R few = record {
     asked = R;
@@ -144,7 +145,8 @@ pub run-ready : (pr : Protocol) (p : Plan) (s : State) (n : ℕ) (rows : List �
 run-ready pr p s n rows e R = subst (λ (z : State). RunReady pr p z n rows) (sym e) R
 
 -- the event that is handed in is the body's first
-pub run-fresh : (pr : Protocol) (p : Plan) (body : List ℕ) (n : ℕ) (s : State) (first : Event) (rows : List ℕ) (out : Ran) → s ≡ freshOf → first ≡ eventIn body 0
+pub run-fresh : (pr : Protocol) (p : Plan) (body : List ℕ) (n : ℕ) (s : State) (first : Event) (rows : List ℕ) (out : Ran)
+    → s ≡ freshOf → first ≡ eventIn body 0
     → out ≡ runFrom pr p (from (eventOn first body) 0 n) 0 s rows → out ≡ runFrom pr p (from (eventIn body) 0 n) 0 freshOf rows
 unfolding eventOn
 run-fresh pr p body n s first rows out e f h =

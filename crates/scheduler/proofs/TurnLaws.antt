@@ -87,7 +87,8 @@ module _ (pr : Protocol) (p : Plan) (s : State) (rows : List ℕ) (k : ℕ) (R :
   turn-room = R .room
 
 -- the act, its row and what the run then comes to
-pub turn-acts : (pr : Protocol) (p : Plan) (s : State) (k : ℕ) (rows : List ℕ) (e : Event) (r : Stepped) (v : Verdict) (rows₂ : List ℕ) (event : Event) (ran : Ran)
+pub turn-acts : (pr : Protocol) (p : Plan) (s : State) (k : ℕ) (rows : List ℕ) (e : Event) (r : Stepped) (v : Verdict) (rows₂ : List ℕ)
+    (event : Event) (ran : Ran)
     → e ≡ event → r ≡ actOf pr p s e → rows₂ ≡ rowsAfter (r .answer) (r .state .head) k rows → v ≡ stoppedAt (r .answer) k
     → ran ≡ record { verdict = v; state = r .state; rows = rows₂ } → ran ≡ turnedAs (actOf pr p s event) k rows
 unfolding turnedAs

@@ -113,7 +113,8 @@ pub fn run_from(
     rows: &mut [u8],
 ) -> Replayed
     requires { ⌜ RunReady protocol p start n (now rows) ⌝ }
-    ensures { λ r. ⌜ (ranAs r (now (rows .exit)) ≡ runFrom protocol p (from (eventOn first (now (body .entry))) 0 n) 0 start (now (rows .entry))) × (r .plan ≡ p) ⌝ }
+    ensures { λ r. ⌜ (ranAs r (now (rows .exit)) ≡ runFrom protocol p (from (eventOn first (now (body .entry))) 0 n) 0 start (now (rows .entry)))
+        × (r .plan ≡ p) ⌝ }
 {
     let base = p.base;
     let ceiling = p.ceiling;
@@ -173,7 +174,8 @@ pub fn run_from(
 // The first n events of a body, from a fresh start.
 pub fn run(protocol: Protocol, p: Plan, body: &[u8], n: usize, rows: &mut [u8]) -> Replayed
     requires { ⌜ RunReady protocol p freshOf n (now rows) ⌝ }
-    ensures { λ r. ⌜ (ranAs r (now (rows .exit)) ≡ runFrom protocol p (from (eventIn (now (body .entry))) 0 n) 0 freshOf (now (rows .entry))) × (r .plan ≡ p) ⌝ }
+    ensures { λ r. ⌜ (ranAs r (now (rows .exit)) ≡ runFrom protocol p (from (eventIn (now (body .entry))) 0 n) 0 freshOf (now (rows .entry)))
+        × (r .plan ≡ p) ⌝ }
 {
     let start = fresh();
     let first = first_of(body);

@@ -4,7 +4,6 @@ use mathlib.Core.Path.{_≡_, refl, sym, _∙_, ap}
 use mathlib.Core.Bool.{Bool, true, false, not}
 use Prim.Native.Nat.{ℕ, zero, suc, _≤_, _<_}
 use native.Mathlib.Omega.{arith}
-use lib.Dec.{eqb}
 use borrow.Author.Tests.{eqb-true, not-true, not-false}
 use Rattle.rules.specs.Numbers.Capacity.{maxTasks, maxLocks}
 use Rattle.rules.specs.Numbers.Place.{at, every, greatest}
@@ -95,7 +94,8 @@ module _ (pr : Protocol) (p : Plan) (s : State) where
     head-same : headHere ≡ headTest pr p f w
     unfolding headBy headTest rankBy rankOf priorityOf Each
     head-same = same-test headHere (headTest pr p f w)
-        (λ e. let (r, (a, (b, (c, (u, (n, _)))))) = all-so _ e in so-all _ (a, (b, (c, (r, (u, (sym (ap (secondTest pr (w .next) (w .user)) next-same) ∙ n, tt)))))))
+        (λ e. let (r, (a, (b, (c, (u, (n, _)))))) = all-so _ e in
+        so-all _ (a, (b, (c, (r, (u, (sym (ap (secondTest pr (w .next) (w .user)) next-same) ∙ n, tt)))))))
         (λ e. let (a, (b, (c, (r, (u, (n, _)))))) = all-so _ e in so-all _ (r, (a, (b, (c, (u, (ap (secondTest pr (w .next) (w .user)) next-same ∙ n, tt)))))))
 
   abbrev parts : Bool

@@ -79,7 +79,7 @@ spareBy n m released kept delay depth takes saved units owner =
 
 -- ---- together
 
-unfoldable pub partsBy : Protocol → Head → ℕ → ℕ → List ℕ → List ℕ → List ℕ → List ℕ → List ℕ → List ℕ → List ℕ → List ℕ → List ℕ → List ℕ → List ℕ → List ℕ → Bool
+unfoldable pub partsBy : Protocol → Head → ℕ → ℕ → (base ceiling limit uses released kept delay depth takes saved units owner : List ℕ) → Bool
 partsBy pr h n m base ceiling limit uses released kept delay depth takes saved units owner =
     allTrue
     (every (taskBy (h .accepted) (h .running) m base ceiling uses released kept delay depth takes saved owner) n

@@ -22,7 +22,7 @@ use Rattle.rules.specs.Schedulers.Lazy.{afterAcquire, restored, afterUnl
 use Rattle.rules.specs.Soundness.Sound.{keptOf, SoundSecond}
 use Rattle.rules.specs.Replays.Step.{afterOf, answered, actOf, stepOf}
 use Rattle.rules.specs.Numbers.Answer.{passes}
-use Rattle.rules.specs.Demands.History.{eventAt, eagerAt, lazyAt, runnerAt, acceptedAt, outranked, callRule, callsDue, kernelAt, callsAt, lazyCount}
+use Rattle.rules.specs.Demands.History.{eventAt, eagerAt, lazyAt, runnerAt, acceptedAt, outranked, callRule, callsDue, kernelAt, lazyCount}
 use Rattle.rules.specs.Demands.Demand2.{Outranked}
 use Rattle.rules.specs.declared.plan.Plan.{Plan}
 use Rattle.rules.specs.declared.protocol.Protocol.{Protocol}
@@ -139,7 +139,8 @@ module _ {pr : Protocol} {p : Plan} {s : State} (F : Follows pr p s) (word : ℕ
   due Finish z = refl
   due Tick z = refl
 
-lazy-after : (pr : Protocol) (p : Plan) (released : List ℕ) (w : Words) (e : Event) → wordsAfter pr p released w e .lazy ≡ w .lazy + (if lazyCall w e then 1 else 0)
+lazy-after : (pr : Protocol) (p : Plan) (released : List ℕ) (w : Words) (e : Event)
+    → wordsAfter pr p released w e .lazy ≡ w .lazy + (if lazyCall w e then 1 else 0)
 unfolding wordsAfter afterRelease stays afterAcquire afterUnlock restored switched runsOn lazyCall if_then_else_
 lazy-after pr p released w (Release t) = by-test (ltb (w .user) (at (p .base) t)) (λ e. rw e (omega arith)) (λ e. rw e (omega arith))
 lazy-after pr p released w (Acquire l) = omega arith

@@ -19,7 +19,7 @@ use Rattle.rules.specs.Schedulers.Lazy.{wordsOf, callsFor, backOf, lazyC
 use Rattle.rules.specs.Soundness.Sound.{keptOf, savedOf, SoundSecond}
 use Rattle.rules.specs.Replays.Step.{afterOf, answered, actOf, stepOf}
 use Rattle.rules.specs.Numbers.Answer.{passes, testedNumber, answerNumber, answerCalls}
-use Rattle.rules.specs.Demands.History.{eventAt, eagerAt, lazyAt, runnerAt, acceptedAt, restoredOf, kernelAt}
+use Rattle.rules.specs.Demands.History.{eventAt, eagerAt, lazyAt, runnerAt, acceptedAt, restoredOf}
 use Rattle.rules.specs.Demands.Demand2.{Covers, NextWord, Outranked, OwnWord, OwnCall, Demand2}
 use Rattle.rules.specs.declared.plan.Plan.{Plan}
 use Rattle.rules.specs.declared.protocol.Protocol.{Protocol}
@@ -126,7 +126,8 @@ module _ {pr : Protocol} {p : Plan} {s : State} (F : Follows pr p s) where
       )
 
   -- by either protocol: where the second word is strictly above the restored priority, so always where another released task is
-  unlock-word : (l : ℕ) → passes (eagerTest p f (Unlock l)) ≡ true → (answerCalls (stepOf pr p s (Unlock l) .answer) ≡ 1) ↔ (restoredOf p f l < s .head .next .0)
+  unlock-word : (l : ℕ) → passes (eagerTest p f (Unlock l)) ≡ true
+      → (answerCalls (stepOf pr p s (Unlock l) .answer) ≡ 1) ↔ (restoredOf p f l < s .head .next .0)
   unlock-word l a = unlock-by l (restoredOf p f l < s .head .next .0) a (λ z.
       let b : backOf (wordsOf s) ≡ restoredOf p f l = rw (← F .running) (back-is F l z) in
       (λ e. omega (arith, call-below (backOf (wordsOf s)) (s .head .next .0) e), λ q. below-call (backOf (wordsOf s)) (s .head .next .0) (omega arith)))
@@ -161,7 +162,8 @@ module _ {p : Plan} {s : State} (F : Follows Second p s) where
 
 module _ {p : Plan} (O : Obeys p) (es : List Event) (k : ℕ) where
   -- the event at place k is accepted by the lazy scheduler's figures
-  accepted-here : (pr : Protocol) (l : ℕ) → eventAt es k ≡ Unlock l → acceptedAt p es k ≡ true → passes (eagerTest p (figuresOf (lazyAt pr p es k)) (Unlock l)) ≡ true
+  accepted-here : (pr : Protocol) (l : ℕ) → eventAt es k ≡ Unlock l → acceptedAt p es k ≡ true
+      → passes (eagerTest p (figuresOf (lazyAt pr p es k)) (Unlock l)) ≡ true
   unfolding acceptedAt
   accepted-here pr l q a = rw (same-figures pr O es k) (subst (λ e. passes (eagerTest p (eagerAt p es k) e) ≡ true) q a)
 

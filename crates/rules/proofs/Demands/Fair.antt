@@ -115,7 +115,8 @@ module _ {p : Plan} (O : Obeys p) (es : List Event) where
 
 module _ {p : Plan} {s₁ s₂ : State} (F₁ : Follows First p s₁) (F₂ : Follows Second p s₂) (same : figuresOf s₁ ≡ figuresOf s₂) where
   -- where the second calls, so does the first
-  between-one : (e : Event) → refusalOf p (figuresOf s₁) (s₁ .head .running) e ≡ Tested.Passed → refusalOf p (figuresOf s₂) (s₂ .head .running) e ≡ Tested.Passed
+  between-one : (e : Event) → refusalOf p (figuresOf s₁) (s₁ .head .running) e ≡ Tested.Passed
+      → refusalOf p (figuresOf s₂) (s₂ .head .running) e ≡ Tested.Passed
       → (if lazyCall (wordsOf s₂) e then 1 else 0) ≤ (if lazyCall (wordsOf s₁) e then 1 else 0)
   unfolding lazyCall if_then_else_
   between-one (Release t) y z = omega arith

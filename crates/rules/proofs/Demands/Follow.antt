@@ -13,7 +13,7 @@ use borrow.Author.Tests.{ltb-false}
 use Rattle.rules.specs.Numbers.Capacity.{maxTasks, maxAccepted, nobody}
 use Rattle.rules.specs.Numbers.Place.{at}
 use Rattle.rules.specs.Books.Plan.{Obeys}
-use Rattle.rules.specs.Schedulers.Figures.{Figures, figuresOf, freshFigures, priorityOf, rankOf}
+use Rattle.rules.specs.Schedulers.Figures.{Figures, figuresOf, freshFigures, rankOf}
 use Rattle.rules.specs.Schedulers.Elect.{elected}
 use Rattle.rules.specs.Schedulers.EventRefusals.{refusalOf}
 use Rattle.rules.specs.Schedulers.FiguresAfter.{figuresAfter}
@@ -21,7 +21,7 @@ use Rattle.rules.specs.Schedulers.Eager.{runningOf, settle, eagerTest, e
 use Rattle.rules.specs.Schedulers.Protocol.{secondWord}
 use Rattle.rules.specs.Schedulers.Lazy.{Words, wordsOf, callsFor, bestKept, backOf, runsOn, switched, stays, afterRelease}
 use Rattle.rules.specs.Schedulers.Lazy.{afterAcquire, restored, afterUnlock, wordsAfter, enters, lazyCall}
-use Rattle.rules.specs.Soundness.Sound.{keptOf, SoundFigures, SoundWords, SoundAndSized}
+use Rattle.rules.specs.Soundness.Sound.{SoundFigures, SoundWords, SoundAndSized}
 use Rattle.rules.specs.Replays.Step.{afterOf, answered, actOf, stepOf}
 use Rattle.rules.specs.Demands.History.{eventAt, eagerAt, lazyAt, runnerAt}
 use Rattle.rules.specs.Demands.Demand2.{Covers}
@@ -327,5 +327,6 @@ module _ (pr : Protocol) {p : Plan} (O : Obeys p) (es : List Event) where
   same-running k = follows k .running ∙ ap (runningOf p) (same-figures k)
 
   -- both schedulers test the event at place k alike
-  pub same-tests : (k : ℕ) → eagerTest p (eagerAt p es k) (eventAt es k) ≡ refusalOf p (figuresOf (lazyAt pr p es k)) (lazyAt pr p es k .head .running) (eventAt es k)
+  pub same-tests : (k : ℕ) → eagerTest p (eagerAt p es k) (eventAt es k)
+      ≡ refusalOf p (figuresOf (lazyAt pr p es k)) (lazyAt pr p es k .head .running) (eventAt es k)
   same-tests k = ap (λ f. eagerTest p f (eventAt es k)) (sym (same-figures k)) ∙ same-test (follows k) (eventAt es k)

@@ -96,7 +96,8 @@ stops : (pr : Protocol) (p : Plan) (es : List Event) (rows : List ℕ) (ran : Ra
 unfolding testedNumber
 stops pr p es rows ran a R h q = omega (arith, R .passed .0 (R .number h ∙ ap testedNumber (passedAt p es a q)))
 
-module _ {p : Plan} (O : Obeys p) (es : List Event) (rows : List ℕ) (x y : Ran) (a b : ℕ) (X : RanUpTo First p es rows x a) (Y : RanUpTo Second p es rows y b) where
+module _ {p : Plan} (O : Obeys p) (es : List Event) (rows : List ℕ) (x y : Ran) (a b : ℕ)
+    (X : RanUpTo First p es rows x a) (Y : RanUpTo Second p es rows y b) where
   -- so both stop at the same place
   same-stop : a ≡ b
   same-stop = ⊎-elim (λ (h : a < b). absurd (stops First p es rows x a X (omega (arith, Y .within)) (Y .accepted a h)))
@@ -134,7 +135,8 @@ module _ {p : Plan} (O : Obeys p) (es : List Event) (rows : List ℕ) (x y : Ran
   }
 
 -- a book that is refused has the same replay by both
-refused-alike : (v : Verdict) (p : Plan) (es : List Event) (rows : List ℕ) → 0 < verdictNumber v → Compared (replayAs First v p es rows) (replayAs Second v p es rows)
+refused-alike : (v : Verdict) (p : Plan) (es : List Event) (rows : List ℕ) → 0 < verdictNumber v
+    → Compared (replayAs First v p es rows) (replayAs Second v p es rows)
 unfolding replayAs verdictNumber
 refused-alike Verdict.Passed p es rows h = absurd (omega arith)
 refused-alike (Verdict.Refused why place) p es rows h =

@@ -12,7 +12,6 @@ use Rattle.rules.specs.Numbers.Place.{at}
 use Rattle.rules.specs.Books.Plan.{Obeys}
 use Rattle.rules.specs.Schedulers.State.{freshOf}
 use Rattle.rules.specs.Schedulers.Figures.{Figures, figuresOf, holds}
-use Rattle.rules.specs.Schedulers.EventRefusals.{refusalOf}
 use Rattle.rules.specs.Schedulers.Eager.{eagerTest}
 use Rattle.rules.specs.Schedulers.Lazy.{wordsOf, lazyCall}
 use Rattle.rules.specs.Replays.Step.{stepOf}
@@ -55,7 +54,8 @@ record Ends (pr : Protocol) (p : Plan) (es : List Event) (rows : List ℕ) (ran 
   soFar : SoFar pr p es rows a (ran .rows)
   state : ran .state ≡ lazyAt pr p es a
   passed : a ≡ length es → ran .verdict ≡ Verdict.Passed
-  refused : a < length es → (why : Refusal) × (ran .verdict ≡ Verdict.Refused why a) × (stepOf pr p (lazyAt pr p es a) (eventAt es a) .answer ≡ Answer.Refused why)
+  refused : a < length es
+      → (why : Refusal) × (ran .verdict ≡ Verdict.Refused why a) × (stepOf pr p (lazyAt pr p es a) (eventAt es a) .answer ≡ Answer.Refused why)
 
 module _ (pr : Protocol) {p : Plan} (O : Obeys p) (es : List Event) (rows : List ℕ) (room : length es * 4 ≤ length rows) where
   accepts-at : (k : ℕ) → acceptedAt p es k ≡ true → (call : Bool) × (stepOf pr p (lazyAt pr p es k) (eventAt es k) .answer ≡ Answer.Accepted call)

@@ -125,7 +125,8 @@ pub record SmallRow (task user next call : ℕ) : Type 0 where
   pub others : next < 256
   pub once : call ≤ 1
 
-pub row-small : {pr : Protocol} {p : Plan} → Obeys p → (es : List Event) (k task user next call : ℕ) → RowAt pr p es k task user next call → SmallRow task user next call
+pub row-small : {pr : Protocol} {p : Plan} → Obeys p → (es : List Event) (k task user next call : ℕ)
+    → RowAt pr p es k task user next call → SmallRow task user next call
 row-small {p = p} O es k task user next call R =
     let f : Figures = eagerAt p es (suc k) in
     record {

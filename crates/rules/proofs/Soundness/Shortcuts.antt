@@ -55,7 +55,8 @@ module _ (pr : Protocol) (n t b r u : ℕ) (released kept : List ℕ) (few : n �
 
   cleared : set arrived t 0 ≡ set kept r u
   unfolding arrived
-  cleared = ext-getD 0 (set arrived t 0) (set kept r u) (length-set arrived t 0 ∙ length-set (set kept t b) r u ∙ length-set kept t b ∙ sym (length-set kept r u))
+  cleared = ext-getD 0 (set arrived t 0) (set kept r u)
+      (length-set arrived t 0 ∙ length-set (set kept t b) r u ∙ length-set kept t b ∙ sym (length-set kept r u))
       (λ x _. at-or (λ x. at (set arrived t 0) x ≡ at (set kept r u) x) t
       (getD-set-same arrived t 0 0 (omega (arith, length-set (set kept t b) r u, length-set kept t b)) ∙ sym (getD-set-other kept r t u 0 other ∙ none))
       (λ x d. getD-set-other arrived t x 0 0 d ∙ others x d) x)

@@ -40,7 +40,8 @@ use Rattle.rules.proofs.Soundness.SoundTest.{unsaved-by, sound-is}
 set-length : (xs : List ℕ) (i v n : ℕ) → length xs ≡ n → length (set xs i v) ≡ n
 set-length xs i v n e = length-set xs i v ∙ e
 
-switched-sized : (pr : Protocol) (n : ℕ) (released kept : List ℕ) (w : Words) → WordsSized w → length kept ≡ maxTasks → WordsSized (switched pr n released kept w)
+switched-sized : (pr : Protocol) (n : ℕ) (released kept : List ℕ) (w : Words) → WordsSized w → length kept ≡ maxTasks
+    → WordsSized (switched pr n released kept w)
 unfolding switched runsOn
 switched-sized pr n released kept w Y e =
     record { kept = set-length kept (elected (at released) (at kept) n) 0 maxTasks e; saved = Y .saved; owner = Y .owner }

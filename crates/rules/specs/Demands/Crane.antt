@@ -157,7 +157,8 @@ cases =
     ((0 ∷ 1 ∷ 0 ∷ 0 ∷ 1 ∷ 0 ∷ []) ∷ (0 ∷ 5 ∷ 0 ∷ 0 ∷ 1 ∷ 0 ∷ []) ∷ (0 ∷ 5 ∷ 3 ∷ 0 ∷ 5 ∷ 0 ∷ []) ∷ (0 ∷ 5 ∷ 3 ∷ 0 ∷ 5 ∷ 0 ∷ [])
     ∷ (1 ∷ 3 ∷ 1 ∷ 1 ∷ 3 ∷ 1 ∷ []) ∷ (0 ∷ 1 ∷ 0 ∷ 0 ∷ 1 ∷ 0 ∷ []) ∷ (255 ∷ 0 ∷ 0 ∷ 0 ∷ 0 ∷ 0 ∷ []) ∷ [])
     (255 ∷ 0 ∷ 0 ∷ 1 ∷ 0 ∷ 1 ∷ []) (2 ∷ 0 ∷ 2 ∷ 0 ∷ 0 ∷ [])
-    -- P2: the inner unlock restores 3, as great as the next word, and does not call; the outer one does, and task 1 runs
+    -- P2: the inner unlock restores 3, as great as the next word, and does not call; the outer one does, and task 1 runs. The kernel word is 5 since the
+    -- release, so by the first protocol the inner one calls too, and task 0 runs again
     ∷ run (Release 0 ∷ Acquire 1 ∷ Acquire 0 ∷ Release 1 ∷ Unlock 0 ∷ Unlock 1 ∷ [])
     ((0 ∷ 1 ∷ 0 ∷ 0 ∷ 1 ∷ 0 ∷ []) ∷ (0 ∷ 3 ∷ 0 ∷ 0 ∷ 1 ∷ 0 ∷ []) ∷ (0 ∷ 5 ∷ 0 ∷ 0 ∷ 1 ∷ 0 ∷ []) ∷ (0 ∷ 5 ∷ 3 ∷ 0 ∷ 5 ∷ 0 ∷ [])
     ∷ (0 ∷ 3 ∷ 3 ∷ 0 ∷ 3 ∷ 1 ∷ []) ∷ (1 ∷ 3 ∷ 1 ∷ 1 ∷ 3 ∷ 1 ∷ []) ∷ [])
@@ -201,7 +202,7 @@ cases =
     ((0 ∷ 1 ∷ 0 ∷ 0 ∷ 1 ∷ 0 ∷ []) ∷ (0 ∷ 3 ∷ 0 ∷ 0 ∷ 1 ∷ 0 ∷ []) ∷ (0 ∷ 3 ∷ 3 ∷ 0 ∷ 3 ∷ 0 ∷ []) ∷ (0 ∷ 3 ∷ 3 ∷ 0 ∷ 3 ∷ 0 ∷ []) ∷ (21 ∷ []) ∷ [])
     (0 ∷ 3 ∷ 3 ∷ 0 ∷ 3 ∷ 0 ∷ []) (1 ∷ 0 ∷ 10 ∷ 0 ∷ 0 ∷ [])
     -- RULES 18.6: of six acquires and unlocks two change a priority, and are eager calls. Lock 1 inside lock 0 changes none, nor does it for task 1, whose
-    -- base is its ceiling; and a tick is no call
+    -- base is its ceiling; and a tick is no call. By the first protocol it sets the kernel word inside the section, so that the unlock calls
     ∷ run (Release 0 ∷ Acquire 0 ∷ Acquire 1 ∷ Unlock 1 ∷ Tick ∷ Unlock 0 ∷ Finish ∷ Release 1 ∷ Acquire 1 ∷ Unlock 1 ∷ Finish ∷ [])
     ((0 ∷ 1 ∷ 0 ∷ 0 ∷ 1 ∷ 0 ∷ []) ∷ (0 ∷ 5 ∷ 0 ∷ 0 ∷ 1 ∷ 0 ∷ []) ∷ (0 ∷ 5 ∷ 0 ∷ 0 ∷ 1 ∷ 0 ∷ []) ∷ (0 ∷ 5 ∷ 0 ∷ 0 ∷ 1 ∷ 0 ∷ [])
     ∷ (0 ∷ 5 ∷ 0 ∷ 0 ∷ 5 ∷ 0 ∷ []) ∷ (0 ∷ 1 ∷ 0 ∷ 0 ∷ 1 ∷ 1 ∷ []) ∷ (255 ∷ 0 ∷ 0 ∷ 0 ∷ 0 ∷ 0 ∷ []) ∷ (1 ∷ 3 ∷ 0 ∷ 0 ∷ 3 ∷ 0 ∷ [])

@@ -37,8 +37,8 @@ use Rattle.rules.specs.declared.answer.Checked.{Checked}
 abbrev pub stepTests : Protocol → Plan → State → Event → List (Bool × Refusal)
 stepTests pr p s e = (not (soundTest pr p s), Unsound) ∷ allTests p (figuresOf s) (s .head .running) e
 
--- what is asked of the answer r to event e in state s of plan p, all three of any kind, by either protocol. Refusals are numbered from 1; 0 says that nothing is
--- refused
+-- what is asked of the answer r to event e in state s of plan p, all three of any kind, by either protocol. Refusals are numbered from 1; 0 says that nothing
+-- is refused
 pub record StepRefuses (pr : Protocol) (p : Plan) (s : State) (e : Event) (r : Stepped) : Type 0 where
   -- a number is given exactly where its test holds and none before it does, and 0 exactly where no test holds
   pub exactly : (why : Refusal)

@@ -59,7 +59,8 @@ pub record RanUpTo (pr : Protocol) (p : Plan) (es : List Event) (rows : List ℕ
   pub no10 : verdictNumber (ran .verdict) ≢ 10
   pub no17 : verdictNumber (ran .verdict) ≢ 17
   -- each accepted event has its row, and all other row bytes stay
-  pub written : (k : ℕ) → k < a → RowAt pr p es k (at (ran .rows) (k * 4)) (at (ran .rows) (k * 4 + 1)) (at (ran .rows) (k * 4 + 2)) (at (ran .rows) (k * 4 + 3))
+  pub written : (k : ℕ) → k < a
+      → RowAt pr p es k (at (ran .rows) (k * 4)) (at (ran .rows) (k * 4 + 1)) (at (ran .rows) (k * 4 + 2)) (at (ran .rows) (k * 4 + 3))
   pub stay : (i : ℕ) → a * 4 ≤ i → at (ran .rows) i ≡ at rows i
   pub size : length (ran .rows) ≡ length rows
   -- no lock has two holders; both call counts are the history's, and the lazy one is no greater than the eager one

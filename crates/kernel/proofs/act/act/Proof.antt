@@ -11,7 +11,8 @@ act-spec =
     (tie.spec
     (λ c κs. search needs) (λ c. (search exhausted, search needs)) (λ c. search needs) (λ c κs. (search release-ready, search needs)) (λ c. search needs)
     (λ c κs. search acquire-ready) (λ c. search needs) (λ c κs. (search unlock-ready, search needs)) (λ c. search needs)
-    (λ c κs. (search best-ready, search needs)) (λ c κs. search work-ready) (λ c. search needs) (λ c κs. (search finish-ready, search needs)) (λ c. search needs)
+    (λ c κs. (search best-ready, search needs)) (λ c κs. search work-ready) (λ c. search needs) (λ c κs. (search finish-ready, search needs))
+    (λ c. search needs)
     (λ c κs. (search best-ready, search needs)) (λ c κs. search needs) (λ c κs. search needs)
     (λ c. (search release-acts, search needs)) (λ c. (search acquire-acts, search needs)) (λ c. (search unlock-acts, search needs))
     (λ c. (search work-acts, search (needs, c .before .before .before .before .before .before .before .before)))

@@ -8,4 +8,5 @@ pub newcomer-runs-spec : {M : Type 1} → statement M
 newcomer-runs-spec =
     tie.close
     (tie.spec
-    (λ c κs. search needs) (λ c κs. search needs) (λ c κs. search needs) (λ c κs. search needs) (λ c κs. search needs) (λ c. (search newcomer-is, search needs)))
+    (λ c κs. search needs) (λ c κs. search needs) (λ c κs. search needs) (λ c κs. search needs) (λ c κs. search needs)
+    (λ c. (search newcomer-is, search needs)))

@@ -172,7 +172,7 @@ int main(void) {
     fill();
     length = write_book(recorder_write).length;
     plan = recorder_load_table(tasks, COUNT(tasks), locks, COUNT(locks), uses, COUNT(uses)).plan;
-    for (protocol = 1; protocol <= 2; protocol++) {
+    for (protocol = RECORDER_FIRST; protocol <= RECORDER_SECOND; protocol++) {
         struct recorder_replay whole = recorder_replay(protocol, book, length, rows, sizeof rows);
         if (length != RECORDER_MAX_BOOK || plan.tasks != RECORDER_MAX_TASKS ||
             whole.state.accepted != RECORDER_MAX_EVENTS) {
@@ -187,7 +187,7 @@ int main(void) {
         if (k == 1) book[length - 4] = 7;
         if (k == 2) length = 31;
         check = most(check, call_check, (void (*)(void))recorder_check);
-        for (protocol = 1; protocol <= 2; protocol++) {
+        for (protocol = RECORDER_FIRST; protocol <= RECORDER_SECOND; protocol++) {
             replay = most(replay, call_replay, (void (*)(void))recorder_replay);
         }
         for (task = 0; task <= RECORDER_MAX_TASKS; task++) {
@@ -201,7 +201,7 @@ int main(void) {
     /* the largest book's events until nobody runs again, each as a step; and from each state one event of every kind,
      * most of them refused, and one that is none */
     size_t step = 0;
-    for (protocol = 1; protocol <= 2; protocol++) {
+    for (protocol = RECORDER_FIRST; protocol <= RECORDER_SECOND; protocol++) {
         size_t k = 0;
         state = recorder_fresh();
         do {
@@ -224,7 +224,7 @@ int main(void) {
     /* what no scheduler can be in: every task has more locks open than a row has bytes */
     memset(&state, 255, sizeof state);
     size_t any_step = step;
-    for (protocol = 1; protocol <= 2; protocol++) {
+    for (protocol = RECORDER_FIRST; protocol <= RECORDER_SECOND; protocol++) {
         any_step = most(any_step, call_step, (void (*)(void))recorder_step);
     }
 

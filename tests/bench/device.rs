@@ -1,7 +1,7 @@
 //! The proved library, as include/recorder.h declares it; and a plan and a state
 //! of ordinary Rust as it wants them.
 
-use crate::ordinary::{self, Record, MOST_LOCKS, MOST_OPEN, MOST_TASKS};
+use crate::ordinary::{self, Protocol, Record, MOST_LOCKS, MOST_OPEN, MOST_TASKS};
 use crate::ordinary_write::Records;
 
 #[repr(C)]
@@ -81,8 +81,23 @@ extern "C" {
         room: usize,
     ) -> Write;
     fn recorder_fresh() -> State;
-    fn recorder_step(plan: Plan, state: State, kind: u8, id: u8, amount: u16) -> Step;
-    fn recorder_replay(book: *const u8, length: usize, rows: *mut u8, room: usize) -> Replay;
+    fn recorder_step(protocol: u8, plan: Plan, state: State, kind: u8, id: u8, amount: u16)
+        -> Step;
+    fn recorder_replay(
+        protocol: u8,
+        book: *const u8,
+        length: usize,
+        rows: *mut u8,
+        room: usize,
+    ) -> Replay;
+}
+
+/// The number by which the library knows a protocol.
+fn number(protocol: Protocol) -> u8 {
+    match protocol {
+        Protocol::Second => 2,
+        Protocol::First => 1,
+    }
 }
 
 pub fn check(book: &[u8], room: usize) -> Check {
@@ -90,9 +105,18 @@ pub fn check(book: &[u8], room: usize) -> Check {
     unsafe { recorder_check(book.as_ptr(), book.len(), room) }
 }
 
-pub fn replay(book: &[u8], rows: &mut [u8]) -> Replay {
+pub fn replay(protocol: Protocol, book: &[u8], rows: &mut [u8]) -> Replay {
+    let (length, room) = (book.len(), rows.len());
     // It reads the book, and writes no byte outside of the rows.
-    unsafe { recorder_replay(book.as_ptr(), book.len(), rows.as_mut_ptr(), rows.len()) }
+    unsafe {
+        recorder_replay(
+            number(protocol),
+            book.as_ptr(),
+            length,
+            rows.as_mut_ptr(),
+            room,
+        )
+    }
 }
 
 pub fn write(records: &Records, buffer: &mut [u8]) -> Write {
@@ -125,10 +149,11 @@ pub fn fresh() -> State {
 }
 
 /// Here the plan and the state are copied, since the library takes them by value.
-pub fn step(plan: &Plan, state: &State, record: Record) -> Step {
+pub fn step(protocol: Protocol, plan: &Plan, state: &State, record: Record) -> Step {
     let [kind, id, low, high] = record;
+    let amount = u16::from_le_bytes([low, high]);
     // It is handed no address.
-    unsafe { recorder_step(*plan, *state, kind, id, u16::from_le_bytes([low, high])) }
+    unsafe { recorder_step(number(protocol), *plan, *state, kind, id, amount) }
 }
 
 impl Plan {

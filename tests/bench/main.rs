@@ -1,8 +1,9 @@
 //! The proved replay against the same one in ordinary Rust, as it comes and with
-//! the proved one's tree and shortcuts, over books of full length: all must give
-//! the same rows and figures; then each is timed. Then how the time grows, by
-//! books of the same kind with fewer tasks. Then the books written from their
-//! records, and single steps, from states of the books and from full states.
+//! the proved one's tree and shortcuts, over books of full length and by both
+//! protocols: all must give the same rows and figures; then each is timed. Then
+//! how the time grows, by books of the same kind with fewer tasks. Then the books
+//! written from their records, and single steps, from states of the books and
+//! from full states.
 //!
 //!     bench [--rounds N] BOOK.. [--growth BOOK..]
 //!
@@ -18,7 +19,7 @@ mod scenes;
 mod steps;
 mod writes;
 
-use ordinary::{MOST_TASKS, ROW_SPACE};
+use ordinary::{Protocol, MOST_TASKS, ROW_SPACE};
 use scenes::Scene;
 use std::hint::black_box;
 use std::process::ExitCode;
@@ -61,28 +62,30 @@ fn main() -> ExitCode {
     ExitCode::from(u8::from(!(replays_agree && writes_agree && steps_agree)))
 }
 
-fn head(what: &str, of: &str, rounds: usize) {
+fn head(what: &str, of: &str, by: &str, rounds: usize) {
     println!("{what}: the median of {rounds} rounds (the least); the ratio of the medians");
     println!(
-        "{of:<12} {:<7} {:>16} {:>16} {:>6}",
+        "{of:<12} {by:<8} {:<7} {:>16} {:>16} {:>6}",
         "", "proved", "ordinary", "ratio"
     );
 }
 
-/// Whether all agree on the replay of every book; its parts are timed as well, or
-/// not.
+/// Whether all agree on the replay of every book by both protocols; its parts are
+/// timed as well, or not.
 fn replays(books: &[(String, Vec<u8>)], rounds: usize, parts: bool) -> bool {
     println!("ns an event: the median of {rounds} rounds (the least); the ratio of the medians");
     println!(
-        "{:<12} {:<7} {:>16} {:>16} {:>6} {:>16} {:>6}",
-        "book", "", "proved", "ordinary", "ratio", "with the tree", "ratio"
+        "{:<12} {:<8} {:<7} {:>16} {:>16} {:>6} {:>16} {:>6}",
+        "book", "protocol", "", "proved", "ordinary", "ratio", "with the tree", "ratio"
     );
     let mut agree = true;
     for (name, book) in books {
-        match difference(book) {
+        let differing = |protocol| difference(protocol, book).map(|what| (protocol, what));
+        match Protocol::BOTH.into_iter().find_map(differing) {
             None => measure(name, book, rounds, parts),
-            Some(what) => {
-                println!("{name}: they differ in {what}");
+            Some((protocol, what)) => {
+                let by = protocol.name();
+                println!("{name}: by the {by} protocol they differ in {what}");
                 agree = false;
             }
         }
@@ -93,7 +96,7 @@ fn replays(books: &[(String, Vec<u8>)], rounds: usize, parts: bool) -> bool {
 
 /// Whether both agree on every book that is written.
 fn writes(books: &[(String, Vec<u8>)], rounds: usize) -> bool {
-    head("ns an event", "book", rounds);
+    head("ns an event", "book", "", rounds);
     let mut agree = true;
     for (name, book) in books {
         match writes::compare(book) {
@@ -107,33 +110,43 @@ fn writes(books: &[(String, Vec<u8>)], rounds: usize) -> bool {
     agree
 }
 
-/// Whether both agree on every single step: from the states of the books, and
-/// from full states of a quarter, a half and all of the tasks that can be. These
-/// three have the same locks open, so they say how a step grows with the tasks.
+/// Whether both agree on every single step by both protocols: from the states of
+/// the books, and from full states of a quarter, a half and all of the tasks that
+/// can be. These three have the same locks open, so they say how a step grows with
+/// the tasks.
 fn steps(books: &[(String, Vec<u8>)], rounds: usize) -> bool {
     println!();
-    head("ns a step", "states", rounds);
+    head("ns a step", "states", "protocol", rounds);
     let mut agree = true;
-    let mut tally = steps::Tally::default();
-    let mut try_scene = |scene: Scene| match steps::compare(&scene, &mut tally) {
-        Ok(()) => steps::measure(&scene, rounds),
-        Err(what) => {
-            println!("{}: the two differ in {what}", scene.name);
-            agree = false;
+    let mut tallies = Protocol::BOTH.map(steps::Tally::new);
+    let mut try_scene = |scene: &dyn Fn(Protocol) -> Scene| {
+        for tally in &mut tallies {
+            let scene = scene(tally.protocol);
+            match steps::compare(&scene, tally) {
+                Ok(()) => steps::measure(&scene, rounds),
+                Err(what) => {
+                    let (name, by) = (&scene.name, scene.protocol.name());
+                    println!("{name}: by the {by} protocol the two differ in {what}");
+                    agree = false;
+                }
+            }
         }
     };
     for (name, book) in books {
         if let Ok(checked) = ordinary::check(book, ROW_SPACE) {
-            try_scene(scenes::of_book(name, &checked));
+            try_scene(&|protocol| scenes::of_book(protocol, name, &checked));
         }
     }
     for tasks in [MOST_TASKS / 4, MOST_TASKS / 2, MOST_TASKS] {
-        try_scene(scenes::full(tasks));
+        try_scene(&|protocol| scenes::full(protocol, tasks));
     }
-    println!("{} steps compared", tally.compared());
-    for what in tally.lacks() {
-        println!("never compared: {what}");
-        agree = false;
+    for tally in tallies {
+        let (by, steps) = (tally.protocol.name(), tally.compared());
+        println!("{steps} steps compared by the {by} protocol");
+        for what in tally.lacks() {
+            println!("never compared by it: {what}");
+            agree = false;
+        }
     }
     agree
 }
@@ -146,15 +159,15 @@ fn short(path: &str) -> &str {
         .trim_end_matches(".book")
 }
 
-/// What the replays of a book differ in; and whether the book is accepted, since
-/// the time of a refused one says nothing.
-fn difference(book: &[u8]) -> Option<&'static str> {
+/// What the replays of a book by a protocol differ in; and whether the book is
+/// accepted, since the time of a refused one says nothing.
+fn difference(protocol: Protocol, book: &[u8]) -> Option<&'static str> {
     let mut proved_rows = vec![0xEE; ROW_SPACE];
-    let proved = device::replay(book, &mut proved_rows);
+    let proved = device::replay(protocol, book, &mut proved_rows);
     let check = device::check(book, ROW_SPACE);
     for replay in [ordinary::replay, ordinary_tree::replay] {
         let mut rows = vec![0xEE; ROW_SPACE];
-        let ordinary = replay(book, &mut rows);
+        let ordinary = replay(protocol, book, &mut rows);
         let refused = ordinary.refused;
         let plan = device::Plan::of(&ordinary.plan);
         let tests = [
@@ -184,63 +197,73 @@ fn difference(book: &[u8]) -> Option<&'static str> {
     None
 }
 
-/// Times all, round by round in turn: the whole replay, the check of the book
-/// alone, and by their difference the run of the events.
+/// Times all, round by round in turn: the whole replay by each protocol, the check
+/// of the book alone, and by their difference the run of the events.
 fn measure(name: &str, book: &[u8], rounds: usize, parts: bool) {
     let mut rows = vec![0; ROW_SPACE];
-    let events = device::replay(book, &mut rows).state.accepted;
-    let mut times = [const { Vec::new() }; 5];
+    let events = device::replay(Protocol::Second, book, &mut rows)
+        .state
+        .accepted;
+    let mut replays = [const { [const { Vec::new() }; 3] }; 2];
+    let mut checks = [const { Vec::new() }; 2];
     for _ in 0..rounds {
         let book = black_box(book);
-        times[0].push(time(events, TURNS, || {
-            done(device::replay(book, black_box(&mut rows)))
-        }));
-        times[1].push(time(events, TURNS, || {
-            done(ordinary::replay(book, black_box(&mut rows)))
-        }));
-        times[2].push(time(events, TURNS, || {
-            done(ordinary_tree::replay(book, black_box(&mut rows)))
-        }));
+        for (protocol, times) in Protocol::BOTH.into_iter().zip(&mut replays) {
+            let protocol = black_box(protocol);
+            times[0].push(time(events, TURNS, || {
+                done(device::replay(protocol, book, black_box(&mut rows)))
+            }));
+            times[1].push(time(events, TURNS, || {
+                done(ordinary::replay(protocol, book, black_box(&mut rows)))
+            }));
+            times[2].push(time(events, TURNS, || {
+                done(ordinary_tree::replay(protocol, book, black_box(&mut rows)))
+            }));
+        }
         if parts {
-            times[3].push(time(events, TURNS, || {
+            checks[0].push(time(events, TURNS, || {
                 done(device::check(book, black_box(ROW_SPACE)))
             }));
-            times[4].push(time(events, TURNS, || {
+            checks[1].push(time(events, TURNS, || {
                 done(ordinary::check(book, black_box(ROW_SPACE)))
             }));
         }
     }
-    let [proved, ordinary, tree, proved_check, ordinary_check] = times.map(Figure::of);
-    report_with(name, "replay", proved, ordinary, tree);
+    let [proved_check, ordinary_check] = checks.map(Figure::of);
+    for (protocol, times) in Protocol::BOTH.into_iter().zip(replays) {
+        let [proved, ordinary, tree] = times.map(Figure::of);
+        report_with(name, protocol.name(), "replay", [proved, ordinary, tree]);
+        if parts {
+            let runs = [
+                proved.less(proved_check),
+                ordinary.less(ordinary_check),
+                tree.less(ordinary_check),
+            ];
+            report_with("", "", "run", runs);
+        }
+    }
     if parts {
-        report("", "check", proved_check, ordinary_check);
-        report_with(
-            "",
-            "run",
-            proved.less(proved_check),
-            ordinary.less(ordinary_check),
-            tree.less(ordinary_check),
-        );
+        report("", "", "check", proved_check, ordinary_check);
     }
 }
 
-fn report(name: &str, part: &str, proved: Figure, ordinary: Figure) {
-    println!("{}", line(name, part, proved, ordinary));
+fn report(name: &str, by: &str, part: &str, proved: Figure, ordinary: Figure) {
+    println!("{}", line(name, by, part, proved, ordinary));
 }
 
 /// The same, and the ordinary one with the tree.
-fn report_with(name: &str, part: &str, proved: Figure, ordinary: Figure, tree: Figure) {
+fn report_with(name: &str, by: &str, part: &str, [proved, ordinary, tree]: [Figure; 3]) {
     println!(
         "{} {:>16} {:>6.2}",
-        line(name, part, proved, ordinary),
+        line(name, by, part, proved, ordinary),
         tree.show(),
         proved.median / tree.median
     );
 }
 
-fn line(name: &str, part: &str, proved: Figure, ordinary: Figure) -> String {
+fn line(name: &str, by: &str, part: &str, proved: Figure, ordinary: Figure) -> String {
     format!(
-        "{name:<12} {part:<7} {:>16} {:>16} {:>6.2}",
+        "{name:<12} {by:<8} {part:<7} {:>16} {:>16} {:>6.2}",
         proved.show(),
         ordinary.show(),
         proved.median / ordinary.median

@@ -13,6 +13,26 @@ pub const NOBODY: u8 = 255;
 /// Row bytes for a book of full length.
 pub const ROW_SPACE: usize = 4 * MOST_EVENTS;
 
+/// What an entry to the kernel leaves in the second word.
+#[derive(Clone, Copy, PartialEq)]
+pub enum Protocol {
+    /// The greatest kept priority.
+    Second,
+    /// The user word.
+    First,
+}
+
+impl Protocol {
+    pub const BOTH: [Protocol; 2] = [Protocol::Second, Protocol::First];
+
+    pub fn name(self) -> &'static str {
+        match self {
+            Protocol::Second => "second",
+            Protocol::First => "first",
+        }
+    }
+}
+
 /// The number and place of a refusal.
 #[derive(Clone, Copy)]
 pub struct Refused(pub u8, pub usize);
@@ -167,6 +187,7 @@ pub struct State {
     pub accepted: u32,
     pub running: u8,
     pub user: u8,
+    /// The second word.
     pub next: u8,
     pub lazy: u32,
     pub eager: u32,
@@ -206,17 +227,17 @@ impl State {
 
     /// One event: whether it made a lazy call, or the number that refuses it.
     /// A refused event changes nothing.
-    pub fn act(&mut self, plan: &Plan, record: &[u8]) -> Result<bool, u8> {
+    pub fn act(&mut self, protocol: Protocol, plan: &Plan, record: &[u8]) -> Result<bool, u8> {
         if self.accepted >= MOST_ACCEPTED {
             return Err(11);
         }
         let call = match record[0] {
-            1 => self.release(plan, usize::from(record[1])),
+            1 => self.release(protocol, plan, usize::from(record[1])),
             2 => self.acquire(plan, usize::from(record[1])),
-            3 => self.unlock(plan, usize::from(record[1])),
+            3 => self.unlock(protocol, plan, usize::from(record[1])),
             4 => self.work(plan, u16::from_le_bytes([record[2], record[3]])),
-            5 => self.finish(plan),
-            _ => Ok(false),
+            5 => self.finish(protocol, plan),
+            _ => self.tick(protocol),
         }?;
         self.accepted += 1;
         Ok(call)
@@ -231,7 +252,7 @@ impl State {
         }
     }
 
-    fn release(&mut self, plan: &Plan, task: usize) -> Result<bool, u8> {
+    fn release(&mut self, protocol: Protocol, plan: &Plan, task: usize) -> Result<bool, u8> {
         if task >= plan.tasks {
             return Err(13);
         }
@@ -243,9 +264,12 @@ impl State {
         self.kept[task] = plan.base[task];
         if plan.base[task] > self.user {
             self.leave();
-            self.switch(plan.tasks);
+            self.switch(protocol, plan.tasks);
         } else {
-            self.next = self.next.max(plan.base[task]);
+            self.next = match protocol {
+                Protocol::Second => self.next.max(plan.base[task]),
+                Protocol::First => self.user,
+            };
         }
         Ok(false)
     }
@@ -277,7 +301,7 @@ impl State {
         Ok(false)
     }
 
-    fn unlock(&mut self, plan: &Plan, lock: usize) -> Result<bool, u8> {
+    fn unlock(&mut self, protocol: Protocol, plan: &Plan, lock: usize) -> Result<bool, u8> {
         let task = self.runner()?;
         if lock >= plan.locks {
             return Err(13);
@@ -298,7 +322,7 @@ impl State {
         if call {
             self.lazy += 1;
             self.leave();
-            self.switch(plan.tasks);
+            self.switch(protocol, plan.tasks);
         }
         Ok(call)
     }
@@ -334,14 +358,22 @@ impl State {
         Ok(false)
     }
 
-    fn finish(&mut self, plan: &Plan) -> Result<bool, u8> {
+    fn finish(&mut self, protocol: Protocol, plan: &Plan) -> Result<bool, u8> {
         let task = self.runner()?;
         if self.held[task] != 0 {
             return Err(22);
         }
         self.released[task] = 0;
         self.kept[task] = 0;
-        self.switch(plan.tasks);
+        self.switch(protocol, plan.tasks);
+        Ok(false)
+    }
+
+    /// The next word is the greatest kept priority as it stands.
+    fn tick(&mut self, protocol: Protocol) -> Result<bool, u8> {
+        if protocol == Protocol::First {
+            self.next = self.user;
+        }
         Ok(false)
     }
 
@@ -353,7 +385,7 @@ impl State {
     }
 
     /// The task of greatest kept priority runs, ties to the earlier release.
-    fn switch(&mut self, tasks: usize) {
+    fn switch(&mut self, protocol: Protocol, tasks: usize) {
         let greatest = greatest(&self.kept[..tasks]);
         if greatest == 0 {
             (self.running, self.user, self.next) = (NOBODY, 0, 0);
@@ -369,7 +401,10 @@ impl State {
         self.kept[who] = 0;
         self.running = who as u8;
         self.user = greatest;
-        self.next = self::greatest(&self.kept[..tasks]);
+        self.next = match protocol {
+            Protocol::Second => self::greatest(&self.kept[..tasks]),
+            Protocol::First => greatest,
+        };
     }
 }
 
@@ -378,10 +413,16 @@ fn greatest(kept: &[u8]) -> u8 {
 }
 
 /// The events until the first refusal, with a row for each accepted one.
-pub fn run(plan: &Plan, events: &[u8], state: &mut State, rows: &mut [u8]) -> Result<(), Refused> {
+pub fn run(
+    protocol: Protocol,
+    plan: &Plan,
+    events: &[u8],
+    state: &mut State,
+    rows: &mut [u8],
+) -> Result<(), Refused> {
     let turns = events.chunks_exact(4).zip(rows.chunks_exact_mut(4));
     for (place, (record, row)) in turns.enumerate() {
-        match state.act(plan, record) {
+        match state.act(protocol, plan, record) {
             Ok(call) => row.copy_from_slice(&[state.running, state.user, state.next, call as u8]),
             Err(number) => return Err(Refused(number, place)),
         }
@@ -396,12 +437,12 @@ pub struct Replayed {
     pub state: State,
 }
 
-pub fn replay(book: &[u8], rows: &mut [u8]) -> Replayed {
+pub fn replay(protocol: Protocol, book: &[u8], rows: &mut [u8]) -> Replayed {
     let mut state = State::fresh();
     let (refused, plan) = match check(book, rows.len()) {
         Err(refused) => (refused, Plan::blank()),
         Ok(checked) => {
-            let ran = run(&checked.plan, checked.events, &mut state, rows);
+            let ran = run(protocol, &checked.plan, checked.events, &mut state, rows);
             (ran.err().unwrap_or(Refused(0, 0)), checked.plan)
         }
     };

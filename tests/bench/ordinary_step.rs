@@ -4,7 +4,8 @@
 //! as the library gives a new one back. So there is one copy of the state here.
 
 use crate::ordinary::{
-    is_wrong, Plan, Record, State, MOST_ACCEPTED, MOST_LOCKS, MOST_OPEN, MOST_TASKS, NOBODY,
+    is_wrong, Plan, Protocol, Record, State, MOST_ACCEPTED, MOST_LOCKS, MOST_OPEN, MOST_TASKS,
+    NOBODY,
 };
 
 /// What a step answers.
@@ -21,14 +22,14 @@ pub struct Stepped {
 /// the event. It is a function by itself, as the library's is, so that it is
 /// not fitted to the loop that times it.
 #[inline(never)]
-pub fn step(plan: &Plan, state: &State, record: Record) -> Stepped {
+pub fn step(protocol: Protocol, plan: &Plan, state: &State, record: Record) -> Stepped {
     let mut after = state.clone();
     let answer = if is_no_event(record) {
         Err(8)
-    } else if !is_sound(plan, state) {
+    } else if !is_sound(protocol, plan, state) {
         Err(10)
     } else {
-        after.act(plan, &record)
+        after.act(protocol, plan, &record)
     };
     Stepped {
         number: answer.err().unwrap_or(0),
@@ -45,11 +46,11 @@ fn is_no_event(record: Record) -> bool {
     }
 }
 
-pub fn is_sound(plan: &Plan, state: &State) -> bool {
+pub fn is_sound(protocol: Protocol, plan: &Plan, state: &State) -> bool {
     plan_is_right(plan)
         && counts_are_sound(state)
         && runner_is_sound(plan, state)
-        && tasks_and_locks_are_sound(plan, state)
+        && tasks_and_locks_are_sound(protocol, plan, state)
         && rest_is_0(plan, state)
 }
 
@@ -99,10 +100,10 @@ fn runner_is_sound(plan: &Plan, state: &State) -> bool {
 
 /// The figures of each task, with its row of open locks; and then those of each
 /// lock, by who has it open.
-fn tasks_and_locks_are_sound(plan: &Plan, state: &State) -> bool {
-    // The locks that are open for the tasks so far, and what the next word must be.
+fn tasks_and_locks_are_sound(protocol: Protocol, plan: &Plan, state: &State) -> bool {
+    // The locks that are open for the tasks so far, and the greatest kept priority.
     let mut open = 0u32;
-    let mut next = 0;
+    let mut greatest = 0;
     for task in 0..plan.tasks {
         let number = state.released[task];
         let held = usize::from(state.held[task]);
@@ -146,13 +147,17 @@ fn tasks_and_locks_are_sound(plan: &Plan, state: &State) -> bool {
         if state.user != user || state.kept[task] != kept {
             return false;
         }
-        next = kept.max(next);
+        greatest = kept.max(greatest);
     }
     let lock_is_sound = |lock: usize| match open >> lock & 1 {
         0 => state.owner[lock] == 0 && state.units[lock] == 0,
         _ => state.units[lock] <= plan.limit[lock],
     };
-    state.next == next && (0..plan.locks).all(lock_is_sound)
+    let second_is_sound = match protocol {
+        Protocol::Second => state.next == greatest,
+        Protocol::First => state.next <= state.user,
+    };
+    second_is_sound && (0..plan.locks).all(lock_is_sound)
 }
 
 /// Nothing past the last task and the last lock.

@@ -2,7 +2,9 @@
 //! tournament of the tasks' keys beside the arrays, as deep as the plan needs,
 //! and the shortcuts of sound states.
 
-use crate::ordinary::{check, Plan, Refused, Replayed, State, MOST_ACCEPTED, MOST_TASKS, NOBODY};
+use crate::ordinary::{
+    check, Plan, Protocol, Refused, Replayed, State, MOST_ACCEPTED, MOST_TASKS, NOBODY,
+};
 
 const PLACES: usize = 2 * MOST_TASKS - 1;
 
@@ -23,6 +25,11 @@ fn key(kept: u8, released: u32, task: usize) -> u64 {
     (u64::from(kept) << 40) + ((1 << 40) - 1 - order)
 }
 
+/// The priority of a key.
+fn priority_of(key: u64) -> u8 {
+    (key >> 40) as u8
+}
+
 impl Quick {
     fn fresh() -> Quick {
         Quick {
@@ -31,23 +38,39 @@ impl Quick {
         }
     }
 
-    fn act(&mut self, plan: &Plan, record: &[u8]) -> Result<bool, u8> {
+    fn act(&mut self, protocol: Protocol, plan: &Plan, record: &[u8]) -> Result<bool, u8> {
         if self.state.accepted >= MOST_ACCEPTED {
             return Err(11);
         }
         let call = match record[0] {
-            1 => self.release(plan, usize::from(record[1])),
+            1 => self.release(protocol, plan, usize::from(record[1])),
             2 => self.state.acquire(plan, usize::from(record[1])),
-            3 => self.unlock(plan, usize::from(record[1])),
+            3 => self.unlock(protocol, plan, usize::from(record[1])),
             4 => self.work(plan, u16::from_le_bytes([record[2], record[3]])),
-            5 => self.finish(plan),
-            _ => Ok(false),
+            5 => self.finish(protocol, plan),
+            _ => self.tick(protocol),
         }?;
         self.state.accepted += 1;
         Ok(call)
     }
 
-    fn release(&mut self, plan: &Plan, task: usize) -> Result<bool, u8> {
+    /// The greatest kept priority.
+    fn most(&self) -> u8 {
+        priority_of(self.tree[0])
+    }
+
+    /// This task runs with this word; and the second word.
+    fn enter(&mut self, protocol: Protocol, running: u8, user: u8, most: u8) {
+        self.state.running = running;
+        self.state.user = user;
+        self.state.next = match protocol {
+            Protocol::Second => most,
+            Protocol::First => user,
+        };
+    }
+
+    fn release(&mut self, protocol: Protocol, plan: &Plan, task: usize) -> Result<bool, u8> {
+        let most = self.most();
         let state = &mut self.state;
         if task >= plan.tasks {
             return Err(13);
@@ -58,23 +81,21 @@ impl Quick {
         state.released[task] = state.accepted + 1;
         state.delay[task] = 0;
         let base = plan.base[task];
-        if base <= state.user {
-            state.next = state.next.max(base);
+        let (running, user) = (state.running, state.user);
+        if base <= user {
             self.keep(plan.tasks, task, base);
-        } else if base > state.next {
-            let user = state.user;
-            self.keep(plan.tasks, usize::from(self.state.running), user);
-            self.state.running = task as u8;
-            self.state.user = base;
-            self.state.next = self.state.next.max(user);
+            self.enter(protocol, running, user, most.max(base));
+        } else if base > most {
+            self.keep(plan.tasks, usize::from(running), user);
+            self.enter(protocol, task as u8, base, most.max(user));
         } else {
             self.keep(plan.tasks, task, base);
-            self.leave(plan.tasks);
+            self.leave(protocol, plan.tasks);
         }
         Ok(false)
     }
 
-    fn unlock(&mut self, plan: &Plan, lock: usize) -> Result<bool, u8> {
+    fn unlock(&mut self, protocol: Protocol, plan: &Plan, lock: usize) -> Result<bool, u8> {
         let state = &mut self.state;
         let task = state.runner()?;
         if lock >= plan.locks {
@@ -95,12 +116,13 @@ impl Quick {
         let call = state.user < state.next;
         if call {
             state.lazy += 1;
-            self.leave(plan.tasks);
+            self.leave(protocol, plan.tasks);
         }
         Ok(call)
     }
 
     fn work(&mut self, plan: &Plan, amount: u16) -> Result<bool, u8> {
+        let most = self.most();
         let state = &mut self.state;
         if amount == 0 {
             return Err(20);
@@ -118,7 +140,7 @@ impl Quick {
             state.units[usize::from(lock)] += amount;
         }
         let base = plan.base[task];
-        if state.next <= base {
+        if most <= base {
             return Ok(false);
         }
         let others = plan.base[..plan.tasks]
@@ -135,13 +157,18 @@ impl Quick {
         Ok(false)
     }
 
-    fn finish(&mut self, plan: &Plan) -> Result<bool, u8> {
+    fn finish(&mut self, protocol: Protocol, plan: &Plan) -> Result<bool, u8> {
         let task = self.state.runner()?;
         if self.state.held[task] != 0 {
             return Err(22);
         }
         self.state.released[task] = 0;
-        self.switch(plan.tasks);
+        self.switch(protocol, plan.tasks);
+        Ok(false)
+    }
+
+    fn tick(&mut self, protocol: Protocol) -> Result<bool, u8> {
+        self.enter(protocol, self.state.running, self.state.user, self.most());
         Ok(false)
     }
 
@@ -163,13 +190,13 @@ impl Quick {
     }
 
     /// The running task leaves with its word, and the kernel switches.
-    fn leave(&mut self, tasks: usize) {
+    fn leave(&mut self, protocol: Protocol, tasks: usize) {
         self.keep(tasks, usize::from(self.state.running), self.state.user);
-        self.switch(tasks);
+        self.switch(protocol, tasks);
     }
 
     /// The task at the root runs, and who is at the root then is next.
-    fn switch(&mut self, tasks: usize) {
+    fn switch(&mut self, protocol: Protocol, tasks: usize) {
         let root = self.tree[0];
         if root == 0 {
             (self.state.running, self.state.user, self.state.next) = (NOBODY, 0, 0);
@@ -177,16 +204,20 @@ impl Quick {
         }
         let who = !(root as u8);
         self.keep(tasks, usize::from(who), 0);
-        self.state.running = who;
-        self.state.user = (root >> 40) as u8;
-        self.state.next = (self.tree[0] >> 40) as u8;
+        self.enter(protocol, who, priority_of(root), self.most());
     }
 }
 
-fn run(plan: &Plan, events: &[u8], quick: &mut Quick, rows: &mut [u8]) -> Result<(), Refused> {
+fn run(
+    protocol: Protocol,
+    plan: &Plan,
+    events: &[u8],
+    quick: &mut Quick,
+    rows: &mut [u8],
+) -> Result<(), Refused> {
     let turns = events.chunks_exact(4).zip(rows.chunks_exact_mut(4));
     for (place, (record, row)) in turns.enumerate() {
-        match quick.act(plan, record) {
+        match quick.act(protocol, plan, record) {
             Ok(call) => {
                 let state = &quick.state;
                 row.copy_from_slice(&[state.running, state.user, state.next, call as u8]);
@@ -197,12 +228,12 @@ fn run(plan: &Plan, events: &[u8], quick: &mut Quick, rows: &mut [u8]) -> Result
     Ok(())
 }
 
-pub fn replay(book: &[u8], rows: &mut [u8]) -> Replayed {
+pub fn replay(protocol: Protocol, book: &[u8], rows: &mut [u8]) -> Replayed {
     let mut quick = Quick::fresh();
     let (refused, plan) = match check(book, rows.len()) {
         Err(refused) => (refused, Plan::blank()),
         Ok(checked) => {
-            let ran = run(&checked.plan, checked.events, &mut quick, rows);
+            let ran = run(protocol, &checked.plan, checked.events, &mut quick, rows);
             (ran.err().unwrap_or(Refused(0, 0)), checked.plan)
         }
     };

@@ -1,8 +1,8 @@
 //! What single steps are compared and timed on: plans, each with a list of
-//! events from a fresh start. A refused event stands in the list too: it leaves
-//! the state as it was.
+//! events from a fresh start, by a protocol. A refused event stands in the list
+//! too: it leaves the state as it was.
 
-use crate::ordinary::{Checked, Plan, Record, State, MOST_LOCKS, MOST_OPEN, NOBODY};
+use crate::ordinary::{Checked, Plan, Protocol, Record, State, MOST_LOCKS, MOST_OPEN, NOBODY};
 
 pub const RELEASE: u8 = 1;
 pub const ACQUIRE: u8 = 2;
@@ -13,6 +13,7 @@ pub const TICK: u8 = 6;
 
 pub struct Scene {
     pub name: String,
+    pub protocol: Protocol,
     pub plan: Plan,
     pub turns: Vec<Turn>,
 }
@@ -29,8 +30,8 @@ const TIMED: usize = 96;
 
 /// A book's events, which are all accepted. At places that lie evenly over the
 /// book two steps are timed: one that is refused, and the book's own.
-pub fn of_book(name: &str, checked: &Checked) -> Scene {
-    let mut walk = Walk::new(checked.plan.clone());
+pub fn of_book(protocol: Protocol, name: &str, checked: &Checked) -> Scene {
+    let mut walk = Walk::new(protocol, checked.plan.clone());
     let records = checked.events.as_chunks::<4>().0;
     let apart = (records.len() / (TIMED / 2)).max(1);
     for (place, &record) in records.iter().enumerate() {
@@ -58,9 +59,9 @@ const APART: usize = 8;
 /// its own. So the first task of each block comes to run while those of the
 /// blocks before it have their locks open, and opens its own; then all other
 /// tasks are released, and wait.
-pub fn full(tasks: usize) -> Scene {
+pub fn full(protocol: Protocol, tasks: usize) -> Scene {
     let size = tasks / BLOCKS.len();
-    let mut walk = Walk::new(full_plan(tasks));
+    let mut walk = Walk::new(protocol, full_plan(tasks));
     let mut first = 0;
     for (block, locks) in BLOCKS.into_iter().enumerate() {
         walk.accepted([RELEASE, (block * size) as u8, 0, 0]);
@@ -107,6 +108,7 @@ fn full_plan(tasks: usize) -> Plan {
 /// Makes the list of a scene, and keeps the state that it leads to. Where the
 /// library comes to another state, the comparison will say so.
 struct Walk {
+    protocol: Protocol,
     plan: Plan,
     state: State,
     turns: Vec<Turn>,
@@ -114,8 +116,9 @@ struct Walk {
 }
 
 impl Walk {
-    fn new(plan: Plan) -> Walk {
+    fn new(protocol: Protocol, plan: Plan) -> Walk {
         Walk {
+            protocol,
             plan,
             state: State::fresh(),
             turns: Vec::new(),
@@ -126,6 +129,7 @@ impl Walk {
     fn scene(self, name: &str) -> Scene {
         Scene {
             name: name.to_string(),
+            protocol: self.protocol,
             plan: self.plan,
             turns: self.turns,
         }
@@ -134,7 +138,7 @@ impl Walk {
     /// Whether the event is accepted.
     fn step(&mut self, record: Record, timed: bool) -> bool {
         self.turns.push(Turn { record, timed });
-        self.state.act(&self.plan, &record).is_ok()
+        self.state.act(self.protocol, &self.plan, &record).is_ok()
     }
 
     fn accepted(&mut self, record: Record) {
@@ -145,7 +149,8 @@ impl Walk {
     fn refused(&mut self) -> Record {
         loop {
             let record = self.any();
-            if self.state.clone().act(&self.plan, &record).is_err() {
+            let mut after = self.state.clone();
+            if after.act(self.protocol, &self.plan, &record).is_err() {
                 return record;
             }
         }

@@ -5,7 +5,7 @@
  * there: so all that the function and whatever it calls (memcpy and memset of the C library too) wrote below the call.
  * Its arguments and its answer, where they lie in the caller's own memory, are said beside it. Each call is made twice,
  * with two bytes that differ in every bit, and the greater number counts. For a function the greatest of its calls is
- * printed, on the largest inputs that there are. */
+ * printed, on the largest inputs that there are and by both protocols. */
 #define _GNU_SOURCE
 #include <stdint.h>
 #include <stdio.h>
@@ -110,6 +110,7 @@ static void fill(void) {
 
 /* ---- a call of each function */
 
+static uint8_t protocol;
 static struct recorder_plan plan;
 static struct recorder_state state;
 static uint32_t event;
@@ -147,13 +148,13 @@ static void call_fresh(void) {
 
 static void call_step(void) {
     __typeof__(&recorder_step) f = (void *)noted;
-    struct recorder_step answer = f(plan, state, event % 256, event / 256 % 256, event / 65536);
+    struct recorder_step answer = f(protocol, plan, state, event % 256, event / 256 % 256, event / 65536);
     WANTED(answer);
 }
 
 static void call_replay(void) {
     __typeof__(&recorder_replay) f = (void *)noted;
-    struct recorder_replay answer = f(book, length, rows, sizeof rows);
+    struct recorder_replay answer = f(protocol, book, length, rows, sizeof rows);
     WANTED(answer);
 }
 
@@ -171,11 +172,13 @@ int main(void) {
     fill();
     length = write_book(recorder_write).length;
     plan = recorder_load_table(tasks, COUNT(tasks), locks, COUNT(locks), uses, COUNT(uses)).plan;
-    state = recorder_fresh();
-    struct recorder_replay whole = recorder_replay(book, length, rows, sizeof rows);
-    if (length != RECORDER_MAX_BOOK || plan.tasks != RECORDER_MAX_TASKS || whole.state.accepted != RECORDER_MAX_EVENTS) {
-        printf("the library refuses the largest book\n");
-        return 1;
+    for (protocol = RECORDER_FIRST; protocol <= RECORDER_SECOND; protocol++) {
+        struct recorder_replay whole = recorder_replay(protocol, book, length, rows, sizeof rows);
+        if (length != RECORDER_MAX_BOOK || plan.tasks != RECORDER_MAX_TASKS ||
+            whole.state.accepted != RECORDER_MAX_EVENTS) {
+            printf("the library refuses the largest book\n");
+            return 1;
+        }
     }
 
     /* the largest book; and one that is refused at its last event, and one that is refused at once */
@@ -184,7 +187,9 @@ int main(void) {
         if (k == 1) book[length - 4] = 7;
         if (k == 2) length = 31;
         check = most(check, call_check, (void (*)(void))recorder_check);
-        replay = most(replay, call_replay, (void (*)(void))recorder_replay);
+        for (protocol = RECORDER_FIRST; protocol <= RECORDER_SECOND; protocol++) {
+            replay = most(replay, call_replay, (void (*)(void))recorder_replay);
+        }
         for (task = 0; task <= RECORDER_MAX_TASKS; task++) {
             bound = most(bound, call_bound, (void (*)(void))recorder_bound);
         }
@@ -195,25 +200,33 @@ int main(void) {
 
     /* the largest book's events until nobody runs again, each as a step; and from each state one event of every kind,
      * most of them refused, and one that is none */
-    size_t step = 0, k = 0;
-    do {
-        for (uint8_t kind = 0; kind <= RECORDER_TICK; kind++) {
-            event = number(kind, 0, kind == RECORDER_WORK);
+    size_t step = 0;
+    for (protocol = RECORDER_FIRST; protocol <= RECORDER_SECOND; protocol++) {
+        size_t k = 0;
+        state = recorder_fresh();
+        do {
+            for (uint8_t kind = 0; kind <= RECORDER_TICK; kind++) {
+                event = number(kind, 0, kind == RECORDER_WORK);
+                step = most(step, call_step, (void (*)(void))recorder_step);
+            }
+            event = event_at(k++);
             step = most(step, call_step, (void (*)(void))recorder_step);
-        }
-        event = event_at(k++);
-        step = most(step, call_step, (void (*)(void))recorder_step);
-        struct recorder_step s = recorder_step(plan, state, event % 256, event / 256 % 256, event / 65536);
-        if (s.number != 0) {
-            printf("the library refuses an event of the largest book\n");
-            return 1;
-        }
-        state = s.state;
-    } while (state.running != RECORDER_NOBODY);
+            struct recorder_step s =
+                recorder_step(protocol, plan, state, event % 256, event / 256 % 256, event / 65536);
+            if (s.number != 0) {
+                printf("the library refuses an event of the largest book\n");
+                return 1;
+            }
+            state = s.state;
+        } while (state.running != RECORDER_NOBODY);
+    }
 
     /* what no scheduler can be in: every task has more locks open than a row has bytes */
     memset(&state, 255, sizeof state);
-    size_t any_step = most(step, call_step, (void (*)(void))recorder_step);
+    size_t any_step = step;
+    for (protocol = RECORDER_FIRST; protocol <= RECORDER_SECOND; protocol++) {
+        any_step = most(any_step, call_step, (void (*)(void))recorder_step);
+    }
 
     printf("bytes of stack below the call; by value among the arguments; and the answer\n");
     printf("%-20s %7s %9s %7s\n", "", "stack", "by value", "answer");

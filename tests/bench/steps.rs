@@ -1,12 +1,14 @@
-//! The proved single step against the same one in ordinary Rust, over scenes:
-//! each step of a scene, and many more from its timed states, must give the same
-//! answer and the same state; then the timed steps are timed.
+//! The proved single step against the same one in ordinary Rust, over scenes of
+//! either protocol: each step of a scene, and many more from its timed states,
+//! must give the same answer and the same state; then the timed steps are timed.
 //!
 //! What is compared: both test the whole plan and state for soundness before the
 //! event, and both give a new state. The library takes the plan and the state by
 //! value, so they are copied into its arguments; ordinary Rust is lent both.
 
-use crate::ordinary::{Plan, Record, State, MOST_ACCEPTED, MOST_LOCKS, MOST_OPEN, MOST_TASKS};
+use crate::ordinary::{
+    Plan, Protocol, Record, State, MOST_ACCEPTED, MOST_LOCKS, MOST_OPEN, MOST_TASKS,
+};
 use crate::scenes::{Scene, ACQUIRE, FINISH, RELEASE, TICK, UNLOCK, WORK};
 use crate::{device, done, ordinary_step, report, time, Figure};
 use std::hint::black_box;
@@ -26,9 +28,9 @@ struct Moment {
     record: Record,
 }
 
-/// What was compared.
-#[derive(Default)]
+/// What was compared, by one protocol.
 pub struct Tally {
+    pub protocol: Protocol,
     /// Steps by the number that they answered.
     answers: [u32; 23],
     /// Timed steps by the kind of event: those accepted, and those refused.
@@ -36,6 +38,14 @@ pub struct Tally {
 }
 
 impl Tally {
+    pub fn new(protocol: Protocol) -> Tally {
+        Tally {
+            protocol,
+            answers: [0; 23],
+            timed: [(0, 0); 7],
+        }
+    }
+
     pub fn compared(&self) -> u32 {
         self.answers.iter().sum()
     }
@@ -62,8 +72,9 @@ impl Tally {
 
     /// One step by both: its answer and the state after it, or what they differ in.
     fn step(&mut self, plan: &Plan, state: &State, record: Record) -> Result<(u8, State), String> {
-        let proved = device::step(&device::Plan::of(plan), &device::State::of(state), record);
-        let ordinary = ordinary_step::step(plan, state, record);
+        let (proved_plan, proved_state) = (device::Plan::of(plan), device::State::of(state));
+        let proved = device::step(self.protocol, &proved_plan, &proved_state, record);
+        let ordinary = ordinary_step::step(self.protocol, plan, state, record);
         let answer = (proved.number, proved.calls);
         if answer != (ordinary.number, ordinary.calls) {
             let other = (ordinary.number, ordinary.calls);
@@ -88,7 +99,7 @@ pub fn compare(scene: &Scene, tally: &mut Tally) -> Result<(), String> {
     let mut timed = 0;
     for turn in &scene.turns {
         if turn.timed && timed % SORTS_ONE_IN == 0 {
-            let other = with_other_runner(plan, &state, timed);
+            let other = with_other_runner(scene.protocol, plan, &state, timed);
             for state in [&state].into_iter().chain(&other) {
                 for record in all_sorts(plan) {
                     tally.step(plan, state, record)?;
@@ -142,7 +153,7 @@ fn all_sorts(plan: &Plan) -> Vec<Record> {
 /// The same state but that another released task runs, if there is one. It is
 /// sound, and mostly no fresh start reaches it: there alone the running task can
 /// find a lock open for another.
-fn with_other_runner(plan: &Plan, state: &State, turn: usize) -> Option<State> {
+fn with_other_runner(protocol: Protocol, plan: &Plan, state: &State, turn: usize) -> Option<State> {
     let runner = usize::from(state.running);
     let waiting: Vec<usize> = (0..plan.tasks)
         .filter(|&task| task != runner && state.released[task] != 0)
@@ -153,7 +164,10 @@ fn with_other_runner(plan: &Plan, state: &State, turn: usize) -> Option<State> {
     other.kept[runner] = state.user;
     other.user = state.kept[task];
     other.kept[task] = 0;
-    other.next = other.kept.iter().copied().fold(0, u8::max);
+    other.next = match protocol {
+        Protocol::Second => other.kept.iter().copied().fold(0, u8::max),
+        Protocol::First => other.user,
+    };
     Some(other)
 }
 
@@ -221,7 +235,7 @@ fn moments(scene: &Scene) -> Vec<Moment> {
             });
         }
         // A refused event leaves the state as it was.
-        let _ = state.act(&scene.plan, &turn.record);
+        let _ = state.act(scene.protocol, &scene.plan, &turn.record);
     }
     moments
 }
@@ -231,6 +245,7 @@ fn moments(scene: &Scene) -> Vec<Moment> {
 pub fn measure(scene: &Scene, rounds: usize) {
     let moments = moments(scene);
     let count = moments.len() as u32;
+    let protocol = black_box(scene.protocol);
     let ordinary_plan = &scene.plan;
     let proved_plan = &device::Plan::of(ordinary_plan);
     let none: Record = [0; 4];
@@ -240,16 +255,16 @@ pub fn measure(scene: &Scene, rounds: usize) {
         let mut add = |place: usize, step: &dyn Fn(&Moment)| {
             times[place].push(time(count, 1, || moments.iter().for_each(step)))
         };
-        add(0, &|m| done(device::step(proved_plan, &m.proved, m.record)));
-        add(1, &|m| {
-            done(ordinary_step::step(ordinary_plan, &m.ordinary, m.record))
-        });
-        add(2, &|m| done(device::step(proved_plan, &m.proved, none)));
-        add(3, &|m| {
-            done(ordinary_step::step(ordinary_plan, &m.ordinary, none))
-        });
+        let proved = |m: &Moment, record| device::step(protocol, proved_plan, &m.proved, record);
+        let ordinary =
+            |m: &Moment, record| ordinary_step::step(protocol, ordinary_plan, &m.ordinary, record);
+        add(0, &|m| done(proved(m, m.record)));
+        add(1, &|m| done(ordinary(m, m.record)));
+        add(2, &|m| done(proved(m, none)));
+        add(3, &|m| done(ordinary(m, none)));
     }
     let [proved, ordinary, proved_copy, ordinary_copy] = times.map(Figure::of);
-    report(&scene.name, "step", proved, ordinary);
-    report("", "copy", proved_copy, ordinary_copy);
+    let name = scene.protocol.name();
+    report(&scene.name, name, "step", proved, ordinary);
+    report("", "", "copy", proved_copy, ordinary_copy);
 }

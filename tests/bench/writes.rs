@@ -85,5 +85,5 @@ pub fn measure(name: &str, book: &[u8], rounds: usize) {
         }));
     }
     let [proved, ordinary] = times.map(Figure::of);
-    report(name, "write", proved, ordinary);
+    report(name, "", "write", proved, ordinary);
 }

@@ -116,7 +116,7 @@ module _ {p : Plan} {s : State} (F : Follows Second p s) (l : ℕ) (z : refusalO
 
 -- what the history's kernel word has to be, where the second word is `next`: the first protocol goes by it, and the second does not
 unfoldable pub KernelIs : Protocol → (word next : ℕ) → Type 0
-KernelIs Second word next = word ≡ word
+KernelIs Second word next = Unit {0}
 KernelIs First word next = word ≡ next
 
 rule-is : (pr : Protocol) {p : Plan} {s : State} → Follows pr p s → (word : ℕ) → KernelIs pr word (s .head .next .0) → (l : ℕ)
@@ -217,7 +217,7 @@ module _ {p : Plan} (O : Obeys p) (es : List Event) where
 -- the kernel word of the history is the first protocol's
 pub kernel-is : (pr : Protocol) {p : Plan} → Obeys p → (es : List Event) (k : ℕ) → KernelIs pr (kernelAt p es k) (lazyAt pr p es k .head .next .0)
 unfolding KernelIs
-kernel-is Second O es k = refl
+kernel-is Second O es k = tt
 kernel-is First O es k = first-kernel O es k
 
 module _ (pr : Protocol) {p : Plan} (O : Obeys p) (es : List Event) where

@@ -9,15 +9,17 @@ use Rattle.rules.specs.Schedulers.Figures.{holds}
 use Rattle.rules.specs.Replays.Step.{stepOf}
 use Rattle.rules.specs.Demands.History.{eventAt, lazyAt}
 use Rattle.rules.specs.Demands.Demand2.{Demand2}
+use Rattle.rules.specs.Demands.Fair.{Between}
 use Rattle.rules.specs.declared.plan.Plan.{Plan}
 use Rattle.rules.specs.declared.protocol.Protocol.{Protocol}
+use Rattle.rules.specs.declared.protocol.Protocol.the-variants.{Second, First}
 use Rattle.rules.specs.declared.state.State.{State}
 use Rattle.rules.specs.declared.event.Event.{Event}
 use Rattle.rules.specs.declared.answer.Stepped.{Stepped}
 use Rattle.rules.proofs.Demands.Demand2.{demand2}
-use Rattle.rules.proofs.Demands.Fair.{fair}
+use Rattle.rules.proofs.Demands.Fair.{fair, between}
 use Rattle.rules.proofs.Demands.Jobs.{lateAt, delays-same, delay-counted}
-use Rattle.promises.specs.Stepping.{StepsTo, ComesTo, StepAt}
+use Rattle.promises.specs.Stepping.{StepsTo, ComesTo, StepAt, SideBySide}
 
 module _ (pr : Protocol) {p : Plan} (O : Obeys p) (es : List Event) where
   -- the state is the history's
@@ -58,3 +60,12 @@ module _ (pr : Protocol) {p : Plan} (O : Obeys p) (es : List Event) where
   pub steps-keep : (k : ℕ) (s : State) (r : Stepped) → ComesTo pr p es k s → StepsTo pr p es k s r → StepAt pr p es k r
   steps-keep k s r before stepped =
       subst (StepAt pr p es k) (sym (stepped ∙ ap (λ (u : State). stepOf pr p u (eventAt es k)) (comes-to k s before))) (at-place k)
+
+-- and of two runs over one list, by the first protocol and by the second
+pub steps-compare : {p : Plan} → Obeys p → (es : List Event) (k : ℕ) (first second : State) → ComesTo First p es k first → ComesTo Second p es k second
+    → SideBySide first second
+steps-compare {p} O es k first second h g =
+    let B : Between p es k = between O es k in
+    subst (λ (x : State). SideBySide x second) (sym (comes-to First O es k first h))
+    (subst (SideBySide (lazyAt First p es k)) (sym (comes-to Second O es k second g))
+    (record { figures = B .figures; running = B .running; fewer = B .reported; fair = fair O es First k .reported }))

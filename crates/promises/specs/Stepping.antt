@@ -57,3 +57,11 @@ pub record StepAt (pr : Protocol) (p : Plan) (es : List Event) (k : ℕ) (r : St
   pub unlock : (l : ℕ) → eventAt es k ≡ Unlock l → acceptedAt p es k ≡ true → OwnCall pr p es k l (answerCalls (r .answer))
   pub outranked : (l : ℕ) → eventAt es k ≡ Unlock l → acceptedAt p es k ≡ true → Outranked p (eagerAt p es k) (runnerAt p es k) l → answerCalls (r .answer) ≡ 1
   pub acquire : (l : ℕ) → eventAt es k ≡ Acquire l → answerCalls (r .answer) ≡ 0
+
+-- what is promised of two runs over one list, of which the one by the first protocol has come to the state `first` and the one by the second to `second`: the
+-- figures and the running task are the same, and the calls of the first lie between those of the second and the eager ones
+pub record SideBySide (first second : State) : Type 0 where
+  pub figures : figuresOf first ≡ figuresOf second
+  pub running : first .head .running ≡ second .head .running
+  pub fewer : second .head .lazy ≤ first .head .lazy
+  pub fair : first .head .lazy ≤ first .head .eager

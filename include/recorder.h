@@ -33,7 +33,8 @@ extern "C" {
 #define RECORDER_SECOND 2 /* next word: the greatest priority of the other released tasks */
 #define RECORDER_FIRST 1  /* kernel word: the user word at the latest entry to the kernel */
 
-/* A plan. A task or a lock is its place, from 0. Places past the last one hold 0. */
+/* A plan. A task or a lock is its place, from 0. Places past the last one hold 0. A lock has two users or more, and the
+ * highest of their bases as its ceiling; otherwise it is refused by 7, and by 10 where the plan comes with a state. */
 struct recorder_plan {
     size_t tasks;
     size_t locks;

@@ -8,7 +8,7 @@ use Rattle.rules.specs.Numbers.Refusal.{numberOf, firstTrue, found, firstFault}
 use Rattle.rules.specs.Numbers.Mask.{hasBit, withBit}
 use Rattle.rules.specs.Numbers.Row.{has, priority, saves}
 use Rattle.rules.specs.Books.Event.{eventFault, eventOf}
-use Rattle.rules.specs.Books.Plan.{most, countFault, taskFault, lockFault, declares, users, usersBase, ceilingFault}
+use Rattle.rules.specs.Books.Plan.{most, countFault, taskFault, lockFault, declares, users, usersBase, usersFault, ceilingFault}
 use Rattle.rules.specs.Books.Load.{taskFaultAt, lockFaultAt, countFaultOf, useFault, masksOf, planOf, recordChecks, loadChecks}
 use Rattle.rules.specs.Books.Book.{sizeOf, bodyAt, layoutFault, contentsChecks, eventChecks, checkOf, checkedAs}
 use Rattle.rules.specs.Schedulers.Figures.{holds, priorityOf, rankOf}
@@ -49,8 +49,8 @@ bookOfRefused =
 printed : (textOf Second book ≡ block) × (textOf First book ≡ blockByFirst) × (textOf Second bookOfRefused ≡ blockOfRefused)
 unfolding book block blockByFirst bookOfRefused blockOfRefused
     if_then_else_ allTrue every any count greatest firstFrom from renewed zeros numberOf firstTrue found firstFault eventFault eventOf hasBit
-    withBit most countFault taskFault lockFault declares users usersBase ceilingFault taskFaultAt lockFaultAt countFaultOf useFault masksOf planOf recordChecks
-    loadChecks sizeOf bodyAt layoutFault contentsChecks eventChecks checkOf checkedAs
+    withBit most countFault taskFault lockFault declares users usersBase usersFault ceilingFault taskFaultAt lockFaultAt countFaultOf useFault masksOf planOf
+    recordChecks loadChecks sizeOf bodyAt layoutFault contentsChecks eventChecks checkOf checkedAs
     has priority saves holds priorityOf rankOf earlier earliest elected elsewhere notNewest pastLimit testsOf releaseOrder acquireOrder unlockOrder workOrder
     finishOrder refusalOf differs eagerCalls charged delayed figuresAfter
     secondWord callsFor runsOn switched stays afterRelease afterAcquire restored afterUnlock

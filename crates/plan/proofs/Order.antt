@@ -1,26 +1,22 @@
 -- The order of the load: each check is asked where those before it found no offender. Assumes nothing.
 use mathlib.Core.Path.{_≡_, refl, sym, _∙_, ap}
-use mathlib.Core.Bool.{not, _||_}
 use mathlib.Core.List.{List}
 use Prim.Native.Nat.{ℕ, _+_, _≤_, _<_}
 use native.Mathlib.Omega.{arith}
-use lib.Dec.{eqb}
 use lib.ListN.{length, replicate}
-use borrow.Author.Tests.{eqb-false}
 use Rattle.rules.specs.Numbers.Capacity.{maxTasks, maxLocks}
 use Rattle.rules.specs.Numbers.Place.{at, firstFrom, renewed, tabulate}
 use Rattle.rules.specs.Numbers.Choice.{if_then_else_}
 use Rattle.rules.specs.Numbers.Refusal.{numberOf, firstFault, checkFor}
-use Rattle.rules.specs.Books.Plan.{lockFault, ceilingFault}
-use Rattle.rules.specs.Books.Load.{taskBase, lockCeiling, lockSecond, lockLimit, countFaultOf, taskFaultAt, lockFaultAt, useFault}
+use Rattle.rules.specs.Books.Plan.{ceilingFault}
+use Rattle.rules.specs.Books.Load.{taskBase, lockCeiling, lockLimit, countFaultOf, taskFaultAt, lockFaultAt, useFault}
 use Rattle.rules.specs.Books.Load.{masksOf, planOf, recordChecks, loadChecks, passedLoad, refusedLoad, loadedAs, loadOf}
 use Rattle.rules.specs.declared.plan.Plan.{Plan}
 use Rattle.rules.specs.declared.answer.Verdict.{Verdict}
 use Rattle.rules.specs.declared.answer.Loaded.{Loaded}
 use Rattle.rules.specs.declared.refusal.Refusal.{Refusal}
 use Rattle.rules.specs.declared.refusal.Refusal.the-variants.{WrongCount, WrongTask, WrongLock, WrongUse, WrongCeiling}
-use Rattle.rules.proofs.Numbers.Choice.{or-false}
-use Rattle.rules.proofs.Numbers.Place.{first-same, renewed-table, none-past, getD-tabulate}
+use Rattle.rules.proofs.Numbers.Place.{first-same, renewed-table, none-past}
 use Rattle.rules.proofs.Numbers.Checks.{Clean, clean-for, check-left, check-right, check-none, check-finds, check-passes}
 use Rattle.rules.proofs.Books.Loaded.{tasks-fit, locks-fit, use-known}
 use Rattle.plan.specs.Placed.{Placed}
@@ -109,16 +105,6 @@ module _ (tasks locks uses : List ℕ) (v : Verdict) (said : v ≡ firstFault (r
     unfolding recordChecks checkFor numberOf if_then_else_ Placed
     placed i b = let (t, l) = use-known (length tasks) (length locks) uses i (clean WrongUse i b) in (omega (arith, few-tasks), omega (arith, few-locks))
 
-    -- 5 found nothing: each ceiling is above 0
-    ceiled : (l : ℕ) → l < length locks → at (p .ceiling) l ≡ 0 → ⊥
-    unfolding planOf recordChecks checkFor numberOf lockFaultAt lockFault if_then_else_
-    ceiled l h z =
-        let (ab, _) = or-false (eqb (lockCeiling (at locks l)) 0 || not (eqb (lockSecond (at locks l)) 0)) (eqb (lockLimit (at locks l)) 0)
-        (clean WrongLock l h) in
-        let (a, _) = or-false (eqb (lockCeiling (at locks l)) 0) (not (eqb (lockSecond (at locks l)) 0)) ab in
-        let k : l < maxLocks = omega (arith, few-locks) in
-        eqb-false (lockCeiling (at locks l)) 0 a (sym (getD-tabulate (λ l. lockCeiling (at locks l)) maxLocks l 0 k) ∙ z)
-
     -- q is the plan as built, and c its first lock of a wrong ceiling
     module _ (q : Plan) (built : q ≡ p) where
       pub plan-tasks : q .tasks ≤ maxTasks
@@ -134,7 +120,7 @@ module _ (tasks locks uses : List ℕ) (v : Verdict) (said : v ≡ firstFault (r
         unfolding planOf
         first =
             ceiling ∙ ap (λ w. firstFrom (wrongCeiling (w .tasks) (w .base) (w .ceiling) (w .uses)) 0 (w .locks)) built
-            ∙ first-same _ _ 0 (length locks) (λ l a h. ceiling-same p l (ceiled l (omega arith)))
+            ∙ first-same _ _ 0 (length locks) (λ l a h. ceiling-same p l)
 
         pub wrong-ceiling : (r : Loaded) → c < length locks → r ≡ refusedLoad WrongCeiling c → r ≡ loadOf tasks locks uses
         unfolding loadOf loadedAs loadChecks

@@ -7,8 +7,8 @@ use native.Mathlib.Nat.{one-mul, mod-eq-of-lt}
 use native.Mathlib.Omega.{arith}
 use lib.Dec.{eqb, ltb}
 use lib.Pow.{pow-lt}
-use borrow.Author.Tests.{eq-eqb, ne-eqb, eqb-false, lt-ltb, ltb-false}
-use Rattle.rules.proofs.Numbers.Choice.{by-test, or-false, all-next}
+use borrow.Author.Tests.{eq-eqb, ne-eqb, lt-ltb, ltb-false}
+use Rattle.rules.proofs.Numbers.Choice.{or-false, all-next}
 use Rattle.rules.specs.Numbers.Capacity.{maxTasks, maxLocks}
 use Rattle.rules.specs.Numbers.Choice.{if_then_else_, allTrue}
 use Rattle.rules.specs.Books.Plan.{most, countFault, taskFault, lockFault}
@@ -85,10 +85,9 @@ module _ (p : Plan) where
   unfolding taskBy taskObeys
   task-same t = refl
 
-  -- a ceiling of 0 fails both
   lock-same : (l : ℕ) → lockHere l ≡ lockObeys p l
-  unfolding lockBy lockObeys lockFault allTrue if_then_else_
-  lock-same l = by-test (eqb (at (p .ceiling) l) 0) (λ e. rw e) (λ e. rw (ceiling-same p l (eqb-false (at (p .ceiling) l) 0 e)))
+  unfolding lockBy lockObeys
+  lock-same l = rw (ceiling-same p l)
 
   spare-same : spareBy (p .tasks) (p .locks) (p .base) (p .ceiling) (p .limit) (p .uses) ≡ spareObeys p
   unfolding spareBy spareObeys

@@ -1,43 +1,92 @@
--- 7 by the arrays: a ceiling above 0 that is the greatest base of the lock's users has a user, so that nobody need be counted. Assumes nothing.
-use mathlib.Core.Path.{_≡_, refl}
-use mathlib.Core.Bool.{Bool, not}
+-- 7 by the arrays: the locks that two tasks may take are those with two users or more. Assumes nothing.
+use mathlib.Core.Path.{_≡_, refl, sym, _∙_, ap, ap₂}
+use mathlib.Core.Bool.{Bool, true, false, not, _&&_, _||_}
 use mathlib.Core.List.{List}
-use Prim.Native.Nat.{ℕ, zero, suc, _+_}
+use mathlib.Core.Logic.{⊎-elim}
+use Prim.Native.Nat.{ℕ, zero, suc, _+_, _≤_, _<_}
+use native.Mathlib.Numerals.{add-one}
 use native.Mathlib.Omega.{arith}
-use lib.Dec.{eqb}
-use borrow.Author.Tests.{eqb-true, ne-eqb}
+use lib.Bits.{bitAnd, bitOr}
+use lib.Dec.{eqb, leb, ltb}
+use borrow.Author.Tests.{le-leb, lt-leb, lt-ltb, le-ltb}
 use Rattle.rules.specs.Numbers.Choice.{if_then_else_}
-use Rattle.rules.specs.Numbers.Place.{at, count, greatest}
-use Rattle.rules.specs.Books.Plan.{declares, users, usersBase, ceilingFault}
+use Rattle.rules.specs.Numbers.Mask.{hasBit}
+use Rattle.rules.specs.Numbers.Place.{at, count}
+use Rattle.rules.specs.Books.Plan.{declares, users, usersBase, usersFault, ceilingFault}
 use Rattle.rules.specs.declared.plan.Plan.{Plan}
-use Rattle.rules.proofs.Numbers.Choice.{if-true, if-false, by-test}
-use Rattle.plan.specs.Lent.{usersTop, wrongCeiling}
+use Rattle.rules.proofs.Numbers.Choice.{by-test, lt-or-le}
+use Rattle.rules.proofs.Numbers.Mask.{bit-none, and-has, or-has}
+use Rattle.plan.specs.Lent.{usersBy, usersTop, wrongCeiling, usedBy, sharedBy}
 
--- the code's test: c is the ceiling, and top the greatest base
-pub ceiling-said : (n l c top : ℕ) (base ceiling uses : List ℕ) → c ≡ at ceiling l → top ≡ usersTop n base uses l
-    → not (eqb c top) ≡ wrongCeiling n base ceiling uses l
-unfolding wrongCeiling
-ceiling-said n l c top base ceiling uses e h = rw (e, h)
+-- ---- a walk over the tasks
 
--- the greatest of none is 0
-none-top : (f : ℕ → Bool) (g : ℕ → ℕ) (n : ℕ) → count f n ≡ 0 → greatest (λ x. if f x then g x else 0) n ≡ 0
-unfolding count greatest
-none-top f g zero e = refl
-none-top f g (suc k) e = by-test (f k)
-    (λ t. absurd (omega (arith, rw (if-true (f k) (count f k + 1) (count f k) t) at e)))
-    (λ t. omega (arith, if-false (f k) (g k) 0 t, none-top f g k (rw (if-false (f k) (count f k + 1) (count f k) t) at e)))
+-- after i of n tasks
+abbrev pub SharedSoFar : List ℕ → ℕ → ℕ → ℕ → ℕ → Type 0
+SharedSoFar uses n i used shared = (i ≤ n) × (used ≡ usedBy i uses) × (shared ≡ sharedBy i uses)
 
-module _ (p : Plan) (l : ℕ) where
-  top-same : usersTop (p .tasks) (p .base) (p .uses) l ≡ usersBase p l
-  unfolding usersTop usersBase declares
-  top-same = refl
+pub shared-start : (uses : List ℕ) (n : ℕ) → SharedSoFar uses n 0 0 0
+unfolding usedBy sharedBy
+shared-start uses n = (omega arith, refl, refl)
 
-  top-none : users p l ≡ 0 → usersBase p l ≡ 0
-  unfolding users usersBase
-  top-none e = none-top (λ x. declares p x l) (at (p .base)) (p .tasks) e
+-- set is what task i may take
+pub shared-next : (uses : List ℕ) (n i used shared set : ℕ) → SharedSoFar uses n i used shared → i < n → set ≡ at uses i
+    → SharedSoFar uses n (i + 1) (bitOr used set) (bitOr shared (bitAnd used set))
+unfolding usedBy sharedBy
+shared-next uses n i used shared set (l, u, s) h e = rw (add-one i) (omega arith, ap₂ bitOr u e, ap₂ bitOr s (ap₂ bitAnd u e))
 
-  pub ceiling-same : (at (p .ceiling) l ≡ 0 → ⊥) → wrongCeiling (p .tasks) (p .base) (p .ceiling) (p .uses) l ≡ ceilingFault p l
-  unfolding wrongCeiling ceilingFault
-  ceiling-same n = by-test (eqb (users p l) 0)
-      (λ e. let z : usersBase p l ≡ 0 = top-none (eqb-true (users p l) 0 e) in rw (e, top-same, z, ne-eqb (at (p .ceiling) l) 0 n))
-      (λ e. rw (e, top-same))
+pub shared-ends : (uses : List ℕ) (n i used shared : ℕ) → SharedSoFar uses n i used shared → n ≤ i → shared ≡ sharedBy n uses
+shared-ends uses n i used shared (l, u, s) h = let q : i ≡ n = omega arith in s ∙ ap (λ k. sharedBy k uses) q
+
+-- ---- what it comes to
+
+-- one task more, who is a user or not
+one-more : (c : ℕ) (t : Bool) → (leb 1 c || t) ≡ leb 1 (if t then c + 1 else c)
+unfolding if_then_else_
+one-more c true = by-test (leb 1 c) (λ e. rw e (sym (le-leb 1 (c + 1) (omega arith)))) (λ e. rw e (sym (le-leb 1 (c + 1) (omega arith))))
+one-more c false = by-test (leb 1 c) (λ e. rw e) (λ e. rw e)
+
+two-more : (c : ℕ) (t : Bool) → (leb 2 c || (leb 1 c && t)) ≡ leb 2 (if t then c + 1 else c)
+unfolding if_then_else_
+two-more c true = ⊎-elim
+    (λ (q : c < 1). rw (lt-leb 2 c (omega arith), lt-leb 1 c q, lt-leb 2 (c + 1) (omega arith)))
+    (λ (q : 1 ≤ c). rw (le-leb 1 c q, le-leb 2 (c + 1) (omega arith)) (by-test (leb 2 c) (λ e. rw e) (λ e. rw e)))
+    (lt-or-le c 1)
+two-more c false = by-test (leb 2 c) (λ e. rw e) (λ e. rw e (by-test (leb 1 c) (λ d. rw d) (λ d. rw d)))
+
+module _ (uses : List ℕ) (l : ℕ) where
+  used-one : (n : ℕ) → hasBit (usedBy n uses) l ≡ leb 1 (usersBy n uses l)
+  unfolding usedBy usersBy count
+  used-one zero = bit-none l
+  used-one (suc k) =
+      or-has (usedBy k uses) (at uses k) l ∙ ap (λ t. t || hasBit (at uses k) l) (used-one k) ∙ one-more (usersBy k uses l) (hasBit (at uses k) l)
+
+  shared-two : (n : ℕ) → hasBit (sharedBy n uses) l ≡ leb 2 (usersBy n uses l)
+  unfolding sharedBy usersBy count
+  shared-two zero = bit-none l
+  shared-two (suc k) =
+      or-has (sharedBy k uses) (bitAnd (usedBy k uses) (at uses k)) l
+      ∙ ap₂ _||_ (shared-two k) (and-has (usedBy k uses) (at uses k) l ∙ ap (λ t. t && hasBit (at uses k) l) (used-one k))
+      ∙ two-more (usersBy k uses l) (hasBit (at uses k) l)
+
+-- fewer than two are not two
+not-two : (c : ℕ) → not (leb 2 c) ≡ ltb c 2
+not-two c = ⊎-elim (λ (q : c < 2). rw (lt-leb 2 c q, lt-ltb c 2 q)) (λ (q : 2 ≤ c). rw (le-leb 2 c q, le-ltb c 2 q)) (lt-or-le c 2)
+
+pub ceiling-same : (p : Plan) (l : ℕ) → wrongCeiling (p .tasks) (p .base) (p .ceiling) (p .uses) l ≡ ceilingFault p l
+unfolding wrongCeiling ceilingFault users usersBy usersBase usersTop declares
+ceiling-same p l = refl
+
+-- ---- the code's test of lock l
+
+module _ (n shared l : ℕ) (base ceiling uses : List ℕ) (in′ : Bool) (found : shared ≡ sharedBy n uses) (said : in′ ≡ hasBit shared l) where
+  few : not in′ ≡ ltb (usersBy n uses l) 2
+  few = ap not (said ∙ ap (λ s. hasBit s l) found ∙ shared-two uses l n) ∙ not-two (usersBy n uses l)
+
+  pub ceiling-few : in′ ≡ false → true ≡ wrongCeiling n base ceiling uses l
+  unfolding wrongCeiling usersFault
+  ceiling-few e = rw (← few, e)
+
+  -- c is its ceiling, and top the greatest base
+  pub ceiling-said : (c top : ℕ) → in′ ≡ true → c ≡ at ceiling l → top ≡ usersTop n base uses l → not (eqb c top) ≡ wrongCeiling n base ceiling uses l
+  unfolding wrongCeiling usersFault
+  ceiling-said c top e h g = rw (← few, e, h, g)

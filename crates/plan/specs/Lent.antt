@@ -1,23 +1,37 @@
 -- RULES 3 and 13.4: the tests of a plan, and what its bounds are made of, by the arrays that the code is lent for each. Assumes nothing.
 use mathlib.Core.Bool.{Bool, not, _&&_}
 use mathlib.Core.List.{List, [], _∷_}
-use Prim.Native.Nat.{ℕ, _^_}
-use lib.Dec.{eqb, leb, ltb}
+use Prim.Native.Nat.{ℕ, zero, suc, _^_}
+use lib.Bits.{bitAnd, bitOr}
+use lib.Dec.{leb, ltb}
 use lib.ListN.{drop}
 use Rattle.rules.specs.Numbers.Choice.{if_then_else_, allTrue}
-use Rattle.rules.specs.Numbers.Place.{at, every, any, greatest, zeros}
+use Rattle.rules.specs.Numbers.Place.{at, every, any, count, greatest, zeros}
 use Rattle.rules.specs.Numbers.Mask.{hasBit}
-use Rattle.rules.specs.Books.Plan.{taskFault, lockFault}
+use Rattle.rules.specs.Books.Plan.{taskFault, lockFault, usersFault}
 
 -- ---- the users of a lock, among the first n tasks
 
--- the greatest base of those that may take lock l, and 0 without any
+-- how many may take lock l
+unfoldable pub usersBy : ℕ → List ℕ → ℕ → ℕ
+usersBy n uses l = count (λ x. hasBit (at uses x) l) n
+
+-- the greatest base of those that may, and 0 without any
 unfoldable pub usersTop : ℕ → List ℕ → List ℕ → ℕ → ℕ
 usersTop n base uses l = greatest (λ x. if hasBit (at uses x) l then at base x else 0) n
 
--- the ceiling of lock l is another. Of a ceiling above 0 this is all of 7: where nobody uses the lock, the greatest base is 0
+-- 7, of lock l
 unfoldable pub wrongCeiling : ℕ → List ℕ → List ℕ → List ℕ → ℕ → Bool
-wrongCeiling n base ceiling uses l = not (eqb (at ceiling l) (usersTop n base uses l))
+wrongCeiling n base ceiling uses l = usersFault (usersBy n uses l) (at ceiling l) (usersTop n base uses l)
+
+-- for all locks at once, as sets: those that one task may take, and those that two may
+unfoldable pub usedBy : ℕ → List ℕ → ℕ
+usedBy zero uses = 0
+usedBy (suc k) uses = bitOr (usedBy k uses) (at uses k)
+
+unfoldable pub sharedBy : ℕ → List ℕ → ℕ
+sharedBy zero uses = 0
+sharedBy (suc k) uses = bitOr (sharedBy k uses) (bitAnd (usedBy k uses) (at uses k))
 
 -- ---- a plan of n tasks and m locks
 

@@ -1,5 +1,4 @@
-// 7: the ceiling of a lock is not the highest base of its users. A lock that nobody uses is found by
-// the same test: its ceiling is above 0 by now, and the highest base of no users is 0.
+// 7: a lock has fewer than two users, or its ceiling is not the highest base of its users.
 use figures::mask::has_bit;
 use figures::number::greater_byte;
 use rules::capacity::MAX_LOCKS;
@@ -11,7 +10,24 @@ ghost use Rattle.rules.specs.Numbers.Capacity.{maxTasks, maxLocks};
 ghost use Rattle.rules.specs.Numbers.Choice.{if_then_else_};
 ghost use Rattle.rules.specs.Numbers.Place.{firstFrom};
 ghost use Rattle.rules.specs.Numbers.Mask.{hasBit};
-ghost use Rattle.plan.specs.Lent.{usersTop, wrongCeiling};
+ghost use Rattle.plan.specs.Lent.{sharedBy, usersTop, wrongCeiling};
+
+// The locks that two of the first n tasks may take, as a set: one walk over the tasks for all locks.
+pub fn shared_locks(n: usize, uses: &[u32; MAX_TASKS]) -> u32
+    requires { ⌜ n ≤ maxTasks ⌝ }
+    ensures { λ r. ⌜ r ≡ sharedBy n (now (uses .entry)) ⌝ }
+{
+    let mut used: u32 = 0;
+    let mut shared: u32 = 0;
+    let mut x: usize = 0;
+    while x < n {
+        let set = uses[x];
+        shared = shared | (used & set);
+        used = used | set;
+        x += 1;
+    }
+    shared
+}
 
 // The base of a task that may take the locks of this set, if lock l is one of them, and 0 if not.
 fn user_base(base: u8, uses: u32, l: u8) -> u8
@@ -39,17 +55,22 @@ fn users_base(n: usize, base: &[u8; MAX_TASKS], uses: &[u32; MAX_TASKS], l: u8) 
     top
 }
 
-// Whether the ceiling of lock l is another.
+// Whether lock l is none of the shared ones, or its ceiling is another.
 pub fn wrong_ceiling(
     n: usize,
+    shared: u32,
     base: &[u8; MAX_TASKS],
     ceiling: &[u8; MAX_LOCKS],
     uses: &[u32; MAX_TASKS],
     l: usize,
 ) -> bool
     requires { ⌜ (n ≤ maxTasks) × (l < maxLocks) ⌝ }
+    requires { ⌜ shared ≡ sharedBy n (now uses) ⌝ }
     ensures { λ r. ⌜ r ≡ wrongCeiling n (now (base .entry)) (now (ceiling .entry)) (now (uses .entry)) l ⌝ }
 {
+    if !has_bit(shared, l as u8) {
+        return true;
+    }
     let top = users_base(n, base, uses, l as u8);
     ceiling[l] != top
 }
@@ -65,9 +86,10 @@ fn first_wrong(
     requires { ⌜ (n ≤ maxTasks) × (m ≤ maxLocks) ⌝ }
     ensures { λ r. ⌜ r ≡ firstFrom (wrongCeiling n (now (base .entry)) (now (ceiling .entry)) (now (uses .entry))) 0 m ⌝ }
 {
+    let shared = shared_locks(n, uses);
     let mut l: usize = 0;
     while l < m {
-        if wrong_ceiling(n, base, ceiling, uses, l) {
+        if wrong_ceiling(n, shared, base, ceiling, uses, l) {
             return l;
         }
         l += 1;

@@ -1,5 +1,6 @@
 // Whether a plan that is handed in obeys 4 to 7, and holds 0 in its unused places. It was taken apart:
 // each test is lent the arrays that it asks.
+use crate::ceilings::shared_locks;
 use crate::ceilings::wrong_ceiling;
 use figures::spare::spare8;
 use figures::spare::spare16;
@@ -15,7 +16,7 @@ ghost use Rattle.rules.specs.Numbers.Capacity.{maxLocks, maxTasks};
 ghost use Rattle.rules.specs.Numbers.Choice.{allTrue};
 ghost use Rattle.rules.specs.Numbers.Place.{every};
 ghost use Rattle.rules.specs.Books.Plan.{lockFault, taskFault};
-ghost use Rattle.plan.specs.Lent.{lockBy, partsBy, spareBy, taskBy};
+ghost use Rattle.plan.specs.Lent.{lockBy, partsBy, sharedBy, spareBy, taskBy};
 
 fn legal_task(base: u8, uses: u32, m: usize) -> bool
     requires { ⌜ m ≤ maxLocks ⌝ }
@@ -56,6 +57,7 @@ fn legal_lock(ceiling: u8, limit: u16, wrong: bool) -> bool
 
 fn lock_obeys(
     n: usize,
+    shared: u32,
     base: &[u8; MAX_TASKS],
     ceiling: &[u8; MAX_LOCKS],
     limit: &[u16; MAX_LOCKS],
@@ -63,9 +65,10 @@ fn lock_obeys(
     l: usize,
 ) -> bool
     requires { ⌜ (n ≤ maxTasks) × (l < maxLocks) ⌝ }
+    requires { ⌜ shared ≡ sharedBy n (now uses) ⌝ }
     ensures { λ r. ⌜ r ≡ lockBy n (now (base .entry)) (now (ceiling .entry)) (now (limit .entry)) (now (uses .entry)) l ⌝ }
 {
-    let wrong = wrong_ceiling(n, base, ceiling, uses, l);
+    let wrong = wrong_ceiling(n, shared, base, ceiling, uses, l);
     legal_lock(ceiling[l], limit[l], wrong)
 }
 
@@ -80,9 +83,10 @@ fn locks_obey(
     requires { ⌜ (n ≤ maxTasks) × (m ≤ maxLocks) ⌝ }
     ensures { λ r. ⌜ r ≡ every (lockBy n (now (base .entry)) (now (ceiling .entry)) (now (limit .entry)) (now (uses .entry))) m ⌝ }
 {
+    let shared = shared_locks(n, uses);
     let mut l: usize = 0;
     while l < m {
-        if !lock_obeys(n, base, ceiling, limit, uses, l) {
+        if !lock_obeys(n, shared, base, ceiling, limit, uses, l) {
             return false;
         }
         l += 1;

@@ -1,13 +1,14 @@
--- A plan that a load or a check of the code gives, or that `obeys` accepts, obeys the rules. Assumes nothing.
+-- A plan that a load or a check of the code gives, or that `obeys` accepts, obeys the rules; so two different tasks may take each of its locks.
+-- Assumes nothing.
 use mathlib.Core.Path.{_≡_, sym, _∙_, ap, subst}
 use mathlib.Core.Bool.{true}
 use mathlib.Core.List.{List}
-use Prim.Native.Nat.{ℕ}
+use Prim.Native.Nat.{ℕ, _<_}
 use contract.Lifetimes.{Lfts}
 use lib.ListN.{length}
 use denote.Ref.{now}
 use Rattle.rules.specs.Numbers.Answer.{verdictNumber}
-use Rattle.rules.specs.Books.Plan.{Obeys}
+use Rattle.rules.specs.Books.Plan.{Shared, Obeys}
 use Rattle.rules.specs.Books.Load.{loadOf}
 use Rattle.rules.specs.Books.Book.{checkedOf}
 use Rattle.rules.specs.declared.plan.Plan.{Plan}
@@ -47,3 +48,7 @@ recorder-table-obeys ts locks uses r h = subst (λ (l : DeviceLoad). l .number �
 
 pub recorder-check-obeys : (κs : Lfts 1) (a : _) (b : _) (r : DeviceCheck) → recorder-check.Post κs a r b → r .number ≡ 0 → Obeys (r .plan)
 recorder-check-obeys κs a b r h = subst (λ (c : DeviceCheck). c .number ≡ 0 → Obeys (c .plan)) (sym h) (demand1 .check (now (a .0)) (a .1 .0) .obeys)
+
+-- each lock of such a plan is shared
+pub obeying-shares : (p : Plan) → Obeys p → (l : ℕ) → l < p .locks → Shared p l
+obeying-shares p O l h = demand1 .seven p l .0 (O .ceilings l h) .0

@@ -1,17 +1,37 @@
 -- What the theory uses of a plan that obeys the rules. Assumes nothing.
 use mathlib.Core.Path.{_≡_}
-use mathlib.Core.Bool.{true, not}
+use mathlib.Core.Bool.{Bool, true, false, not}
+use mathlib.Core.Logic.{_↔_}
 use Prim.Native.Nat.{ℕ, _≤_, _<_}
 use native.Mathlib.Omega.{arith}
 use lib.Dec.{eqb, ltb}
-use borrow.Author.Tests.{eqb-true, eqb-false, ltb-false, not-false}
+use borrow.Author.Tests.{eqb-true, eqb-false, eq-eqb, ltb-false, le-ltb, not-false}
 use Rattle.rules.specs.Numbers.Capacity.{maxTasks, maxLocks}
 use Rattle.rules.specs.Numbers.Choice.{if_then_else_}
-use Rattle.rules.specs.Numbers.Place.{at}
-use Rattle.rules.specs.Books.Plan.{most, countFault, taskFault, declares, users, usersBase, ceilingFault, Obeys}
+use Rattle.rules.specs.Numbers.Place.{at, count}
+use Rattle.rules.specs.Books.Plan.{most, countFault, taskFault, declares, Shared, users, usersBase, usersFault, ceilingFault, Obeys}
 use Rattle.rules.specs.declared.plan.Plan.{Plan}
 use Rattle.rules.proofs.Numbers.Choice.{if-true, or-false}
-use Rattle.rules.proofs.Numbers.Place.{greatest-all}
+use Rattle.rules.proofs.Numbers.Place.{count-two, two-count, greatest-all}
+
+-- what the test of 7 passes
+pub seven : (p : Plan) (l : ℕ) → (ceilingFault p l ≡ false) ↔ (Shared p l × (at (p .ceiling) l ≡ usersBase p l))
+unfolding ceilingFault usersFault users
+seven p l = (
+  λ e.
+      let (many, right) = or-false _ _ e in
+      let (x, y, d, k, a, b) = count-two may (p .tasks) (ltb-false (count may (p .tasks)) 2 many) in (
+        record { one = x; other = y; different = d; known = k; oneMay = a; otherMay = b },
+        eqb-true (at (p .ceiling) l) (usersBase p l) (not-false _ right),
+      ),
+  λ (S, e). rw (
+    le-ltb (count may (p .tasks)) 2 (two-count may (p .tasks) (S .one) (S .other) (S .different) (S .known) (S .oneMay) (S .otherMay)),
+    eq-eqb (at (p .ceiling) l) (usersBase p l) e,
+  ),
+)
+  where
+    may : ℕ → Bool
+    may x = declares p x l
 
 module _ {p : Plan} (O : Obeys p) where
   pub few-tasks : p .tasks ≤ maxTasks
@@ -27,10 +47,7 @@ module _ {p : Plan} (O : Obeys p) where
   base-some t h = omega (arith, eqb-false (at (p .base) t) 0 (or-false (eqb (at (p .base) t) 0) (not (eqb 0 0)) (O .bases t h) .0))
 
   ceiling-is : (l : ℕ) → l < p .locks → at (p .ceiling) l ≡ usersBase p l
-  unfolding ceilingFault
-  ceiling-is l h =
-      eqb-true (at (p .ceiling) l) (usersBase p l)
-      (not-false (eqb (at (p .ceiling) l) (usersBase p l)) (or-false (eqb (users p l) 0) (not (eqb (at (p .ceiling) l) (usersBase p l))) (O .ceilings l h) .1))
+  ceiling-is l h = seven p l .0 (O .ceilings l h) .1
 
   -- a lock's ceiling is at least the base of each of its users
   pub ceiling-user : (x l : ℕ) → x < p .tasks → l < p .locks → declares p x l ≡ true → at (p .base) x ≤ at (p .ceiling) l

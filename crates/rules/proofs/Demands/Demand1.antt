@@ -33,6 +33,7 @@ use Rattle.rules.proofs.Numbers.Order.{among, once, ofTest, given-exact
 use Rattle.rules.proofs.Numbers.Refusals.{numbered}
 use Rattle.rules.proofs.Numbers.Checks.{ofCheck, refused-not, clean-for, spare-check, given-at-exactly, number-given-at, none-refused-at}
 use Rattle.rules.proofs.Books.Loaded.{loaded-obeys}
+use Rattle.rules.proofs.Books.Obeyed.{seven}
 use Rattle.rules.proofs.Books.Passes.{check-is, checks-once, passed-obeys}
 use Rattle.rules.proofs.Replays.OneStep.{answered-number}
 
@@ -180,4 +181,4 @@ module _ (tasks locks uses events : List ℕ) where
       go (Verdict.Refused why place) J = record { judged = J; none = λ _. refl; bytes = λ _. refl }
 
 pub demand1 : Demand1
-demand1 = record { step = step-refuses; load = load-refuses; check = book-refuses; replay = replay-refuses; write = write-refuses }
+demand1 = record { step = step-refuses; seven = seven; load = load-refuses; check = book-refuses; replay = replay-refuses; write = write-refuses }

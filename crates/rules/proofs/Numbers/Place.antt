@@ -115,36 +115,37 @@ module _ (f : ℕ → Bool) where
 
   -- ---- count
 
-  -- a loop that has counted the first i of n places
-  abbrev pub CountSoFar : ℕ → ℕ → ℕ → Type 0
-  CountSoFar n i c = (i ≤ n) × (c ≡ count f i)
+  -- what holds at x below suc k and not at k holds below k
+  lower : (k x : ℕ) → x < suc k → f x ≡ true → f k ≡ false → x < k
+  lower k x l t e = ⊎-elim (λ (q : x < k). q) (λ (q : k ≤ x). let s : x ≡ k = omega arith in untrue (sym t ∙ ap f s ∙ e)) (lt-or-le x k)
 
-  pub count-start : (n : ℕ) → CountSoFar n 0 0
+  -- where one place or more is counted, f holds at some place, and the other way round
+  pub count-one : (n : ℕ) → 1 ≤ count f n → (x : ℕ) × (x < n) × (f x ≡ true)
   unfolding count
-  count-start n = (omega arith, refl)
+  count-one zero h = absurd (omega arith)
+  count-one (suc k) h = by-test (f k) (λ e. (k, omega arith, e))
+      (λ e. let (x, l, t) = count-one k (rw (if-false (f k) (count f k + 1) (count f k) e) at h) in (x, omega arith, t))
 
-  pub count-next : (n i c d : ℕ) (t : Bool) → CountSoFar n i c → i < n → t ≡ f i → d ≡ (if t then c + 1 else c) → CountSoFar n (i + 1) d
+  pub one-count : (n x : ℕ) → x < n → f x ≡ true → 1 ≤ count f n
   unfolding count
-  count-next n i c d t e l h g = (omega arith, rw (add-one i) (g ∙ ap₂ (λ b v. if b then v + 1 else v) h (e .1)))
+  one-count zero x l t = absurd (not-suc-le-zero l)
+  one-count (suc k) x l t = by-test (f k) (λ e. rw (if-true (f k) (count f k + 1) (count f k) e) (omega arith))
+      (λ e. rw (if-false (f k) (count f k + 1) (count f k) e) (one-count k x (lower k x l t e) t))
 
-  pub count-ends : (n i c : ℕ) → CountSoFar n i c → n ≤ i → c ≡ count f n
-  count-ends n i c e b = let q : i ≡ n = omega arith in e .1 ∙ ap (count f) q
-
-  pub count-most : (i : ℕ) → count f i ≤ i
+  -- where two or more are counted, it holds at two different places, and the other way round
+  pub count-two : (n : ℕ) → 2 ≤ count f n → (x : ℕ) × (y : ℕ) × (x < y) × (y < n) × (f x ≡ true) × (f y ≡ true)
   unfolding count
-  count-most zero = omega arith
-  count-most (suc k) = by-test (f k) (λ e. rw (if-true (f k) (count f k + 1) (count f k) e) (omega (arith, count-most k)))
-      (λ e. rw (if-false (f k) (count f k + 1) (count f k) e) (omega (arith, count-most k)))
+  count-two zero h = absurd (omega arith)
+  count-two (suc k) h = by-test (f k)
+      (λ e. let (x, l, t) = count-one k (omega (arith, rw (if-true (f k) (count f k + 1) (count f k) e) at h)) in (x, k, l, omega arith, t, e))
+      (λ e. let (x, y, l, m, t, u) = count-two k (rw (if-false (f k) (count f k + 1) (count f k) e) at h) in (x, y, l, omega arith, t, u))
 
-  pub count-room : (n i c k : ℕ) → CountSoFar n i c → i < n → n ≤ k → c < k
-  count-room n i c k e l h = omega (arith, count-most i)
-
-  -- a count above 0 has somebody in it, and the other way round
-  pub count-some : (n : ℕ) → 0 < count f n → (x : ℕ) × (x < n) × (f x ≡ true)
+  pub two-count : (n x y : ℕ) → x < y → y < n → f x ≡ true → f y ≡ true → 2 ≤ count f n
   unfolding count
-  count-some zero h = absurd (not-suc-le-zero h)
-  count-some (suc k) h = by-test (f k) (λ e. (k, omega arith, e))
-      (λ e. let (x, l, q) = count-some k (rw (if-false (f k) (count f k + 1) (count f k) e) at h) in (x, omega arith, q))
+  two-count zero x y l m t u = absurd (not-suc-le-zero m)
+  two-count (suc k) x y l m t u = by-test (f k)
+      (λ e. rw (if-true (f k) (count f k + 1) (count f k) e) (omega (arith, one-count k x (omega arith) t)))
+      (λ e. rw (if-false (f k) (count f k + 1) (count f k) e) (two-count k x y l (lower k y m u e) t u))
 
   -- ---- the first place
 

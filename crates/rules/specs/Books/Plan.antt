@@ -1,6 +1,6 @@
 -- RULES 3: what a plan must obey, and the faults that 2 and 4 to 7 refuse. Assumes nothing.
 use mathlib.Core.Path.{_≡_}
-use mathlib.Core.Bool.{Bool, false, not, _&&_, _||_}
+use mathlib.Core.Bool.{Bool, true, false, not, _&&_, _||_}
 use Prim.Native.Nat.{ℕ, _≤_, _<_, _^_}
 use lib.Dec.{eqb, ltb}
 use Rattle.rules.specs.Numbers.Capacity.{maxTasks, maxLocks, maxUses, maxEvents}
@@ -29,6 +29,15 @@ lockFault ceiling second limit = eqb ceiling 0 || not (eqb second 0) || eqb limi
 unfoldable pub declares : Plan → ℕ → ℕ → Bool
 declares p x l = hasBit (at (p .uses) x) l
 
+-- lock l is shared: two different tasks of the plan may take it
+pub record Shared (p : Plan) (l : ℕ) : Type 0 where
+  pub one : ℕ
+  pub other : ℕ
+  pub different : one < other
+  pub known : other < p .tasks
+  pub oneMay : declares p one l ≡ true
+  pub otherMay : declares p other l ≡ true
+
 -- how many users a lock has, and the greatest base among them
 unfoldable pub users : Plan → ℕ → ℕ
 users p l = count (λ x. declares p x l) (p .tasks)
@@ -36,9 +45,12 @@ users p l = count (λ x. declares p x l) (p .tasks)
 unfoldable pub usersBase : Plan → ℕ → ℕ
 usersBase p l = greatest (λ x. if declares p x l then at (p .base) x else 0) (p .tasks)
 
--- 7: nobody uses it, or its ceiling is not the highest base of its users
+-- 7: fewer than two users, or a ceiling that is not the highest base of its users
+unfoldable pub usersFault : ℕ → ℕ → ℕ → Bool
+usersFault users ceiling highest = ltb users 2 || not (eqb ceiling highest)
+
 unfoldable pub ceilingFault : Plan → ℕ → Bool
-ceilingFault p l = eqb (users p l) 0 || not (eqb (at (p .ceiling) l) (usersBase p l))
+ceilingFault p l = usersFault (users p l) (at (p .ceiling) l) (usersBase p l)
 
 -- a plan obeys 2 and 4 to 7
 pub record Obeys (p : Plan) : Type 0 where
@@ -54,7 +66,7 @@ pub record Obeys (p : Plan) : Type 0 where
   pub limitBytes : (l : ℕ) → at (p .limit) l < 2 ^ 16
   -- 6: a use names a lock of the plan
   pub uses : (t : ℕ) → t < p .tasks → at (p .uses) t < 2 ^ p .locks
-  -- 7: somebody uses each lock, and its ceiling is the highest base of its users
+  -- 7: each lock has two users or more, and its ceiling is the highest base of its users
   pub ceilings : (l : ℕ) → l < p .locks → ceilingFault p l ≡ false
   -- places past the last task and the last lock hold 0
   pub noTask : (t : ℕ) → p .tasks ≤ t → (at (p .base) t ≡ 0) × (at (p .uses) t ≡ 0)

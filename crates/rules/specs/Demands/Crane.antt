@@ -1,4 +1,5 @@
--- RULES 18.1, 18.2, 18.6, 18.7: the crane plan and its runs P1 to P12, and one for the calls, by both protocols, as one table under one claim. Assumes nothing.
+-- RULES 18.1, 18.2, 18.6 to 18.8: the crane plan and its runs P1 to P12, one for the calls, by both protocols, and the plan with other users, as one table
+-- under one claim. Assumes nothing.
 use mathlib.Core.Bool.{Bool, true, false, _&&_}
 use mathlib.Core.List.{List, [], _∷_, _++_}
 use Prim.Native.Nat.{ℕ, suc}
@@ -7,11 +8,11 @@ use lib.ListN.{length, replicate, take, drop}
 use Rattle.rules.specs.Numbers.Choice.{if_then_else_, allTrue}
 use Rattle.rules.specs.Numbers.Place.{every, any, count, greatest, firstFrom, from, tabulate, renewed, zeros}
 use Rattle.rules.specs.Numbers.Refusal.{numberOf, firstTrue, found, firstFault}
-use Rattle.rules.specs.Numbers.Answer.{verdictNumber, verdictPlace}
+use Rattle.rules.specs.Numbers.Answer.{answerNumber, verdictNumber, verdictPlace}
 use Rattle.rules.specs.Books.Event.{eventFault, eventOf, numberFault}
 use Rattle.rules.specs.Numbers.Mask.{hasBit, withBit}
-use Rattle.rules.specs.Books.Plan.{most, countFault, taskFault, lockFault, declares, users, usersBase, ceilingFault}
-use Rattle.rules.specs.Books.Load.{taskFaultAt, lockFaultAt, countFaultOf, useFault, masksOf, planOf, recordChecks, loadChecks}
+use Rattle.rules.specs.Books.Plan.{most, countFault, taskFault, lockFault, declares, users, usersBase, usersFault, ceilingFault}
+use Rattle.rules.specs.Books.Load.{taskFaultAt, lockFaultAt, countFaultOf, useFault, masksOf, planOf, recordChecks, loadChecks, loadedAs, loadOf}
 use Rattle.rules.specs.Books.Book.{sizeOf, bodyAt, layoutFault, contentsChecks, eventChecks, checkOf}
 use Rattle.rules.specs.Books.Bytes.{wordBytes, longBytes, bookOf}
 use Rattle.rules.specs.Books.Write.{wholeChecks, writeChecks, wroteAs, writeOf}
@@ -40,6 +41,7 @@ use Rattle.rules.specs.declared.state.State.{State}
 use Rattle.rules.specs.declared.event.Event.{Event}
 use Rattle.rules.specs.declared.event.Event.the-variants.{Release, Acquire, Unlock, Work, Finish, Tick}
 use Rattle.rules.specs.declared.answer.Answer.{Answer}
+use Rattle.rules.specs.declared.answer.Verdict.{Verdict}
 
 -- RULES 18.1: the bases of four tasks; the limit and ceiling of two locks; the lock and task of four uses; and the events of P1: amount, id and kind
 taskNumbers : List ℕ
@@ -87,6 +89,8 @@ data Case : Type 0 where
   replay : Protocol → List ℕ → List ℕ → List ℕ → Case
   -- the plan with events as numbers, written into so many bytes of 7: the number, the place and the length, and the bytes
   write : List ℕ → ℕ → List ℕ → List ℕ → Case
+  -- the plan with these uses: the number and the place that its load, the check of its book and the writer give, and the number of a tick in a fresh state
+  withUses : List ℕ → ℕ → ℕ → ℕ → Case
 
 -- the end: the running task, the user and the second word and the lazy calls; and the eager calls and the delays of the four tasks
 endOf : State → List ℕ
@@ -135,6 +139,11 @@ right (replay pr b rows end) =
 right (write events room answer bytes) =
     let w = writeOf taskNumbers lockNumbers useNumbers events (replicate room 7) in
     same (verdictNumber (w .verdict) ∷ verdictPlace (w .verdict) ∷ w .length ∷ []) answer && same (w .bytes) bytes
+right (withUses uses number place tick) =
+    let given : Verdict → Bool = λ v. same (verdictNumber v ∷ verdictPlace v ∷ []) (number ∷ place ∷ []) in
+    given (loadOf taskNumbers lockNumbers uses .verdict) && given (checkOf (bookOf taskNumbers lockNumbers uses eventNumbers) 28)
+    && given (writeOf taskNumbers lockNumbers uses eventNumbers (replicate 84 7) .verdict)
+    && eqb (answerNumber (stepOf Second (planOf taskNumbers lockNumbers uses) freshOf Tick .answer)) tick
 
 all : List Case → Bool
 all [] = true
@@ -208,14 +217,24 @@ cases =
     ∷ (0 ∷ 5 ∷ 0 ∷ 0 ∷ 5 ∷ 0 ∷ []) ∷ (0 ∷ 1 ∷ 0 ∷ 0 ∷ 1 ∷ 1 ∷ []) ∷ (255 ∷ 0 ∷ 0 ∷ 0 ∷ 0 ∷ 0 ∷ []) ∷ (1 ∷ 3 ∷ 0 ∷ 0 ∷ 3 ∷ 0 ∷ [])
     ∷ (1 ∷ 3 ∷ 0 ∷ 0 ∷ 3 ∷ 0 ∷ []) ∷ (1 ∷ 3 ∷ 0 ∷ 0 ∷ 3 ∷ 0 ∷ []) ∷ (255 ∷ 0 ∷ 0 ∷ 0 ∷ 0 ∷ 0 ∷ []) ∷ [])
     (255 ∷ 0 ∷ 0 ∷ 0 ∷ 0 ∷ 1 ∷ []) (2 ∷ 0 ∷ 0 ∷ 0 ∷ 0 ∷ [])
+    -- RULES 18.8: two users for each lock; lock 0 without any, with task 2 alone, whose base is the ceiling, and with task 0 alone; the same of lock 1, with
+    -- task 1 alone and with task 0 alone
+    ∷ withUses useNumbers 0 0 0
+    ∷ withUses (0x0100 ∷ 0x0101 ∷ []) 7 0 10
+    ∷ withUses (0x0100 ∷ 0x0101 ∷ 0x0002 ∷ []) 7 0 10
+    ∷ withUses (0x0000 ∷ 0x0100 ∷ 0x0101 ∷ []) 7 0 10
+    ∷ withUses (0x0000 ∷ 0x0002 ∷ []) 7 1 10
+    ∷ withUses (0x0000 ∷ 0x0101 ∷ 0x0002 ∷ []) 7 1 10
+    ∷ withUses (0x0000 ∷ 0x0100 ∷ 0x0002 ∷ []) 7 1 10
     ∷ []
 
 table : T (all cases)
 unfolding taskNumbers lockNumbers useNumbers eventNumbers crane book endOf rowBy rowOf rowsOf same sames agree ranRight right all cases
-    if_then_else_ allTrue every any count greatest firstFrom from renewed zeros numberOf firstTrue found firstFault verdictNumber verdictPlace eventFault
-    eventOf numberFault hasBit withBit
-    most countFault taskFault lockFault declares users usersBase ceilingFault taskFaultAt lockFaultAt countFaultOf useFault masksOf planOf recordChecks
-    loadChecks sizeOf bodyAt layoutFault contentsChecks eventChecks checkOf wordBytes longBytes bookOf wholeChecks writeChecks wroteAs writeOf
+    if_then_else_ allTrue every any count greatest firstFrom from renewed zeros numberOf firstTrue found firstFault answerNumber verdictNumber verdictPlace
+    eventFault eventOf numberFault hasBit withBit
+    most countFault taskFault lockFault declares users usersBase usersFault ceilingFault taskFaultAt lockFaultAt countFaultOf useFault masksOf planOf
+    recordChecks loadChecks loadedAs loadOf sizeOf bodyAt layoutFault contentsChecks eventChecks checkOf
+    wordBytes longBytes bookOf wholeChecks writeChecks wroteAs writeOf
     has priority saves holds priorityOf rankOf earlier earliest elected elsewhere notNewest pastLimit testsOf releaseOrder acquireOrder unlockOrder workOrder
     finishOrder refusalOf differs eagerCalls charged delayed figuresAfter runningOf settle eagerTest eagerStep
     secondWord callsFor runsOn switched stays afterRelease afterAcquire restored afterUnlock wordsAfter lazyCall keptOf savedOf ownerOf

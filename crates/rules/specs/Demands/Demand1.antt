@@ -2,13 +2,14 @@
 -- refusal changes nothing. Assumes nothing.
 use mathlib.Core.Path.{_≡_}
 use mathlib.Core.Logic.{_↔_}
-use mathlib.Core.Bool.{Bool, true, not}
+use mathlib.Core.Bool.{Bool, true, false, not}
 use mathlib.Core.List.{List, _∷_, _++_}
 use Prim.Native.Nat.{ℕ, _<_}
 use lib.ListN.{length, take, drop}
 use Rattle.rules.specs.Numbers.Refusal.{numberOf, firstTrue, testFor, testsBefore, Check, Offended}
 use Rattle.rules.specs.Numbers.Answer.{answerNumber, answerCalls, verdictNumber, verdictPlace}
-use Rattle.rules.specs.Books.Plan.{Obeys}
+use Rattle.rules.specs.Numbers.Place.{at}
+use Rattle.rules.specs.Books.Plan.{Shared, usersBase, ceilingFault, Obeys}
 use Rattle.rules.specs.Books.Load.{blankPlan, loadChecks, loadOf}
 use Rattle.rules.specs.Books.Book.{tasksOf, locksOf, usesOf, contentsChecks, eventChecks, checkOf, checkedOf}
 use Rattle.rules.specs.Books.Write.{writeChecks, Wrote, writeOf}
@@ -100,6 +101,8 @@ pub record WriteRefuses (tasks locks uses events buffer : List ℕ) (w : Wrote) 
 
 pub record Demand1 : Type 0 where
   pub step : (pr : Protocol) (p : Plan) (s : State) (e : Event) → StepRefuses pr p s e (stepOf pr p s e)
+  -- 7 passes a lock exactly where two different tasks may take it and its ceiling is the highest base of its users
+  pub seven : (p : Plan) (l : ℕ) → (ceilingFault p l ≡ false) ↔ (Shared p l × (at (p .ceiling) l ≡ usersBase p l))
   pub load : (tasks locks uses : List ℕ) → LoadRefuses tasks locks uses (loadOf tasks locks uses)
   pub check : (b : List ℕ) (room : ℕ) → BookRefuses b room (checkedOf b room)
   pub replay : (pr : Protocol) (b rows : List ℕ) → ReplayRefuses b rows (replayOf pr b rows)

@@ -23,7 +23,7 @@ numberOf Refusal.WrongTask = 4
 numberOf Refusal.WrongLock = 5
 -- a use names a task or a lock that is not there, or does not come after the use before it
 numberOf Refusal.WrongUse = 6
--- nobody uses a lock, or its ceiling is not the highest base of its users
+-- a lock has fewer than two users, or its ceiling is not the highest base of its users
 numberOf Refusal.WrongCeiling = 7
 -- a record of no event's kind, with something in a field without use, or that works no units
 numberOf Refusal.WrongEvent = 8

@@ -8,14 +8,14 @@ use Rattle.plan.proofs.obey.locks_obey.Statement.{statement}
 use Rattle.plan.proofs.obey.locks_obey.Tie as tie
 
 abbrev Inv-loop : tie.InvT-loop
-Inv-loop n m base ceiling limit uses l₀ l = AllSoFar (lockBy n base ceiling limit uses) m l
+Inv-loop n m base ceiling limit uses shared l₀ l = AllSoFar (lockBy n base ceiling limit uses) m l
 
 abbrev μ-loop : tie.MeasureT-loop
-μ-loop n m base ceiling limit uses l₀ l = m - l
+μ-loop n m base ceiling limit uses shared l₀ l = m - l
 
 pub locks-obey-spec : {M : Type 1} → statement M
 locks-obey-spec =
     tie.close
     (tie.spec
-    Inv-loop μ-loop (λ c. search every-start) (λ c κs. search needs) (λ c. search (every-fails, flags))
+    Inv-loop μ-loop (λ c κs. search needs) (λ c. search every-start) (λ c κs. search needs) (λ c. search (every-fails, flags))
     (λ c. search needs) (λ c. search needs) (λ c. search (every-next, flags)) (λ c. search every-ends))

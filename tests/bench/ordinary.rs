@@ -165,6 +165,7 @@ pub fn load(
         plan.limit[lock] = limit;
     }
     let mut before = None;
+    let mut users = [0u8; MOST_LOCKS];
     let mut greatest = [0; MOST_LOCKS];
     for (place, record) in uses.enumerate() {
         let (task, lock) = (usize::from(record[0]), usize::from(record[1]));
@@ -173,10 +174,10 @@ pub fn load(
         }
         before = Some((task, lock));
         plan.uses[task] |= 1 << lock;
+        users[lock] += 1;
         greatest[lock] = plan.base[task].max(greatest[lock]);
     }
-    // No base is 0, so a lock without users has another ceiling too.
-    match (0..plan.locks).find(|&lock| plan.ceiling[lock] != greatest[lock]) {
+    match (0..plan.locks).find(|&lock| users[lock] < 2 || plan.ceiling[lock] != greatest[lock]) {
         Some(lock) => Err(Refused(7, lock)),
         None => Ok(plan),
     }

@@ -62,20 +62,23 @@ fn plan_is_right(plan: &Plan) -> bool {
     }
     let base = &plan.base[..tasks];
     let uses = &plan.uses[..tasks];
-    // The greatest base among the users of each lock; 0 without any.
+    // How many users each lock has, and the greatest base among them; 0 without any.
+    let mut users = [0u8; MOST_LOCKS];
     let mut greatest = [0; MOST_LOCKS];
     for (&base, &uses) in base.iter().zip(uses) {
         let mut left = uses;
         while left != 0 {
             let lock = left.trailing_zeros() as usize;
+            users[lock] += 1;
             greatest[lock] = base.max(greatest[lock]);
             left &= left - 1;
         }
     }
-    // So a lock that the plan has not has no users, and each that it has has some.
+    // So a lock that the plan has not has no users.
     !base.contains(&0)
         && !plan.ceiling[..locks].contains(&0)
         && !plan.limit[..locks].contains(&0)
+        && users[..locks].iter().all(|&count| count >= 2)
         && plan.ceiling == greatest
         && all_0(&plan.base[tasks..])
         && all_0(&plan.uses[tasks..])

@@ -59,9 +59,38 @@ static struct recorder_state step_by(uint8_t protocol, struct recorder_plan plan
     return r.state;
 }
 
+/* The crane plan with other uses: what its load answers, and a tick in a fresh state of the plan with these uses. */
+static void load_uses(const struct recorder_plan *crane, const uint16_t *uses, size_t count) {
+    const struct recorder_task tasks[] = {{1, 0}, {3, 0}, {5, 0}, {7, 0}};
+    const uint32_t locks[] = {5 + 4 * 65536, 3 + 10 * 65536};
+    struct recorder_load l = recorder_load_table(tasks, COUNT(tasks), locks, COUNT(locks), uses, count);
+    struct recorder_plan plan = *crane;
+    for (size_t task = 0; task < COUNT(tasks); task++) plan.uses[task] = 0;
+    for (size_t i = 0; i < count; i++) plan.uses[uses[i] % 256] |= 1u << uses[i] / 256;
+    struct recorder_step r = recorder_step(RECORDER_SECOND, plan, recorder_fresh(), RECORDER_TICK, 0, 0);
+    printf("uses");
+    for (size_t i = 0; i < count; i++) printf(" %u-%u", uses[i] % 256u, uses[i] / 256u);
+    printf(": load %u %zu tasks %zu, tick %u\n", (unsigned)l.number, l.place, l.plan.tasks, r.number);
+}
+
+/* Two users for each lock; lock 0 without any, with the one whose base is its ceiling, and with the other one; the same
+ * of lock 1; both users of lock 0 and one more. */
+static void users(const struct recorder_plan *crane) {
+    enum { A0 = 0, A1 = 0 + 1 * 256, B0 = 1, B1 = 1 + 1 * 256, C0 = 2 };
+    load_uses(crane, (const uint16_t[]){A0, A1, B1, C0}, 4);
+    load_uses(crane, (const uint16_t[]){A1, B1}, 2);
+    load_uses(crane, (const uint16_t[]){A1, B1, C0}, 3);
+    load_uses(crane, (const uint16_t[]){A0, A1, B1}, 3);
+    load_uses(crane, (const uint16_t[]){A0, C0}, 2);
+    load_uses(crane, (const uint16_t[]){A0, B1, C0}, 3);
+    load_uses(crane, (const uint16_t[]){A0, A1, C0}, 3);
+    load_uses(crane, (const uint16_t[]){A0, A1, B0, B1, C0}, 5);
+}
+
 int main(void) {
     load(4);
     struct recorder_plan plan = load(3).plan;
+    users(&plan);
     struct recorder_state s = recorder_fresh();
     show(&s);
     s = step(plan, s, RECORDER_RELEASE, 0, 0);

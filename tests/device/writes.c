@@ -35,6 +35,8 @@ int main(void) {
     write("a finish with an amount", use, lock, wrong, COUNT(wrong), sizeof buffer);
     write("the same, a byte short", use, lock, wrong, COUNT(wrong), 67);
     write("a ceiling of 4", use, 4 + 4 * 65536, wrong, COUNT(wrong), sizeof buffer);
+    /* task 2 uses lock 1: lock 0 has one user, whose base is its ceiling, and lock 1 another ceiling than task 2's base */
+    write("one user of lock 0", 2 + 1 * 256, 1 + 4 * 65536, events, COUNT(events), sizeof buffer);
     write("a use of no lock", 2 + 2 * 256, 4 + 4 * 65536, wrong, COUNT(wrong), sizeof buffer);
     return 0;
 }

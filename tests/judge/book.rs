@@ -6,6 +6,7 @@
 use crate::draft::Draft;
 use crate::event::Event;
 use crate::plan::{Lock, Plan, MOST_EVENTS, MOST_LOCKS, MOST_TASKS, MOST_USES};
+use crate::wrong::Wrong;
 
 #[derive(Clone, Copy, Debug, PartialEq, Eq)]
 pub struct Refusal {
@@ -36,10 +37,15 @@ pub const LARGEST_BOOK: usize = CONTENTS_BYTES
     + RECORD_BYTES[3] * MOST_EVENTS;
 
 pub fn read(bytes: &[u8], row_space: usize) -> Result<Book, Refusal> {
+    read_by(bytes, row_space, Wrong::Nothing)
+}
+
+/// The same by a judge that may have gone wrong.
+pub fn read_by(bytes: &[u8], row_space: usize, wrong: Wrong) -> Result<Book, Refusal> {
     test_1_length(bytes)?;
     test_2_counts(counts(bytes))?;
     let records = test_3_contents(bytes)?;
-    let plan = test_plan(&records)?;
+    let plan = test_plan(&records, wrong)?;
     let events = test_8_events(&records.events)?;
     test_9_row_space(row_space, events.len())?;
     let events_at = starts(records.counts())[3];
@@ -148,12 +154,12 @@ fn records<const BYTES: usize>(body: &[u8]) -> Vec<[u8; BYTES]> {
 }
 
 /// 4 to 7: the plan that the records make.
-pub fn test_plan(records: &Draft) -> Result<Plan, Refusal> {
+pub fn test_plan(records: &Draft, wrong: Wrong) -> Result<Plan, Refusal> {
     let bases = test_4_tasks(&records.tasks)?;
     let locks = test_5_locks(&records.locks)?;
     let uses = test_6_uses(&records.uses, bases.len(), locks.len())?;
     let plan = Plan { bases, locks, uses };
-    test_7_ceilings(&plan)?;
+    test_7_ceilings(&plan, wrong)?;
     Ok(plan)
 }
 
@@ -210,11 +216,13 @@ pub fn test_6_uses(
     Ok(uses)
 }
 
-/// 7: each lock has a user, and the greatest base of its users is its ceiling.
-/// The lock is named.
-pub fn test_7_ceilings(plan: &Plan) -> Result<(), Refusal> {
+/// 7: each lock has two users or more, and the greatest base of its users is its
+/// ceiling. The lock is named.
+pub fn test_7_ceilings(plan: &Plan, wrong: Wrong) -> Result<(), Refusal> {
     for (place, lock) in plan.locks.iter().enumerate() {
-        if plan.greatest_base_of_users(place) != Some(lock.ceiling) {
+        let bases = plan.bases_of_users(place);
+        let is_shared = bases.len() >= wrong.least_users();
+        if !is_shared || bases.iter().max() != Some(&lock.ceiling) {
             return refuse(7, place);
         }
     }

@@ -174,6 +174,8 @@ fn records(shelf: &mut Shelf) {
     damaged("ceiling too low", &|draft| draft.locks[1][0] = 1, 7, 1);
     damaged("ceiling too high", &|draft| draft.locks[0][0] = 7, 7, 0);
     damaged("greatest user gone", &|draft| draft.uses.truncate(3), 7, 0);
+    damaged("greatest user alone", &|draft| draft.uses.retain(|pair| *pair != [0, 0]), 7, 0);
+    damaged("greatest user of lock 1 alone", &|draft| draft.uses.retain(|pair| *pair != [0, 1]), 7, 1);
     damaged(
         "5 at lock 1 before 7 at lock 0",
         &|draft| (draft.locks[0][0], draft.locks[1][1]) = (7, 1),

@@ -11,8 +11,8 @@ use crate::random::Random;
 use crate::sound;
 use crate::states::{self, push, refit};
 use crate::whole::{
-    slot, Field, Per, Whole, ACCEPTED, FIELDS, LIMIT, LOCKS, OPEN, OWNER, RELEASED, RUNNING,
-    SECOND, TASKS, UNITS, USER, USES,
+    slot, Field, Per, Whole, ACCEPTED, BASE, CEILING, FIELDS, LIMIT, LOCKS, OPEN, OWNER, RELEASED,
+    RUNNING, SECOND, TASKS, UNITS, USER, USES,
 };
 
 /// Gives a figure another value.
@@ -66,7 +66,7 @@ fn used_slots(whole: &Whole) -> Vec<usize> {
 type Change = fn(&mut Random, &mut Whole) -> bool;
 
 #[rustfmt::skip] // a line each
-const CHANGES: [(&str, Change); 18] = [
+const CHANGES: [(&str, Change); 19] = [
     ("nobody runs", nobody_runs),
     ("an unreleased task runs", unreleased_runs),
     ("a lock open for two tasks", open_for_two),
@@ -81,6 +81,7 @@ const CHANGES: [(&str, Change); 18] = [
     ("a section past its limit", past_limit),
     ("a lock without limit", without_limit),
     ("a lock without users", without_users),
+    ("a lock with one user", with_one_user),
     ("a use of an unknown lock", unknown_use),
     ("more tasks than places", more_tasks),
     ("more locks than places", more_locks),
@@ -314,6 +315,28 @@ fn without_users(random: &mut Random, whole: &mut Whole) -> bool {
         return false;
     };
     for task in 0..whole.get(TASKS, 0) as usize {
+        let uses = whole.get(USES, task) & !(1 << lock);
+        whole.set(USES, task, uses);
+    }
+    true
+}
+
+/// The user that stays has the lock's ceiling as its base, so that all else is
+/// right.
+fn with_one_user(random: &mut Random, whole: &mut Whole) -> bool {
+    let Some(lock) = some_lock(random, whole, is_closed) else {
+        return false;
+    };
+    let tasks = 0..whole.get(TASKS, 0) as usize;
+    let is_greatest = |task: &usize| {
+        whole.uses(*task, lock) && whole.get(BASE, *task) == whole.get(CEILING, lock)
+    };
+    let greatest: Vec<usize> = tasks.clone().filter(is_greatest).collect();
+    if greatest.is_empty() {
+        return false;
+    }
+    let stays = random.pick(&greatest);
+    for task in tasks.filter(|task| *task != stays) {
         let uses = whole.get(USES, task) & !(1 << lock);
         whole.set(USES, task, uses);
     }

@@ -230,11 +230,12 @@ fn damage_ceiling(random: &mut Random, draft: &mut Draft) {
         return;
     }
     let place = some_place(random, draft.locks.len());
-    match random.below(5) {
+    match random.below(7) {
         0 => draft.uses.retain(|pair| usize::from(pair[1]) != place),
         1 => draft.locks[place][0] = draft.locks[place][0].max(2) - 1,
         2 => draft.locks[place][0] = draft.locks[place][0].saturating_add(1),
         3 => draft.locks[place][0] = random.some_byte(),
+        4 | 5 => leave_one_user(random, draft, place),
         _ => {
             // A base rises above the ceilings of its locks.
             let task = some_place(random, draft.tasks.len());
@@ -243,6 +244,30 @@ fn damage_ceiling(random: &mut Random, draft: &mut Draft) {
             }
         }
     }
+}
+
+/// 7: of a lock's users one stays, mostly one whose base is the ceiling, which is
+/// right then.
+fn leave_one_user(random: &mut Random, draft: &mut Draft, lock: usize) {
+    let ceiling = draft.locks[lock][0];
+    let is_use = |pair: &&[u8; 2]| usize::from(pair[1]) == lock;
+    let mut users: Vec<u8> = draft
+        .uses
+        .iter()
+        .filter(is_use)
+        .map(|pair| pair[0])
+        .collect();
+    if !random.one_in(3) {
+        let base = |user: u8| draft.tasks.get(usize::from(user)).map(|task| task[0]);
+        users.retain(|user| base(*user) == Some(ceiling));
+    }
+    if users.is_empty() {
+        return;
+    }
+    let stays = random.pick(&users);
+    draft
+        .uses
+        .retain(|pair| usize::from(pair[1]) != lock || pair[0] == stays);
 }
 
 /// 8: no such kind, something in a field without use, or a work of 0.

@@ -38,13 +38,13 @@ impl Plan {
         self.uses.binary_search(&(task as u8, lock as u8)).is_ok()
     }
 
-    /// The greatest base among the users of a lock; nothing without a user.
-    pub fn greatest_base_of_users(&self, lock: usize) -> Option<u8> {
+    /// The bases of the users of a lock.
+    pub fn bases_of_users(&self, lock: usize) -> Vec<u8> {
         self.uses
             .iter()
             .filter(|(_, used)| usize::from(*used) == lock)
             .map(|(user, _)| self.bases[usize::from(*user)])
-            .max()
+            .collect()
     }
 
     /// Only locks whose ceiling reaches the task's base and that have a user of

@@ -10,7 +10,7 @@ pub const WORDS: [&str; 24] = [
     "a task without a base or with a stray second byte",
     "a lock without a ceiling or a limit, or with a stray second byte",
     "a use of something unknown, or not after the use before it",
-    "a lock that nobody uses, or with another ceiling than its users give",
+    "a lock with fewer than two users, or another ceiling than they give",
     "an event of no kind, with a stray field, or that works nothing",
     "fewer than four row bytes for each event",
     "the state is not sound",

@@ -41,7 +41,7 @@ pub struct Outcome {
 }
 
 pub fn replay(bytes: &[u8], row_space: usize, wrong: Wrong) -> Outcome {
-    match book::read(bytes, row_space) {
+    match book::read_by(bytes, row_space, wrong) {
         Ok(book) => run(&book, row_space, wrong),
         // There is no state then, and no row is written.
         Err(refusal) => Outcome {

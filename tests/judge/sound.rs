@@ -36,14 +36,17 @@ const fn of_one(of: Protocol, name: &'static str, holds: fn(&Whole) -> bool) -> 
     Condition { name, of, holds }
 }
 
+const TWO_USERS: &str = "each lock has two users or more";
+
 #[rustfmt::skip] // a line each
-pub const CONDITIONS: [Condition; 30] = [
+pub const CONDITIONS: [Condition; 31] = [
     // Of the plan: 2, 4, 5, 6 and 7, and nothing past its tasks and locks.
     condition("counts of the plan in range", counts_in_range),
     condition("no base is 0", bases),
     condition("no ceiling or limit is 0", locks_have_figures),
     condition("uses are of locks of the plan", uses_are_known),
     condition("ceilings are as the users give them", ceilings),
+    condition(TWO_USERS, two_users),
     condition("unused places of the plan are 0", plan_rest),
     // Who runs, and the priorities that follow from it.
     condition("somebody runs if a task is released, and only then", nobody),
@@ -86,6 +89,7 @@ impl Condition {
         match wrong {
             Wrong::KernelWordUnbounded if is_bound => false,
             Wrong::KernelWordAsNext if !is_bound => true,
+            Wrong::OneUser | Wrong::OneUserInState if self.name == TWO_USERS => false,
             _ => self.is_asked(protocol),
         }
     }
@@ -116,6 +120,10 @@ fn tasks(whole: &Whole) -> std::ops::Range<usize> {
 
 fn locks(whole: &Whole) -> std::ops::Range<usize> {
     0..whole.get(LOCKS, 0).min(MOST_LOCKS as u64) as usize
+}
+
+fn users(whole: &Whole, lock: usize) -> impl Iterator<Item = usize> + '_ {
+    tasks(whole).filter(move |task| whole.uses(*task, lock))
 }
 
 fn is_released(whole: &Whole, task: usize) -> bool {
@@ -218,10 +226,13 @@ fn uses_are_known(whole: &Whole) -> bool {
 
 fn ceilings(whole: &Whole) -> bool {
     locks(whole).all(|lock| {
-        let users = tasks(whole).filter(|task| whole.uses(*task, lock));
-        let greatest = users.map(|task| whole.get(BASE, task)).max();
+        let greatest = users(whole, lock).map(|task| whole.get(BASE, task)).max();
         greatest == Some(whole.get(CEILING, lock))
     })
+}
+
+fn two_users(whole: &Whole) -> bool {
+    locks(whole).all(|lock| users(whole, lock).count() >= 2)
 }
 
 fn plan_rest(whole: &Whole) -> bool {

@@ -19,7 +19,7 @@ const PLACES: [&str; 3] = ["at the first record", "in between", "at the last"];
 type IsMet = fn(&Writing, &Outcome) -> bool;
 
 #[rustfmt::skip] // a line each
-const RULES: [(&str, IsMet); 18] = [
+const RULES: [(&str, IsMet); 21] = [
     ("written to a buffer that is exactly long enough", |w, o| is_written(o) && spare(w) == Some(0)),
     ("written to one that has a byte more", |w, o| is_written(o) && spare(w) == Some(1)),
     ("written to the largest", |w, o| is_written(o) && w.room == MOST_BYTES),
@@ -37,6 +37,9 @@ const RULES: [(&str, IsMet); 18] = [
     ("a count that two bytes do not hold", |w, _| is_far(w)),
     ("such a count, and all in range if cut to two bytes", |w, _| is_far(w) && is_right_if_cut(w)),
     ("4 by a number whose low byte alone is 0", |w, o| by(o, 4, |at| is_high(w.records.tasks[at]))),
+    ("7 for a lock without users", |w, o| by(o, 7, |lock| users(w, lock) == 0)),
+    ("7 for one user, whose base is the ceiling", |w, o| by(o, 7, |lock| is_lone(w, lock))),
+    ("7 for one user, whose base is another", |w, o| by(o, 7, |lock| users(w, lock) == 1 && !is_lone(w, lock))),
     ("8 by a release with an amount", |w, o| by(o, 8, |at| w.records.events[at][0] == 1)),
 ];
 
@@ -185,6 +188,17 @@ fn by(outcome: &Outcome, number: u8, is_asked: impl Fn(usize) -> bool) -> bool {
 
 fn is_high(task: [u8; 2]) -> bool {
     task[0] == 0 && task[1] != 0
+}
+
+/// How many users a lock has.
+fn users(writing: &Writing, lock: usize) -> usize {
+    writing.records.plan().bases_of_users(lock).len()
+}
+
+/// Whether a lock has one user, and that user's base is its ceiling.
+fn is_lone(writing: &Writing, lock: usize) -> bool {
+    let plan = writing.records.plan();
+    plan.bases_of_users(lock) == [plan.locks[lock].ceiling]
 }
 
 /// The greatest count of two bytes.

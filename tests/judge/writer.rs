@@ -42,7 +42,7 @@ pub fn write(records: &Draft, room: usize, wrong: Wrong) -> Written {
 fn book(records: &Draft, room: usize, wrong: Wrong) -> Result<Vec<u8>, Refusal> {
     let book = records.bytes();
     test_2_counts(records.counts())?;
-    test_plan(records)?;
+    test_plan(records, wrong)?;
     if wrong == Wrong::RoomBefore8 {
         test_23_room(room, &book)?;
     }
@@ -69,7 +69,7 @@ pub fn faults(records: &Draft, room: usize) -> Vec<u8> {
         (4, test_4_tasks(&records.tasks).is_err()),
         (5, test_5_locks(&records.locks).is_err()),
         (6, test_6_uses(&records.uses, tasks, locks).is_err()),
-        (7, test_7_ceilings(&plan).is_err()),
+        (7, test_7_ceilings(&plan, Wrong::Nothing).is_err()),
         (8, test_8_events(&records.events).is_err()),
         (23, room < records.size()),
     ];

@@ -1,7 +1,7 @@
 //! Ways to go wrong on purpose: the four mistakes of RULES 18.4 and one close to
 //! them, others that only single steps can show, some of the count of eager calls,
-//! some of the kernel word, which is the first protocol's, and some of the writer
-//! of books. The judge can follow one of them; a right
+//! some of the kernel word, which is the first protocol's, some of the writer of
+//! books, and some of a lock with one user. The judge can follow one of them; a right
 //! program must then differ from it, which shows that the judge is able to fail a
 //! program.
 
@@ -75,10 +75,16 @@ pub enum Wrong {
     RefusalTouches,
     /// The offset of the event body is one off.
     OffsetOff,
+    /// One user of a lock is enough.
+    OneUser,
+    /// One user of a lock is enough in a plan that comes with a state.
+    OneUserInState,
+    /// A lock wants three users.
+    ThreeUsers,
 }
 
 /// The wrong ways under the names of the command line.
-pub const WRONG_WAYS: [(&str, Wrong); 30] = [
+pub const WRONG_WAYS: [(&str, Wrong); 33] = [
     ("tail", Wrong::Tail),
     ("at-or-above", Wrong::AtOrAbove),
     ("gives-way", Wrong::GivesWay),
@@ -109,6 +115,9 @@ pub const WRONG_WAYS: [(&str, Wrong); 30] = [
     ("byte-after", Wrong::ByteAfter),
     ("refusal-touches", Wrong::RefusalTouches),
     ("offset-off", Wrong::OffsetOff),
+    ("one-user", Wrong::OneUser),
+    ("one-user-in-state", Wrong::OneUserInState),
+    ("three-users", Wrong::ThreeUsers),
 ];
 
 impl Wrong {
@@ -138,6 +147,15 @@ impl Wrong {
             _ => return true,
         };
         only == protocol
+    }
+
+    /// How many users a lock of a book has at least.
+    pub fn least_users(self) -> usize {
+        match self {
+            Wrong::OneUser => 1,
+            Wrong::ThreeUsers => 3,
+            _ => 2,
+        }
     }
 
     /// Whether an acquire or an unlock is an eager call, by whether it changes

@@ -16,14 +16,14 @@ extern "C" {
 #endif
 
 /* The greatest numbers of tasks, locks, uses and events, and what a row takes. */
-#define RECORDER_MAX_TASKS 96
+#define RECORDER_MAX_TASKS 200
 #define RECORDER_MAX_LOCKS 32
-#define RECORDER_MAX_USES 3072
+#define RECORDER_MAX_USES 6400
 #define RECORDER_MAX_EVENTS 12000
 #define RECORDER_ROW_BYTES 4
 
 /* The length of the longest book that can be accepted. */
-#define RECORDER_MAX_BOOK 54496
+#define RECORDER_MAX_BOOK 61360
 
 /* The running task's byte where nobody runs. */
 #define RECORDER_NOBODY 255

@@ -2,9 +2,9 @@
 //! structs, an owner for each lock, nothing allocated.
 
 // The sizes: no other file of the benchmark writes them.
-pub const MOST_TASKS: usize = 96;
+pub const MOST_TASKS: usize = 200;
 pub const MOST_LOCKS: usize = 32;
-const MOST_USES: usize = 3072;
+const MOST_USES: usize = 6400;
 pub const MOST_EVENTS: usize = 12_000;
 pub const MOST_OPEN: usize = 8;
 pub const MOST_ACCEPTED: u32 = 1_000_000;

@@ -2,7 +2,9 @@
 //! events from a fresh start, by a protocol. A refused event stands in the list
 //! too: it leaves the state as it was.
 
-use crate::ordinary::{Checked, Plan, Protocol, Record, State, MOST_LOCKS, MOST_OPEN, NOBODY};
+use crate::ordinary::{
+    Checked, Plan, Protocol, Record, State, MOST_LOCKS, MOST_OPEN, MOST_TASKS, NOBODY,
+};
 
 pub const RELEASE: u8 = 1;
 pub const ACQUIRE: u8 = 2;
@@ -52,7 +54,19 @@ const BLOCKS: [usize; 8] = [MOST_OPEN + 1, MOST_OPEN, 4, 4, 3, 1, 1, 2];
 const _: () = assert!(MOST_OPEN == 8 && MOST_LOCKS == 32, "these are all locks");
 
 /// The bases of two blocks are at least so far apart.
-const APART: usize = 8;
+const APART: usize = 16;
+
+/// The sizes of full states: the same locks are open in all of them, so they say
+/// how a step grows with the tasks. Each is eight blocks of one size.
+pub const FULL: [usize; 4] = [24, 48, 96, MOST_TASKS];
+
+const _: () = {
+    let mut at = 0;
+    while at < FULL.len() {
+        assert!(FULL[at] % BLOCKS.len() == 0 && FULL[at] / BLOCKS.len() <= 2 * APART);
+        at += 1;
+    }
+};
 
 /// All tasks are released and all locks open, but for one or two. The tasks
 /// stand in blocks, each more urgent than the one before it and with locks of

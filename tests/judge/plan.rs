@@ -2,9 +2,9 @@
 //! and the sizes of the rules. Each size stands here and nowhere else.
 
 /// The most records of each kind in a book. A plan has at least one task.
-pub const MOST_TASKS: usize = 96;
+pub const MOST_TASKS: usize = 200;
 pub const MOST_LOCKS: usize = 32;
-pub const MOST_USES: usize = 3_072;
+pub const MOST_USES: usize = 6_400;
 pub const MOST_EVENTS: usize = 12_000;
 /// The most locks that one task may have open at once.
 pub const MOST_OPEN: usize = 8;

@@ -39,11 +39,11 @@ unfolding digits
 digits-few d n h = in-few (suc n) d n h
 
 -- a task, or `-`
-runner-few : (t : ℕ) → (t ≢ nobody → t < maxTasks) → length (runner t) ≤ 2
+runner-few : (t : ℕ) → (t ≢ nobody → t < maxTasks) → length (runner t) ≤ 3
 unfolding runner
 runner-few t h = by-test (eqb t nobody)
     (λ e. rw (if-true (eqb t nobody) dash (digits t) e) (omega arith))
-    (λ e. rw (if-false (eqb t nobody) dash (digits t) e) (digits-few 1 t (omega (arith, h (eqb-false t nobody e)))))
+    (λ e. rw (if-false (eqb t nobody) dash (digits t) e) (digits-few 2 t (omega (arith, h (eqb-false t nobody e)))))
 
 -- ---- a line
 
@@ -68,7 +68,7 @@ abbrev pub SmallAt : List ℕ → ℕ → Type 0
 SmallAt rows k = SmallRow (at rows (k * 4)) (at rows (k * 4 + 1)) (at rows (k * 4 + 2)) (at rows (k * 4 + 3))
 
 -- its line, where its number has five digits or fewer
-row-long : (rows : List ℕ) (k : ℕ) → k + 1 < 10 ^ 5 → SmallAt rows k → length (rowLine rows k) ≤ 19
+row-long : (rows : List ℕ) (k : ℕ) → k + 1 < 10 ^ 5 → SmallAt rows k → length (rowLine rows k) ≤ 20
 unfolding rowLine rowWords
 row-long rows k h R = simp (line-long, one-long, none-long) (omega (
   arith,
@@ -79,7 +79,7 @@ row-long rows k h R = simp (line-long, one-long, none-long) (omega (
   digits-few 0 (at rows (k * 4 + 3)) (omega (arith, R .once)),
 ))
 
-rows-long : (rows : List ℕ) (n : ℕ) → n < 10 ^ 5 → ((k : ℕ) → k < n → SmallAt rows k) → length (rowLines rows n) ≤ n * 19
+rows-long : (rows : List ℕ) (n : ℕ) → n < 10 ^ 5 → ((k : ℕ) → k < n → SmallAt rows k) → length (rowLines rows n) ≤ n * 20
 unfolding rowLines
 rows-long rows zero h R = omega arith
 rows-long rows (suc k) h R = omega (
@@ -115,10 +115,10 @@ delayed-long xs h = omega (arith, line-long delayed (map digits xs), list-long x
 
 module _ (rows : List ℕ) (n : ℕ) (few : n < 10 ^ 5) (small : (k : ℕ) → k < n → SmallAt rows k) (lazy eager : ℕ) (delays : List ℕ) where
   pub passed-long : lazy < 10 ^ 5 → eager < 10 ^ 5 → ((i : ℕ) → at delays i < 10 ^ 5)
-      → length (reportOf Verdict.Passed n rows lazy eager delays) ≤ 55 + n * 19 + length delays * 6
+      → length (reportOf Verdict.Passed n rows lazy eager delays) ≤ 55 + n * 20 + length delays * 6
   unfolding reportOf
   passed-long l e d = simp length-append (omega (arith, header-long, rows-long rows n few small, calls-long lazy eager l e, delayed-long delays d))
 
-  pub stopped-long : (why : Refusal) (place : ℕ) → place < 10 ^ 5 → length (reportOf (Verdict.Refused why place) n rows lazy eager delays) ≤ 46 + n * 19
+  pub stopped-long : (why : Refusal) (place : ℕ) → place < 10 ^ 5 → length (reportOf (Verdict.Refused why place) n rows lazy eager delays) ≤ 46 + n * 20
   unfolding reportOf
   stopped-long why place h = simp length-append (omega (arith, header-long, rows-long rows n few small, refused-long why place h))

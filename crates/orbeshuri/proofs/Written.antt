@@ -1,10 +1,11 @@
 -- The text that the program writes. Assumes nothing.
 use mathlib.Core.Path.{_≡_, refl, sym, _∙_, ap}
+use mathlib.Core.Logic.{⊎-elim}
 use mathlib.Core.List.{List}
 use Prim.Native.Nat.{ℕ, _≤_, _<_}
 use native.Mathlib.Omega.{arith}
 use lib.ListN.{length, take, replicate, length-replicate}
-use lib.Seq.{length-take-le}
+use lib.Seq.{take-all, length-take-le}
 use Rattle.rules.specs.Numbers.Capacity.{maxTasks}
 use Rattle.rules.specs.Books.Book.{checkOf, checkedAs, checkedOf, largestBook}
 use Rattle.rules.specs.Replays.Replay.{ranAs, replayAs, replayOf}
@@ -15,11 +16,12 @@ use Rattle.rules.specs.declared.protocol.Protocol.{Protocol}
 use Rattle.rules.specs.declared.refusal.Refusal.{Refusal}
 use Rattle.rules.specs.declared.answer.Verdict.{Verdict}
 use Rattle.rules.specs.declared.answer.Replayed.{Replayed}
+use Rattle.rules.proofs.Numbers.Choice.{lt-or-le}
 use Rattle.rules.proofs.Books.Cut.{cut-same, long-refused}
 use Rattle.rules.proofs.Books.Obeyed.{few-tasks}
 use Rattle.rules.proofs.Books.Passes.{passed-obeys}
 use Rattle.report.specs.Report.{reportOf}
-use Rattle.orbeshuri.specs.Text.{rowSpace, ranOf, textOf}
+use Rattle.orbeshuri.specs.Text.{rowSpace, inputSpace, ranOf, textOf}
 -- the laws rest on this file, so the texts of P1 and P5 are computed before them all: a wrong text that they show is refused there first
 use Rattle.orbeshuri.specs.Printed
 
@@ -63,3 +65,10 @@ pub cut-text : (pr : Protocol) (b : List ℕ) (n : ℕ) → n ≤ length b → l
 cut-text pr b n long enough =
     let (why, place, e) = long-refused b (omega arith) rowSpace in
     refused-text pr (take n b) why place (cut-same b n long enough rowSpace ∙ e) ∙ sym (refused-text pr b why place e)
+
+-- what the program reads of any input has the text of the whole: the largest book is shorter than its buffer
+pub read-text : (pr : Protocol) (b : List ℕ) → textOf pr (take inputSpace b) ≡ textOf pr b
+read-text pr b = ⊎-elim
+    (λ (l : length b < inputSpace). ap (textOf pr) (take-all inputSpace b (omega arith)))
+    (λ (l : inputSpace ≤ length b). cut-text pr b inputSpace l (omega arith))
+    (lt-or-le (length b) inputSpace)

@@ -14,6 +14,10 @@ use Rattle.report.specs.Report.{reportOf}
 abbrev pub rowSpace : ℕ
 rowSpace = maxEvents * 4
 
+-- RULES 15.7: as much of an input as the program reads: its buffer, `io::large_buffer`
+abbrev pub inputSpace : ℕ
+inputSpace = 65_536
+
 -- room for every text
 abbrev pub reportSpace : ℕ
 reportSpace = 262_144

@@ -23,7 +23,7 @@ ghost use Rattle.orbeshuri.specs.Text.{reportSpace, textOf};
 // Four row bytes for each event that a book may have, so 9 is never given.
 const ROW_SPACE: usize = MAX_EVENTS * 4;
 
-// Room for every report, as proved: the header, 12,000 rows of 19 bytes or fewer, the calls and 96 delays.
+// Room for every report, as proved: the header, a row of 20 bytes or fewer for each event, the calls and a delay for each task.
 const REPORT_SPACE: usize = 262144;
 
 // The delays of the first n tasks are reported.

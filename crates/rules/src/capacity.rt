@@ -2,11 +2,11 @@
 // definitions, and include/recorder.h for C. That a set of locks has 32 bits and a row eight bytes is
 // the width of their numbers, in crates/figures.
 
-pub const MAX_TASKS: usize = 96;
+pub const MAX_TASKS: usize = 200;
 
 pub const MAX_LOCKS: usize = 32;
 
-pub const MAX_USES: usize = 3072;
+pub const MAX_USES: usize = 6400;
 
 pub const MAX_EVENTS: usize = 12000;
 

@@ -3,13 +3,13 @@ use Prim.Native.Nat.{ℕ}
 
 -- the most tasks, locks and uses of a plan, and the most events of a book
 abbrev pub maxTasks : ℕ
-maxTasks = 96
+maxTasks = 200
 
 abbrev pub maxLocks : ℕ
 maxLocks = 32
 
 abbrev pub maxUses : ℕ
-maxUses = 3_072
+maxUses = 6_400
 
 abbrev pub maxEvents : ℕ
 maxEvents = 12_000

@@ -1,3 +1,4 @@
 -- The laws behind the proofs of this crate.
 mod Sets
+mod Joined
 pub mod Rows

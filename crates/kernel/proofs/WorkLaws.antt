@@ -1,7 +1,7 @@
 -- The ways through an accepted work: the delays of the tasks, and the sections along the row. Assumes nothing.
 use mathlib.Core.Path.{_≡_, refl, sym, _∙_, ap, ap₂, subst}
 use mathlib.Core.Logic.{_⊎_, inl, inr, ⊎-elim}
-use mathlib.Core.Bool.{Bool, true, false, _||_}
+use mathlib.Core.Bool.{Bool, true, false, _&&_, _||_}
 use mathlib.Core.List.{List}
 use Prim.Native.Nat.{ℕ, zero, suc, _+_, _-_, _≤_, _<_, min}
 use native.Mathlib.Nat.{not-suc-le-zero}
@@ -28,17 +28,13 @@ use Rattle.kernel.specs.Work.{waitedBy, waited, chargedRow, Laden}
 -- ---- a task's delay
 
 module _ (y q b d a : ℕ) where
-  pub waits-not : y ≡ 0 → d ≡ waitedBy y q b d a
+  pub waits-more : (more : ℕ) → (ltb 0 y && ltb b q) ≡ true → more ≡ min maxDelay (d + a) → more ≡ waitedBy y q b d a
   unfolding waitedBy
-  waits-not e = rw (le-ltb 0 y (omega arith)) (sym (if-false false (min maxDelay (d + a)) d refl))
+  waits-more more t e = e ∙ sym (if-true (ltb 0 y && ltb b q) (min maxDelay (d + a)) d t)
 
-  pub waits-more : (more : ℕ) → (y ≡ 0 → ⊥) → b < q → more ≡ min maxDelay (d + a) → more ≡ waitedBy y q b d a
+  pub waits-same : (ltb 0 y && ltb b q) ≡ false → d ≡ waitedBy y q b d a
   unfolding waitedBy
-  waits-more more n l e = rw (lt-ltb 0 y (omega arith), lt-ltb b q l) (e ∙ sym (if-true true (min maxDelay (d + a)) d refl))
-
-  pub waits-same : (y ≡ 0 → ⊥) → q ≤ b → d ≡ waitedBy y q b d a
-  unfolding waitedBy
-  waits-same n l = rw (lt-ltb 0 y (omega arith), le-ltb b q l) (sym (if-false false (min maxDelay (d + a)) d refl))
+  waits-same t = sym (if-false (ltb 0 y && ltb b q) (min maxDelay (d + a)) d t)
 
 -- the loop over the tasks writes what each waits; a place that it comes to still holds what it held
 module _ (base released delay : List ℕ) (b a : ℕ) where
@@ -58,13 +54,13 @@ waits-nobody n b k a most base released delay m W e said z = sym (renewed-same d
     low = omega (arith, ltb-false k (most .0) (sym said ∙ z))
 
     stays : (x : ℕ) → at delay x ≡ waited base released delay b a x
-    stays x = ⊎-elim
-        (λ (q : 0 < at released x). waits-same (at released x) (at base x) b (at delay x) a (λ u. omega arith) (⊎-elim
+    stays x = waits-same (at released x) (at base x) b (at delay x) a (⊎-elim
+        (λ (q : 0 < at released x). rw (lt-ltb 0 (at released x) q) (⊎-elim
         (λ (l : b < at base x). absurd (omega (arith, W x q l, low)))
-        (λ (l : at base x ≤ b). l)
+        (λ (l : at base x ≤ b). le-ltb b (at base x) l)
         (lt-or-le b (at base x))))
-        (λ (q : at released x ≤ 0). waits-not (at released x) (at base x) b (at delay x) a (omega arith))
-        (lt-or-le 0 (at released x))
+        (λ (q : at released x ≤ 0). rw (le-ltb 0 (at released x) q) refl)
+        (lt-or-le 0 (at released x)))
 
 -- ---- the sections along the row
 

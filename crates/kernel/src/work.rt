@@ -33,15 +33,14 @@ fn stick(a: u16, b: u16) -> u16
     a + b
 }
 
-// The delay of a task of release number y and base q after a units by one of base b.
+// The delay of a task of release number y and base q after a units by one of base b. One test for both: so
+// the compiler chooses once, and for several tasks at a time.
 fn delay_of(y: u32, q: u8, b: u8, d: u16, a: u16) -> u16
     ensures { λ r. ⌜ r ≡ waitedBy y q b d a ⌝ }
 {
     let more = stick(d, a);
-    if y == 0 {
-        return d;
-    }
-    if b < q {
+    let waits = (0 < y) & (b < q);
+    if waits {
         return more;
     }
     d

@@ -1,6 +1,6 @@
 -- The ways through a test that is said with "or": the code's returns, one law each. Assumes nothing.
-use mathlib.Core.Path.{_≡_, refl}
-use mathlib.Core.Bool.{Bool, true, false, not, _&&_, _||_}
+use mathlib.Core.Path.{_≡_}
+use mathlib.Core.Bool.{Bool, true, false, not, and-true, and-false, or-false}
 use mathlib.Core.List.{List}
 use Prim.Native.Nat.{ℕ, _-_, _≤_, _<_}
 use lib.Dec.{eqb, leb, ltb}
@@ -10,18 +10,6 @@ use Rattle.rules.specs.Numbers.Choice.{if_then_else_}
 use Rattle.rules.specs.Numbers.Place.{at}
 use Rattle.rules.specs.Books.Plan.{most, countFault, taskFault, lockFault}
 use Rattle.rules.specs.Books.Load.{useTask, useLock, useKey, useFault, countFaultOf}
-
-and-with : (a : Bool) → (a && true) ≡ a
-and-with true = refl
-and-with false = refl
-
-and-no : (a : Bool) → (a && false) ≡ false
-and-no true = refl
-and-no false = refl
-
-or-no : (a : Bool) → (a || false) ≡ a
-or-no true = refl
-or-no false = refl
 
 -- 4, with a and b for the parts as the code has them
 module _ (base second a b : ℕ) where
@@ -50,11 +38,11 @@ module _ (ceiling second limit a b d : ℕ) where
 -- 2
 pub count-none : (e n : ℕ) → n ≡ 0 → eqb e 0 ≡ countFault e n
 unfolding countFault
-count-none e n h = rw (h, and-with (eqb e 0), le-ltb (most e) 0 (omega arith), or-no (eqb e 0))
+count-none e n h = rw (h, and-true (eqb e 0), le-ltb (most e) 0 (omega arith), or-false (eqb e 0))
 
 pub count-some : (e n r : ℕ) → (n ≡ 0 → ⊥) → r ≡ most e → ltb r n ≡ countFault e n
 unfolding countFault
-count-some e n r h g = rw (g, ne-eqb n 0 h, and-no (eqb e 0))
+count-some e n r h g = rw (g, ne-eqb n 0 h, and-false (eqb e 0))
 
 -- 6, with w for the record at place i, t and l for its ids
 module _ (n m i : ℕ) (uses : List ℕ) where

@@ -97,6 +97,7 @@ fn first_wrong(
     l
 }
 
+// These arrays are not lent where they lie: a load goes on with its plan, so all of it would be copied.
 pub fn first_ceiling(p: Plan) -> usize
     requires { ⌜ (p .tasks ≤ maxTasks) × (p .locks ≤ maxLocks) ⌝ }
     ensures { λ r. ⌜ r ≡ firstFrom (wrongCeiling (p .tasks) (p .base) (p .ceiling) (p .uses)) 0 (p .locks) ⌝ }

@@ -43,7 +43,7 @@ pub fn bound(p: Plan, t: usize) -> u16
     lower::longest(p, b)
 }
 
-// Whether a plan that is handed in obeys the rules, test by test. It is taken apart once.
+// Whether a plan that is handed in obeys the rules, test by test. Its arrays are lent where they lie.
 pub fn obeys(p: Plan) -> bool
     ensures { λ r. ⌜ r ≡ SoundTest.obeys p ⌝ }
 {
@@ -53,9 +53,5 @@ pub fn obeys(p: Plan) -> bool
     if count::count_fault(1, p.locks) {
         return false;
     }
-    let base = p.base;
-    let ceiling = p.ceiling;
-    let limit = p.limit;
-    let uses = p.uses;
-    obey::parts_obey(p.tasks, p.locks, &base, &ceiling, &limit, &uses)
+    obey::parts_obey(p.tasks, p.locks, &p.base, &p.ceiling, &p.limit, &p.uses)
 }

@@ -31,8 +31,7 @@ fn base_in(base: &[u8; MAX_TASKS], t: usize) -> u8
 pub fn base_of(p: Plan, t: usize) -> u8
     ensures { λ r. ⌜ r ≡ at (p .base) t ⌝ }
 {
-    let base = p.base;
-    base_in(&base, t)
+    base_in(&p.base, t)
 }
 
 // How many places the tables have.
@@ -112,13 +111,13 @@ fn limit_if(
 }
 
 // The greatest of these limits, of m locks.
-fn longest_of(
+fn longest_of<'a>(
     n: usize,
     m: usize,
-    base: &[u8; MAX_TASKS],
-    ceiling: &[u8; MAX_LOCKS],
-    limit: &[u16; MAX_LOCKS],
-    uses: &[u32; MAX_TASKS],
+    base: &'a [u8; MAX_TASKS],
+    ceiling: &'a [u8; MAX_LOCKS],
+    limit: &'a [u16; MAX_LOCKS],
+    uses: &'a [u32; MAX_TASKS],
     b: u8,
 ) -> u16
     requires { ⌜ (n ≤ maxTasks) × (m ≤ maxLocks) ⌝ }
@@ -134,15 +133,11 @@ fn longest_of(
     top
 }
 
-// The plan is taken apart once.
+// The same of the locks of a plan.
 pub fn longest(p: Plan, b: u8) -> u16
     ensures { λ r. ⌜ r ≡ longestLimit p b ⌝ }
 {
-    let base = p.base;
-    let ceiling = p.ceiling;
-    let limit = p.limit;
-    let uses = p.uses;
-    let n = least(p.tasks, task_places(&uses));
-    let m = least(p.locks, lock_places(&limit));
-    longest_of(n, m, &base, &ceiling, &limit, &uses, b)
+    let n = least(p.tasks, task_places(&p.uses));
+    let m = least(p.locks, lock_places(&p.limit));
+    longest_of(n, m, &p.base, &p.ceiling, &p.limit, &p.uses, b)
 }

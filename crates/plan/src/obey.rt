@@ -1,5 +1,5 @@
-// Whether a plan that is handed in obeys 4 to 7, and holds 0 in its unused places. It was taken apart:
-// each test is lent the arrays that it asks.
+// Whether a plan that is handed in obeys 4 to 7, and holds 0 in its unused places. Each test is lent the
+// arrays that it asks.
 use crate::ceilings::shared_locks;
 use crate::ceilings::wrong_ceiling;
 use figures::spare::spare8;
@@ -117,13 +117,13 @@ fn spare_obeys(
 }
 
 // A plan of n tasks and m locks.
-pub fn parts_obey(
+pub fn parts_obey<'a>(
     n: usize,
     m: usize,
-    base: &[u8; MAX_TASKS],
-    ceiling: &[u8; MAX_LOCKS],
-    limit: &[u16; MAX_LOCKS],
-    uses: &[u32; MAX_TASKS],
+    base: &'a [u8; MAX_TASKS],
+    ceiling: &'a [u8; MAX_LOCKS],
+    limit: &'a [u16; MAX_LOCKS],
+    uses: &'a [u32; MAX_TASKS],
 ) -> bool
     requires { ⌜ (n ≤ maxTasks) × (m ≤ maxLocks) ⌝ }
     ensures { λ r. ⌜ r ≡ partsBy n m (now (base .entry)) (now (ceiling .entry)) (now (limit .entry)) (now (uses .entry)) ⌝ }

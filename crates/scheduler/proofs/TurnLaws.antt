@@ -6,7 +6,6 @@ use Prim.Native.Nat.{ℕ, _+_, _*_, _≤_}
 use lib.ListN.{length, set}
 use lib.Dec.{eqb}
 use borrow.Author.Tests.{eq-eqb, ne-eqb}
-use Rattle.rules.specs.Numbers.Capacity.{maxLocks}
 use Rattle.rules.specs.Numbers.Choice.{if_then_else_}
 use Rattle.rules.specs.Numbers.Answer.{foundEvent}
 use Rattle.rules.specs.Books.Book.{foundAt}
@@ -79,9 +78,6 @@ stops-refused a why k e = rw e
 module _ (pr : Protocol) (p : Plan) (s : State) (rows : List ℕ) (k : ℕ) (R : TurnReady pr p s rows k) where
   pub turn-sound : SoundAndSized pr p s
   turn-sound = R .sound
-
-  pub turn-limits : length (p .limit) ≡ maxLocks
-  turn-limits = R .limits
 
   pub turn-room : k * 4 + 4 ≤ length rows
   turn-room = R .room

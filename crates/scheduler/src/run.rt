@@ -34,15 +34,15 @@ fn goes_on(ended: Ended, k: usize, c: usize) -> bool
 }
 
 // The turns of c events, from any sound state. The tournament is made here, and is nowhere else.
-fn turns(
+fn turns<'a>(
     protocol: Protocol,
     h: Head,
     n: usize,
     m: usize,
-    base: &[u8; MAX_TASKS],
-    ceiling: &[u8; MAX_LOCKS],
-    limit: &[u16; MAX_LOCKS],
-    uses: &[u32; MAX_TASKS],
+    base: &'a [u8; MAX_TASKS],
+    ceiling: &'a [u8; MAX_LOCKS],
+    limit: &'a [u16; MAX_LOCKS],
+    uses: &'a [u32; MAX_TASKS],
     released: &mut [u32; MAX_TASKS],
     kept: &mut [u8; MAX_TASKS],
     delay: &mut [u16; MAX_TASKS],
@@ -102,7 +102,8 @@ fn turns(
     ended
 }
 
-// The arrays are unpacked once and lent to the turns; the state is put together where the run ends.
+// The plan's arrays are lent where they lie. The state's are unpacked once and lent to the turns, since two
+// fields of one struct cannot be lent to be changed; it is put together where the run ends.
 pub fn run_from(
     protocol: Protocol,
     p: Plan,
@@ -116,10 +117,6 @@ pub fn run_from(
     ensures { λ r. ⌜ (ranAs r (now (rows .exit)) ≡ runFrom protocol p (from (eventOn first (now (body .entry))) 0 n) 0 start (now (rows .entry)))
         × (r .plan ≡ p) ⌝ }
 {
-    let base = p.base;
-    let ceiling = p.ceiling;
-    let limit = p.limit;
-    let uses = p.uses;
     let head = start.head;
     let mut released = start.released;
     let mut kept = start.kept;
@@ -134,10 +131,10 @@ pub fn run_from(
         head,
         p.tasks,
         p.locks,
-        &base,
-        &ceiling,
-        &limit,
-        &uses,
+        &p.base,
+        &p.ceiling,
+        &p.limit,
+        &p.uses,
         &mut released,
         &mut kept,
         &mut delay,

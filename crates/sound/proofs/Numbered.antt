@@ -1,6 +1,6 @@
 -- A test of every place below n whose answer is carried along, and release numbers so tested. Assumes nothing.
 use mathlib.Core.Path.{_≡_, refl, sym, _∙_, ap}
-use mathlib.Core.Bool.{Bool, true, false, not, _&&_}
+use mathlib.Core.Bool.{Bool, true, false, not, _&&_, and-true, and-false}
 use Prim.Native.Nat.{ℕ, _+_, _≤_, _<_}
 use native.Mathlib.Numerals.{add-one}
 use native.Mathlib.Omega.{arith}
@@ -24,16 +24,8 @@ module _ (f : ℕ → Bool) where
   pub asked-ends : (n i : ℕ) (t : Bool) → AskedSoFar n i t → n ≤ i → t ≡ every f n
   asked-ends n i t e b = let q : i ≡ n = omega arith in e .1 ∙ ap (every f) q
 
-and-false : (t : Bool) → false ≡ (t && false)
-and-false true = refl
-and-false false = refl
-
-and-true : (t : Bool) → t ≡ (t && true)
-and-true true = refl
-and-true false = refl
-
 pub also-same : (t : Bool) (a y : ℕ) → a ≡ y → false ≡ (t && not (eqb a y))
-also-same t a y e = and-false t ∙ sym (ap (λ b. t && not b) (eq-eqb a y e))
+also-same t a y e = sym (and-false t) ∙ sym (ap (λ b. t && not b) (eq-eqb a y e))
 
 pub also-other : (t : Bool) (a y : ℕ) → (a ≡ y → ⊥) → t ≡ (t && not (eqb a y))
-also-other t a y e = and-true t ∙ sym (ap (λ b. t && not b) (ne-eqb a y e))
+also-other t a y e = sym (and-true t) ∙ sym (ap (λ b. t && not b) (ne-eqb a y e))

@@ -1,6 +1,6 @@
-// The tests of a state that was taken apart, one after the other. What a later test asks rests on the
-// earlier ones: only where the tasks are sound are the named owners and the kept priorities enough, and
-// are the rows short.
+// The tests of a state by its arrays, one after the other. What a later test asks rests on the earlier
+// ones: only where the tasks are sound are the named owners and the kept priorities enough, and are the
+// rows short. One lifetime for all arrays: so fields of one struct can be lent at once.
 use crate::head::head_sound;
 use crate::lock::locks_sound;
 use crate::task::tasks_sound;
@@ -15,23 +15,23 @@ ghost use lib.ListN.{length};
 ghost use Rattle.rules.specs.Numbers.Capacity.{maxLocks, maxTasks};
 ghost use Rattle.sound.specs.Lent.{partsBy};
 
-pub fn parts_sound(
+pub fn parts_sound<'a>(
     protocol: Protocol,
     h: Head,
     n: usize,
     m: usize,
-    base: &[u8; MAX_TASKS],
-    ceiling: &[u8; MAX_LOCKS],
-    limit: &[u16; MAX_LOCKS],
-    uses: &[u32; MAX_TASKS],
-    released: &[u32; MAX_TASKS],
-    kept: &[u8; MAX_TASKS],
-    delay: &[u16; MAX_TASKS],
-    depth: &[u8; MAX_TASKS],
-    takes: &[u64; MAX_TASKS],
-    saved: &[u64; MAX_TASKS],
-    units: &[u16; MAX_LOCKS],
-    owner: &[u8; MAX_LOCKS],
+    base: &'a [u8; MAX_TASKS],
+    ceiling: &'a [u8; MAX_LOCKS],
+    limit: &'a [u16; MAX_LOCKS],
+    uses: &'a [u32; MAX_TASKS],
+    released: &'a [u32; MAX_TASKS],
+    kept: &'a [u8; MAX_TASKS],
+    delay: &'a [u16; MAX_TASKS],
+    depth: &'a [u8; MAX_TASKS],
+    takes: &'a [u64; MAX_TASKS],
+    saved: &'a [u64; MAX_TASKS],
+    units: &'a [u16; MAX_LOCKS],
+    owner: &'a [u8; MAX_LOCKS],
 ) -> bool
     requires { ⌜ (n ≤ maxTasks) × (m ≤ maxLocks) ⌝ }
     requires { ⌜ (length (now ceiling) ≡ maxLocks) × (length (now released) ≡ maxTasks) × (length (now owner) ≡ maxLocks) ⌝ }

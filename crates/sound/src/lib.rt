@@ -1,5 +1,5 @@
-// RULES 8: the test of soundness that stands before every step of a state that is handed in. The plan
-// and the state are taken apart once, and each test is lent the arrays that it asks.
+// RULES 8: the test of soundness that stands before every step of a state that is handed in. The arrays
+// of the plan and of the state are lent where they lie, to each test those that it asks.
 mod all;
 mod head;
 mod lent;
@@ -33,18 +33,9 @@ pub fn sound(protocol: Protocol, p: Plan, s: State) -> bool
     if !obeys(p) {
         return false;
     }
-    let base = p.base;
     let ceiling = p.ceiling;
-    let limit = p.limit;
-    let uses = p.uses;
     let head = s.head;
     let released = s.released;
-    let kept = s.kept;
-    let delay = s.delay;
-    let depth = s.depth;
-    let takes = s.takes;
-    let saved = s.saved;
-    let units = s.units;
     let owner = s.owner;
     placed(ceiling, released, owner);
     lent::parts_sound(
@@ -52,17 +43,17 @@ pub fn sound(protocol: Protocol, p: Plan, s: State) -> bool
         head,
         p.tasks,
         p.locks,
-        &base,
-        &ceiling,
-        &limit,
-        &uses,
-        &released,
-        &kept,
-        &delay,
-        &depth,
-        &takes,
-        &saved,
-        &units,
-        &owner,
+        &p.base,
+        &p.ceiling,
+        &p.limit,
+        &p.uses,
+        &s.released,
+        &s.kept,
+        &s.delay,
+        &s.depth,
+        &s.takes,
+        &s.saved,
+        &s.units,
+        &s.owner,
     )
 }

@@ -1,16 +1,16 @@
 -- Laws of what is asked of the places below n: what each means, and the turns of a loop that works it out from place 0 up. Assumes nothing.
 use mathlib.Core.Path.{_≡_, refl, sym, _∙_, ap, ap₂, subst}
 use mathlib.Core.Logic.{⊎-elim}
-use mathlib.Core.Bool.{Bool, true, false, _&&_, _||_}
+use mathlib.Core.Bool.{Bool, true, false, _||_}
 use mathlib.Core.List.{List, [], _∷_}
 use Prim.Native.Nat.{ℕ, zero, suc, _+_, _-_, _≤_, _<_, min, max}
 use native.Mathlib.Numerals.{add-one}
 use native.Mathlib.Nat.{le-antisymm, eq-or-lt-of-le, le-of-suc-le-suc, not-suc-le-zero}
 use native.Mathlib.Omega.{arith}
 use lib.Dec.{eqb}
-use lib.ListN.{length, getD, set, take, drop, length-set, replicate, length-replicate, drop-of-length-le}
+use lib.ListN.{length, getD, set, take, drop, length-set, replicate, length-replicate}
 use lib.Seq.{set-getD, getD-set-same, getD-set-other, getD-take, length-take-le, ext-getD}
-use borrow.Author.Tests.{eqb-true, eq-eqb, ne-eqb}
+use borrow.Author.Tests.{eqb-true, eq-eqb}
 use Rattle.rules.specs.Numbers.Choice.{if_then_else_}
 use Rattle.rules.specs.Numbers.Place.{at, every, any, count, greatest, firstFrom, from, tabulate, renewed, zeros}
 use Rattle.rules.proofs.Numbers.Choice.{if-true, if-false, by-test, untrue, and-true, or-false, at-or, lt-or-le}
@@ -388,27 +388,6 @@ pub at-zeros : (xs : List ℕ) → ((i : ℕ) → at xs i ≡ 0) → zeros xs �
 unfolding zeros
 at-zeros [] h = refl
 at-zeros (x ∷ xs) h = rw (eq-eqb x 0 (h 0)) (at-zeros xs (λ i. h (suc i)))
-
--- a loop that has found 0 from place n up to place i
-module _ (xs : List ℕ) (n : ℕ) where
-  abbrev pub SpareSoFar : ℕ → Type 0
-  SpareSoFar i = zeros (drop i xs) ≡ zeros (drop n xs)
-
-  unspare : (ys : List ℕ) (i : ℕ) → i < length ys → zeros (drop i ys) ≡ (eqb (at ys i) 0 && zeros (drop (suc i) ys))
-  unfolding zeros
-  unspare [] i h = absurd (not-suc-le-zero h)
-  unspare (y ∷ ys) zero h = refl
-  unspare (y ∷ ys) (suc i) h = unspare ys i (le-of-suc-le-suc h)
-
-  pub spare-next : (i : ℕ) → SpareSoFar i → i < length xs → at xs i ≡ 0 → SpareSoFar (i + 1)
-  spare-next i e l z = rw (add-one i) (sym (unspare xs i l ∙ ap (λ t. t && zeros (drop (suc i) xs)) (eq-eqb (at xs i) 0 z)) ∙ e)
-
-  pub spare-fails : (i : ℕ) → SpareSoFar i → i < length xs → (at xs i ≡ 0 → ⊥) → false ≡ zeros (drop n xs)
-  spare-fails i e l z = sym (unspare xs i l ∙ ap (λ t. t && zeros (drop (suc i) xs)) (ne-eqb (at xs i) 0 z)) ∙ e
-
-  pub spare-ends : (i : ℕ) → SpareSoFar i → length xs ≤ i → true ≡ zeros (drop n xs)
-  unfolding zeros
-  spare-ends i e l = ap zeros (sym (drop-of-length-le xs l)) ∙ e
 
 pub spare-at : (n : ℕ) (xs : List ℕ) → zeros (drop n xs) ≡ true → (i : ℕ) → n ≤ i → at xs i ≡ 0
 spare-at zero xs e i h = zeros-at xs e i

@@ -1,20 +1,20 @@
--- `figures::spare::spare8` meets its contract. Each turn passes one place by. Assumes nothing.
+-- `figures::spare::spare8` meets its contract. Each turn joins one place. Assumes nothing.
 use Prim.Native.Nat.{_-_}
 use lib.ListN.{length}
-use Rattle.rules.proofs.Numbers.Place.{SpareSoFar, spare-next, spare-fails, spare-ends}
+use Rattle.figures.proofs.Joined.{JoinedSoFar, joined-next, joined-ends}
 use borrow.Author.Needs.{needs}
 use Rattle.figures.proofs.spare.spare8.Statement.{statement}
 use Rattle.figures.proofs.spare.spare8.Tie as tie
 
 abbrev Inv-loop : tie.InvT-loop
-Inv-loop xs n i₀ i = SpareSoFar xs n i
+Inv-loop xs n joined₀ i₀ joined i = JoinedSoFar xs n i joined
 
 abbrev μ-loop : tie.MeasureT-loop
-μ-loop xs n i₀ i = length xs - i
+μ-loop xs n joined₀ i₀ joined i = length xs - i
 
 pub spare8-spec : {M : Type 1} → statement M
 spare8-spec =
     tie.close
     (tie.spec
-    Inv-loop μ-loop (λ c. search needs) (λ c. search needs) (λ c. search spare-fails)
-    (λ c. search needs) (λ c. search needs) (λ c. search spare-next) (λ c. search spare-ends))
+    Inv-loop μ-loop (λ c. search needs) (λ c. search needs) (λ c. search needs)
+    (λ c. search needs) (λ c. search joined-next) (λ c. search joined-ends))

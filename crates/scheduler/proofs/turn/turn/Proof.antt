@@ -1,5 +1,5 @@
 -- `scheduler::turn::turn` meets its contract. The event is the one at its place. Assumes nothing.
-use Rattle.scheduler.proofs.TurnLaws.{turn-sound, turn-limits, turn-room, turn-acts}
+use Rattle.scheduler.proofs.TurnLaws.{turn-sound, turn-room, turn-acts}
 use borrow.Author.Needs.{needs}
 use Rattle.scheduler.proofs.turn.turn.Statement.{statement}
 use Rattle.scheduler.proofs.turn.turn.Tie as tie
@@ -8,5 +8,5 @@ pub turn-spec : {M : Type 1} → statement M
 turn-spec =
     tie.close
     (tie.spec
-    (λ c κs. search needs) (λ c κs. (search turn-sound, (search turn-limits, search needs))) (λ c κs. search turn-room) (λ c κs. search needs) (λ c. search needs)
+    (λ c κs. search needs) (λ c κs. (search turn-sound, search needs)) (λ c κs. search turn-room) (λ c κs. search needs) (λ c. search needs)
     (λ c. (search turn-acts, search needs)))

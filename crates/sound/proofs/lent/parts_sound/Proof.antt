@@ -12,4 +12,4 @@ parts-sound-spec =
     (tie.spec
     (λ c κs. search needs) (λ c. search (alls, said-not-true, said-not-false)) (λ c κs. search needs)
     (λ c. search (alls, said-not-true, said-not-false)) (λ c κs. search needs) (λ c. search (alls, said-not-true, said-not-false))
-    (λ c κs. search needs) (λ c. search (alls, said-not-true, said-not-false)))
+    (λ c κs. search needs) (λ c. search (alls, said-not-false)))

@@ -1,9 +1,9 @@
 //! The proved replay against the same one in ordinary Rust, as it comes and with
 //! the proved one's tree and shortcuts, over books of full length and by both
 //! protocols: all must give the same rows and figures; then each is timed. Then
-//! how the time grows, by books of the same kind with fewer tasks. Then the books
-//! written from their records, and single steps, from states of the books and
-//! from full states.
+//! how the time grows, by books of the same kind with other numbers of tasks. Then
+//! the books written from their records, and single steps, from states of the books
+//! and from full states.
 //!
 //!     bench [--rounds N] BOOK.. [--growth BOOK..]
 //!
@@ -28,6 +28,9 @@ use std::time::Instant;
 /// Replays in a round: short enough that most rounds run undisturbed.
 const TURNS: u32 = 5;
 const DEFAULT_ROUNDS: usize = 301;
+
+/// The number of tasks that the time of as many as can be is compared with.
+const FORMER: usize = 96;
 
 fn main() -> ExitCode {
     let mut rounds = DEFAULT_ROUNDS;
@@ -65,7 +68,7 @@ fn main() -> ExitCode {
 fn head(what: &str, of: &str, by: &str, rounds: usize) {
     println!("{what}: the median of {rounds} rounds (the least); the ratio of the medians");
     println!(
-        "{of:<12} {by:<8} {:<7} {:>16} {:>16} {:>6}",
+        "{of:<13} {by:<8} {:<7} {:>16} {:>16} {:>6}",
         "", "proved", "ordinary", "ratio"
     );
 }
@@ -75,14 +78,15 @@ fn head(what: &str, of: &str, by: &str, rounds: usize) {
 fn replays(books: &[(String, Vec<u8>)], rounds: usize, parts: bool) -> bool {
     println!("ns an event: the median of {rounds} rounds (the least); the ratio of the medians");
     println!(
-        "{:<12} {:<8} {:<7} {:>16} {:>16} {:>6} {:>16} {:>6}",
+        "{:<13} {:<8} {:<7} {:>16} {:>16} {:>6} {:>16} {:>6}",
         "book", "protocol", "", "proved", "ordinary", "ratio", "with the tree", "ratio"
     );
     let mut agree = true;
+    let mut proved = Vec::new();
     for (name, book) in books {
         let differing = |protocol| difference(protocol, book).map(|what| (protocol, what));
         match Protocol::BOTH.into_iter().find_map(differing) {
-            None => measure(name, book, rounds, parts),
+            None => proved.push((name.as_str(), measure(name, book, rounds, parts))),
             Some((protocol, what)) => {
                 let by = protocol.name();
                 println!("{name}: by the {by} protocol they differ in {what}");
@@ -90,8 +94,28 @@ fn replays(books: &[(String, Vec<u8>)], rounds: usize, parts: bool) -> bool {
             }
         }
     }
+    if !parts {
+        grown(&proved);
+    }
     println!();
     agree
+}
+
+/// How many times as long an event takes with as many tasks as can be as with 96,
+/// by each protocol, for each kind of book that there is with both. The two books
+/// are not timed in turn, so on a machine that is not idle the least says more.
+fn grown(proved: &[(&str, [Figure; 2])]) {
+    println!("proved, {MOST_TASKS} tasks to {FORMER}: the ratio of the medians (of the least)");
+    println!("{:<13} {:>14} {:>14}", "book", "second", "first");
+    for (name, after) in proved {
+        let kind = name.strip_suffix(&format!("-{MOST_TASKS}"));
+        let former = kind.map(|kind| format!("{kind}-{FORMER}"));
+        let is_former = |other: &&(&str, _)| Some(other.0) == former.as_deref();
+        if let (Some(kind), Some((_, before))) = (kind, proved.iter().find(is_former)) {
+            let [second, first] = [0, 1].map(|at| after[at].ratio(before[at]));
+            println!("{kind:<13} {second:>14} {first:>14}");
+        }
+    }
 }
 
 /// Whether both agree on every book that is written.
@@ -111,9 +135,7 @@ fn writes(books: &[(String, Vec<u8>)], rounds: usize) -> bool {
 }
 
 /// Whether both agree on every single step by both protocols: from the states of
-/// the books, and from full states of a quarter, a half and all of the tasks that
-/// can be. These three have the same locks open, so they say how a step grows with
-/// the tasks.
+/// the books, and from full states.
 fn steps(books: &[(String, Vec<u8>)], rounds: usize) -> bool {
     println!();
     head("ns a step", "states", "protocol", rounds);
@@ -137,7 +159,7 @@ fn steps(books: &[(String, Vec<u8>)], rounds: usize) -> bool {
             try_scene(&|protocol| scenes::of_book(protocol, name, &checked));
         }
     }
-    for tasks in [MOST_TASKS / 4, MOST_TASKS / 2, MOST_TASKS] {
+    for tasks in scenes::FULL {
         try_scene(&|protocol| scenes::full(protocol, tasks));
     }
     for tally in tallies {
@@ -198,8 +220,9 @@ fn difference(protocol: Protocol, book: &[u8]) -> Option<&'static str> {
 }
 
 /// Times all, round by round in turn: the whole replay by each protocol, the check
-/// of the book alone, and by their difference the run of the events.
-fn measure(name: &str, book: &[u8], rounds: usize, parts: bool) {
+/// of the book alone, and by their difference the run of the events. What the proved
+/// replay takes by both protocols.
+fn measure(name: &str, book: &[u8], rounds: usize, parts: bool) -> [Figure; 2] {
     let mut rows = vec![0; ROW_SPACE];
     let events = device::replay(Protocol::Second, book, &mut rows)
         .state
@@ -230,8 +253,8 @@ fn measure(name: &str, book: &[u8], rounds: usize, parts: bool) {
         }
     }
     let [proved_check, ordinary_check] = checks.map(Figure::of);
-    for (protocol, times) in Protocol::BOTH.into_iter().zip(replays) {
-        let [proved, ordinary, tree] = times.map(Figure::of);
+    let replays = replays.map(|times| times.map(Figure::of));
+    for (protocol, [proved, ordinary, tree]) in Protocol::BOTH.into_iter().zip(replays) {
         report_with(name, protocol.name(), "replay", [proved, ordinary, tree]);
         if parts {
             let runs = [
@@ -245,6 +268,7 @@ fn measure(name: &str, book: &[u8], rounds: usize, parts: bool) {
     if parts {
         report("", "", "check", proved_check, ordinary_check);
     }
+    replays.map(|[proved, ..]| proved)
 }
 
 fn report(name: &str, by: &str, part: &str, proved: Figure, ordinary: Figure) {
@@ -263,7 +287,7 @@ fn report_with(name: &str, by: &str, part: &str, [proved, ordinary, tree]: [Figu
 
 fn line(name: &str, by: &str, part: &str, proved: Figure, ordinary: Figure) -> String {
     format!(
-        "{name:<12} {by:<8} {part:<7} {:>16} {:>16} {:>6.2}",
+        "{name:<13} {by:<8} {part:<7} {:>16} {:>16} {:>6.2}",
         proved.show(),
         ordinary.show(),
         proved.median / ordinary.median
@@ -304,6 +328,11 @@ impl Figure {
     fn show(self) -> String {
         let digits = if self.median < 1000.0 { 2 } else { 0 };
         format!("{:.digits$} ({:.digits$})", self.median, self.least)
+    }
+
+    fn ratio(self, other: Figure) -> String {
+        let (median, least) = (self.median / other.median, self.least / other.least);
+        format!("{median:.2} ({least:.2})")
     }
 
     fn less(self, other: Figure) -> Figure {

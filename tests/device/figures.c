@@ -6,15 +6,14 @@
 
 #define COUNT(list) (sizeof(list) / sizeof(list)[0])
 
-/* Each array with all its places, as "value x places" for each run of equal ones. */
+/* Each array with all its places, and of the equal ones at its end only the first: "0.." is 0 up to the last place. */
 #define SHOW(what, list)                                                             \
     do {                                                                             \
+        size_t last = COUNT(list) - 1;                                               \
+        while (last > 0 && (list)[last - 1] == (list)[last]) last--;                 \
         printf("  %s", what);                                                        \
-        for (size_t i = 0, j; i < COUNT(list); i = j) {                              \
-            for (j = i + 1; j < COUNT(list) && (list)[j] == (list)[i];) j++;         \
-            printf(j - i == 1 ? " %" PRIu64 : " %" PRIu64 "x%zu", (uint64_t)(list)[i], j - i); \
-        }                                                                            \
-        printf("\n");                                                                \
+        for (size_t i = 0; i <= last; i++) printf(" %" PRIu64, (uint64_t)(list)[i]); \
+        printf("%s\n", last + 1 < COUNT(list) ? ".." : "");                          \
     } while (0)
 
 static struct recorder_load load(uint32_t ceiling) {
@@ -87,10 +86,40 @@ static void users(const struct recorder_plan *crane) {
     load_uses(crane, (const uint16_t[]){A0, A1, B0, B1, C0}, 5);
 }
 
+/* The most tasks and uses, and one more: tasks of base 1, of which every one uses each of 32 locks, in turn. */
+static struct recorder_plan load_many(size_t task_count, size_t use_count) {
+    static struct recorder_task tasks[RECORDER_MAX_TASKS + 1];
+    static uint32_t locks[RECORDER_MAX_LOCKS];
+    static uint16_t uses[RECORDER_MAX_USES + 1];
+    for (size_t task = 0; task < COUNT(tasks); task++) tasks[task] = (struct recorder_task){1, 0};
+    for (size_t lock = 0; lock < COUNT(locks); lock++) locks[lock] = 1 + 7 * 65536;
+    for (size_t i = 0; i < COUNT(uses); i++) uses[i] = (uint16_t)(i / COUNT(locks) + i % COUNT(locks) * 256);
+    size_t lock_count = use_count ? COUNT(locks) : 0;
+    struct recorder_load l = recorder_load_table(tasks, task_count, locks, lock_count, uses, use_count);
+    printf("%zu tasks, %zu uses: load %u %zu tasks %zu\n", task_count, use_count, (unsigned)l.number, l.place, l.plan.tasks);
+    return l.plan;
+}
+
+/* The last of 200 tasks, and the number after it. */
+static void many(void) {
+    load_many(97, 0);
+    load_many(200, 0);
+    load_many(201, 0);
+    load_many(200, 6401);
+    struct recorder_plan plan = load_many(200, 6400);
+    struct recorder_state s = recorder_fresh();
+    s = step(plan, s, RECORDER_RELEASE, 199, 0);
+    s = step(plan, s, RECORDER_ACQUIRE, 31, 0);
+    s = step(plan, s, RECORDER_WORK, 0, 7);
+    s = step(plan, s, RECORDER_RELEASE, 200, 0);
+    show(&s);
+}
+
 int main(void) {
     load(4);
     struct recorder_plan plan = load(3).plan;
     users(&plan);
+    many();
     struct recorder_state s = recorder_fresh();
     show(&s);
     s = step(plan, s, RECORDER_RELEASE, 0, 0);

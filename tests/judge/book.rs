@@ -43,7 +43,7 @@ pub fn read(bytes: &[u8], row_space: usize) -> Result<Book, Refusal> {
 /// The same by a judge that may have gone wrong.
 pub fn read_by(bytes: &[u8], row_space: usize, wrong: Wrong) -> Result<Book, Refusal> {
     test_1_length(bytes)?;
-    test_2_counts(counts(bytes))?;
+    test_2_counts(counts(bytes), wrong)?;
     let records = test_3_contents(bytes)?;
     let plan = test_plan(&records, wrong)?;
     let events = test_8_events(&records.events)?;
@@ -112,9 +112,9 @@ fn test_1_length(bytes: &[u8]) -> Result<(), Refusal> {
 
 /// 2: a number of records is out of range. The range goes by the position of
 /// the entry, whatever kind is written there, and the place is the entry.
-pub fn test_2_counts(counts: [usize; 4]) -> Result<(), Refusal> {
+pub fn test_2_counts(counts: [usize; 4], wrong: Wrong) -> Result<(), Refusal> {
     let least = [1, 0, 0, 0];
-    let most = [MOST_TASKS, MOST_LOCKS, MOST_USES, MOST_EVENTS];
+    let most = wrong.most();
     for entry in 1..=4 {
         let count = counts[entry - 1];
         if count < least[entry - 1] || count > most[entry - 1] {

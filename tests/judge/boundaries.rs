@@ -8,7 +8,7 @@ use crate::draft::Draft;
 use crate::event::Event::{self, Acquire, Finish, Release, Tick, Unlock, Work};
 use crate::generate::Case;
 use crate::plan::{
-    Lock, Plan, MOST_EVENTS, MOST_LOCKS, MOST_OPEN, MOST_TASKS, MOST_UNITS, MOST_USES,
+    Lock, Plan, MOST_EVENTS, MOST_LOCKS, MOST_OPEN, MOST_TASKS, MOST_UNITS, MOST_USES, NOBODY,
 };
 use crate::wire::MOST_BYTES;
 
@@ -252,7 +252,18 @@ fn steps(shelf: &mut Shelf) {
     shelf.events("release of task 4", crane, &[Release(3), Release(4)], 13, 1);
     shelf.events("release of the greatest id", crane, &[Release(u8::MAX)], 13, 0);
     let past_the_last = [Release(LAST_TASK), Release(NO_TASK)];
-    shelf.events("release past the last", &full_plan(MOST_TASKS, 0), &past_the_last, 13, 1);
+    let crowd = full_plan(MOST_TASKS, 1);
+    shelf.events("release past the last", &crowd, &past_the_last, 13, 1);
+    shelf.events("release of nobody", &crowd, &[Release(LAST_TASK), Release(NOBODY)], 13, 1);
+    let mut come_and_go: Vec<Event> = (0..=LAST_TASK).rev().map(Release).collect();
+    come_and_go.extend([Finish; MOST_TASKS]);
+    shelf.events("all tasks come and go", &crowd, &come_and_go, 0, 0);
+    come_and_go.push(Finish);
+    shelf.events("and one more goes", &crowd, &come_and_go, 12, 2 * MOST_TASKS as u32);
+    let mut behind_the_last = vec![Release(LAST_TASK), Acquire(0)];
+    behind_the_last.extend((0..LAST_TASK).map(Release));
+    behind_the_last.extend([Work(MOST_UNITS), Work(1)]);
+    shelf.events("all wait for the last", &crowd, &behind_the_last, 21, MOST_TASKS as u32 + 2);
     shelf.events("acquire of lock 2", crane, &[Release(0), Acquire(2)], 13, 1);
     shelf.events("unlock of lock 2", crane, &[Release(0), Unlock(2)], 13, 1);
     let past_the_last = [Release(0), Acquire(NO_LOCK)];

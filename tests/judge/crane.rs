@@ -7,9 +7,10 @@ use crate::draft::Draft;
 use crate::eager::Eager;
 use crate::event::Event::{self, Acquire, Finish, Release, Tick, Unlock, Work};
 use crate::lazy::{Lazy, Word};
-use crate::plan::{Lock, Plan, MOST_ACCEPTED, NOBODY};
+use crate::plan::{Lock, Plan, MOST_ACCEPTED};
 use crate::protocol::{ByProtocol, Protocol, PROTOCOLS};
 use crate::replay::{replay, Answer};
+use crate::report;
 use crate::wrong::Wrong;
 
 /// Four tasks and two locks: task 0 shares lock 0 with task 2 and lock 1 with
@@ -141,28 +142,6 @@ fn row(answer: &Answer, place: usize) -> [u8; 4] {
     [four[0], four[1], four[2], four[3]]
 }
 
-/// The report of a run that nothing refuses, as a program prints it.
-fn printed(answer: &Answer) -> String {
-    let mut text = String::from("event running user next call\n");
-    for place in 0..answer.rows.len() / 4 {
-        let [running, user, next, call] = row(answer, place);
-        let who = if running == NOBODY {
-            "-".to_string()
-        } else {
-            running.to_string()
-        };
-        text += &format!("{} {who} {user} {next} {call}\n", place + 1);
-    }
-    text += &format!("calls {} {}\n", answer.lazy_calls, answer.eager_calls);
-    let delays: Vec<String> = answer
-        .delays
-        .iter()
-        .map(|delay| delay.to_string())
-        .collect();
-    text += &format!("delayed {}\n", delays.join(" "));
-    text
-}
-
 /// Runs all tests of this file; the number done and those that failed.
 pub fn test() -> (usize, Vec<String>) {
     let mut tests = Tests {
@@ -183,11 +162,15 @@ fn runs_p1_to_p4(tests: &mut Tests) {
     let p1 = run("P1");
     tests.expect("P1: length of the book", book(RUNS[0].1).len(), 84);
     tests.expect("P1: nothing refused", (p1.number, p1.place), (0, 0));
-    tests.expect("P1: the whole report", printed(&p1).as_str(), P1_PRINTED);
+    tests.expect(
+        "P1: the whole report",
+        report::of_answer(&p1, RUNS[0].1.len()).as_str(),
+        P1_PRINTED,
+    );
     let by_first = answers(RUNS[0].1, Wrong::Nothing).first;
     tests.expect(
         "P1: the whole report by the first protocol",
-        printed(&by_first).as_str(),
+        report::of_answer(&by_first, RUNS[0].1.len()).as_str(),
         P1_PRINTED_BY_FIRST,
     );
 

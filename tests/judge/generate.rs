@@ -2,6 +2,7 @@
 //! ones of up to 60 events are of all sorts, right and damaged; long ones have
 //! as many events as a book can.
 
+use crate::again;
 use crate::check::{check, Checked};
 use crate::crane;
 use crate::damage;
@@ -171,12 +172,12 @@ pub fn long(seed: u64, number: u64) -> Case {
     }
 }
 
-/// The kinds of full-length books, which the benchmark takes.
+/// The kinds of full-length books that a real kernel runs too.
 pub const FULL_LENGTH: [&str; 3] = ["crane", "contended", "plain"];
 
-/// A full-length book of one of these kinds, all of it accepted, from a fixed
-/// seed; nothing for another kind. A contended or a plain one may have fewer
-/// tasks than can be: `contended-4`.
+/// A full-length book of one of these kinds, or of the others that `--write` is
+/// told, all of it accepted, from a fixed seed; nothing for another kind. Most may
+/// have fewer tasks than can be: `contended-4`.
 pub fn full_length(kind: &str) -> Option<Case> {
     let random = &mut Random::new(2001);
     let (name, tasks) = match kind.split_once('-') {
@@ -186,15 +187,16 @@ pub fn full_length(kind: &str) -> Option<Case> {
     if !(4..=MOST_TASKS).contains(&tasks) {
         return None;
     }
-    let (plan, style) = match name {
-        "crane" if name == kind => (crane::plan(), None),
-        "contended" => (plans::contended_of(random, tasks), Some(&walk::CONTENDED)),
-        "plain" => (plans::plain_of(random, tasks), Some(&walk::PLAIN)),
-        _ => return None,
+    let walked = |plan: Plan, random: &mut Random, style| {
+        let events = walk::walk(random, &plan, style, MOST_EVENTS, None);
+        (plan, events)
     };
-    let events = match style {
-        None => crane::again_and_again(MOST_EVENTS),
-        Some(style) => walk::walk(random, &plan, style, MOST_EVENTS, None),
+    let (plan, events) = match name {
+        "crane" if name == kind => (crane::plan(), crane::again_and_again(MOST_EVENTS)),
+        "largest" if name == kind => (again::largest_plan(), again::largest_events(MOST_EVENTS)),
+        "contended" => walked(plans::contended_of(random, tasks), random, &walk::CONTENDED),
+        "plain" => walked(plans::plain_of(random, tasks), random, &walk::PLAIN),
+        _ => (again::plan(tasks), again::events(name, tasks, MOST_EVENTS)?),
     };
     let book = Draft::of(&plan, &events).bytes();
     Some(Case {

@@ -8,6 +8,7 @@
 //!     judge --self [OPTION..]
 //!     judge --kernel [OPTION..] -- KERNEL ARGS.. -- COMMAND ARGS..
 //!     judge --write KIND FILE
+//!     judge --report PROTOCOL FILE
 //!     judge --ways
 //!
 //! With `--kernel` the program's rows are compared with what a real kernel ran.
@@ -16,6 +17,7 @@
 //! amiss, 1 if the run could not do what it had to, 2 if it was called wrongly
 //! or cannot start the program.
 
+mod again;
 mod aims;
 mod book;
 mod book_cases;
@@ -47,6 +49,7 @@ mod protocol;
 mod random;
 mod refusals;
 mod replay;
+mod report;
 mod requests;
 mod resume;
 mod rounds;
@@ -73,7 +76,7 @@ mod writings;
 mod wrong;
 
 use judging::Ending;
-use protocol::ByProtocol;
+use protocol::{ByProtocol, PROTOCOLS};
 use requests::Amounts;
 use std::process::ExitCode;
 use step_tally::StepTally;
@@ -85,7 +88,9 @@ const USAGE: &str = "\
 usage: judge [OPTION..] -- COMMAND ARGS..
        judge --self [OPTION..]
        judge --kernel [OPTION..] -- KERNEL ARGS.. -- COMMAND ARGS..
-       judge --write crane|contended[-TASKS]|plain[-TASKS] FILE
+       judge --write KIND[-TASKS] FILE
+           of the kinds crane, largest (without TASKS), contended, plain, ticks, works, waits, sections, jobs, calls
+       judge --report second|first FILE
        judge --ways
 --seed N    of all that is generated (1)
 --count N   short books (20000)
@@ -125,6 +130,8 @@ enum Task {
     Kernel,
     /// A full-length book of this kind to this file.
     Write(String, String),
+    /// The report by this protocol on the book in this file.
+    Report(String, String),
     Ways,
 }
 
@@ -201,6 +208,7 @@ fn carry_out(options: &Options) -> Result<Ending, String> {
         Task::JudgeSelf => Ok(own::judge_self(options)),
         Task::Kernel => kernel::judge(options),
         Task::Write(kind, path) => write_book(kind, path),
+        Task::Report(protocol, path) => report_book(protocol, path),
         Task::Ways => {
             wrong::WRONG_WAYS
                 .iter()
@@ -239,6 +247,7 @@ fn options(words: &[String]) -> Result<Options, String> {
             "--self" => options.task = Task::JudgeSelf,
             "--kernel" => options.task = Task::Kernel,
             "--write" => options.task = Task::Write(value()?.clone(), value()?.clone()),
+            "--report" => options.task = Task::Report(value()?.clone(), value()?.clone()),
             "--ways" => options.task = Task::Ways,
             "--" => {
                 let commands: Vec<String> = rest.cloned().collect();
@@ -286,5 +295,14 @@ fn write_book(kind: &str, path: &str) -> Result<Ending, String> {
         answers.first.lazy_calls,
         answers.second.eager_calls,
     );
+    Ok(Ending::Agrees)
+}
+
+/// `--report`: what the program has to print for a book.
+fn report_book(protocol: &str, path: &str) -> Result<Ending, String> {
+    let named = PROTOCOLS.into_iter().find(|other| other.name() == protocol);
+    let protocol = named.ok_or(format!("no protocol is called {protocol}"))?;
+    let book = std::fs::read(path).map_err(|error| format!("cannot read {path}: {error}"))?;
+    print!("{}", report::of_book(&book, protocol));
     Ok(Ending::Agrees)
 }

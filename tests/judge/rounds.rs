@@ -9,6 +9,7 @@ use crate::replay::FILL;
 use crate::whole::Whole;
 use crate::writer::Written;
 use crate::writing::Writing;
+use crate::wrong::Wrong;
 
 /// What does not go round, in words. The book has the bytes of the records and
 /// was checked with row space enough.
@@ -40,7 +41,7 @@ pub fn broken(writing: &Writing, book: &[u8], checked: &Checked, written: &Writt
     let (front, rest) = buffer.split_at(length);
     demand(front == book, "other bytes are written than are read");
     demand(is_fill(rest), "a byte after the book is touched");
-    let has_plan = test_2_counts(records.counts()).is_ok();
+    let has_plan = test_2_counts(records.counts(), Wrong::Nothing).is_ok();
     let is_same = has_plan && checked.plan == Whole::of_plan(&records.plan());
     demand(is_same, "another plan is read than is written");
     let events = book.get(checked.events_at as usize..);

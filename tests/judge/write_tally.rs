@@ -7,6 +7,7 @@ use crate::plan::MOST_EVENTS;
 use crate::refusals::{FROM_WRITINGS, WORDS};
 use crate::wire::MOST_BYTES;
 use crate::writing::{Outcome, Writing};
+use crate::wrong::Wrong;
 
 /// Each answer is given at least so often, and all else is met so often.
 const LEAST_ANSWERS: usize = 100;
@@ -214,5 +215,5 @@ fn is_right_if_cut(writing: &Writing) -> bool {
         .records
         .counts()
         .map(|count| count % (LAST_COUNT + 1));
-    test_2_counts(cut).is_ok()
+    test_2_counts(cut, Wrong::Nothing).is_ok()
 }

@@ -41,7 +41,7 @@ pub fn write(records: &Draft, room: usize, wrong: Wrong) -> Written {
 /// The bytes, or the first test that refuses.
 fn book(records: &Draft, room: usize, wrong: Wrong) -> Result<Vec<u8>, Refusal> {
     let book = records.bytes();
-    test_2_counts(records.counts())?;
+    test_2_counts(records.counts(), wrong)?;
     test_plan(records, wrong)?;
     if wrong == Wrong::RoomBefore8 {
         test_23_room(room, &book)?;
@@ -65,7 +65,7 @@ pub fn faults(records: &Draft, room: usize) -> Vec<u8> {
     let plan = records.plan();
     let [tasks, locks, ..] = records.counts();
     let is_refused = [
-        (2, test_2_counts(records.counts()).is_err()),
+        (2, test_2_counts(records.counts(), Wrong::Nothing).is_err()),
         (4, test_4_tasks(&records.tasks).is_err()),
         (5, test_5_locks(&records.locks).is_err()),
         (6, test_6_uses(&records.uses, tasks, locks).is_err()),

@@ -1,11 +1,12 @@
 //! Ways to go wrong on purpose: the four mistakes of RULES 18.4 and one close to
 //! them, others that only single steps can show, some of the count of eager calls,
 //! some of the kernel word, which is the first protocol's, some of the writer of
-//! books, and some of a lock with one user. The judge can follow one of them; a right
-//! program must then differ from it, which shows that the judge is able to fail a
-//! program.
+//! books, some of a lock with one user, and some of the sizes. The judge can follow
+//! one of them; a right program must then differ from it, which shows that the judge
+//! is able to fail a program.
 
 use crate::event::Event;
+use crate::plan::{MOST_EVENTS, MOST_LOCKS, MOST_TASKS, MOST_USES};
 use crate::protocol::Protocol;
 
 #[derive(Clone, Copy, Debug, PartialEq, Eq)]
@@ -81,10 +82,18 @@ pub enum Wrong {
     OneUserInState,
     /// A lock wants three users.
     ThreeUsers,
+    /// A plan has 96 tasks at most.
+    FewerTasks,
+    /// A plan has 3,072 uses at most.
+    FewerUses,
+    /// One more task than there can be.
+    OneMoreTask,
+    /// One more use than there can be.
+    OneMoreUse,
 }
 
 /// The wrong ways under the names of the command line.
-pub const WRONG_WAYS: [(&str, Wrong); 33] = [
+pub const WRONG_WAYS: [(&str, Wrong); 37] = [
     ("tail", Wrong::Tail),
     ("at-or-above", Wrong::AtOrAbove),
     ("gives-way", Wrong::GivesWay),
@@ -118,6 +127,10 @@ pub const WRONG_WAYS: [(&str, Wrong); 33] = [
     ("one-user", Wrong::OneUser),
     ("one-user-in-state", Wrong::OneUserInState),
     ("three-users", Wrong::ThreeUsers),
+    ("fewer-tasks", Wrong::FewerTasks),
+    ("fewer-uses", Wrong::FewerUses),
+    ("one-more-task", Wrong::OneMoreTask),
+    ("one-more-use", Wrong::OneMoreUse),
 ];
 
 impl Wrong {
@@ -147,6 +160,19 @@ impl Wrong {
             _ => return true,
         };
         only == protocol
+    }
+
+    /// How many tasks, locks, uses and events a book has at most.
+    pub fn most(self) -> [usize; 4] {
+        let mut most = [MOST_TASKS, MOST_LOCKS, MOST_USES, MOST_EVENTS];
+        match self {
+            Wrong::FewerTasks => most[0] = 96,
+            Wrong::FewerUses => most[2] = 3_072,
+            Wrong::OneMoreTask => most[0] += 1,
+            Wrong::OneMoreUse => most[2] += 1,
+            _ => {}
+        }
+        most
     }
 
     /// How many users a lock of a book has at least.

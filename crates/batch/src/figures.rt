@@ -1,5 +1,5 @@
 // A plan and a state, figure by figure. A plan: its tasks and its locks, eight bytes each, then the
-// bases, ceilings, limits and uses. A state: the accepted events, who runs, the two words and the two
+// bases, maxima, ceilings, limits and uses. A state: the accepted events, who runs, the two words and the two
 // counts of calls; of each task the release numbers, kept priorities, delays, open locks, their rows
 // and the rows of saved words; of each lock the units and the owners. Every array has all its places.
 use crate::wire::after;
@@ -19,7 +19,7 @@ use rules::priority::UserPriority;
 use rules::state::Head;
 use rules::state::State;
 
-pub const PLAN_SIZE: usize = 16 + MAX_TASKS * 5 + MAX_LOCKS * 3;
+pub const PLAN_SIZE: usize = 16 + MAX_TASKS * 6 + MAX_LOCKS * 3;
 
 const HEAD_SIZE: usize = 15;
 
@@ -121,10 +121,12 @@ fn give64(out: &mut [u8], at: usize, a: &[u64]) -> usize {
 
 pub fn plan_at(b: &[u8], at: usize) -> Plan {
     let mut base = [0u8; MAX_TASKS];
+    let mut maximum = [0u8; MAX_TASKS];
     let mut ceiling = [0u8; MAX_LOCKS];
     let mut limit = [0u16; MAX_LOCKS];
     let mut uses = [0u32; MAX_TASKS];
     let i = take8(&mut base, b, after(at, 16));
+    let i = take8(&mut maximum, b, i);
     let i = take8(&mut ceiling, b, i);
     let i = take16(&mut limit, b, i);
     take32(&mut uses, b, i);
@@ -132,6 +134,7 @@ pub fn plan_at(b: &[u8], at: usize) -> Plan {
         tasks: read64(b, at) as usize,
         locks: read64(b, after(at, 8)) as usize,
         base: base,
+        maximum: maximum,
         ceiling: ceiling,
         limit: limit,
         uses: uses,
@@ -142,8 +145,9 @@ fn put_uses(out: &mut [u8], at: usize, uses: [u32; MAX_TASKS]) -> usize {
     give32(out, at, &uses)
 }
 
-fn put_bases(out: &mut [u8], at: usize, base: [u8; MAX_TASKS]) -> usize {
-    give8(out, at, &base)
+fn put_tasks(out: &mut [u8], at: usize, base: [u8; MAX_TASKS], maximum: [u8; MAX_TASKS]) -> usize {
+    let i = give8(out, at, &base);
+    give8(out, i, &maximum)
 }
 
 fn put_sections(
@@ -158,12 +162,13 @@ fn put_sections(
 
 pub fn put_plan(out: &mut [u8], at: usize, p: Plan) -> usize {
     let base = p.base;
+    let maximum = p.maximum;
     let ceiling = p.ceiling;
     let limit = p.limit;
     let uses = p.uses;
     let i = put64(out, at, p.tasks as u64);
     let i = put64(out, i, p.locks as u64);
-    let i = put_bases(out, i, base);
+    let i = put_tasks(out, i, base, maximum);
     let i = put_sections(out, i, ceiling, limit);
     put_uses(out, i, uses)
 }

@@ -1,4 +1,4 @@
--- A book that passes 1 to 9: its events are all that follows from their body's start, none of them is at fault, and there is room for their rows. Assumes
+-- A book that passes 1 to 9 and 24: its events are all that follows from their body's start, none of them is at fault, and there is room for their rows. Assumes
 -- nothing.
 use mathlib.Core.Path.{_≡_, _∙_}
 use mathlib.Core.Bool.{false}

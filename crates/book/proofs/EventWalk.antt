@@ -1,4 +1,4 @@
--- RULES 4.8: the reader walks the event body where it lies, one record at a time, through every book that passes 1 to 9. Assumes nothing.
+-- RULES 4.8: the reader walks the event body where it lies, one record at a time, through every book that passes 1 to 9 and 24. Assumes nothing.
 use mathlib.Core.Path.{_≡_, sym, _∙_, ap}
 use mathlib.Core.Logic.{⊎-elim}
 use mathlib.Core.List.{List}

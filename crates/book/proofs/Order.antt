@@ -1,4 +1,4 @@
--- The order of 1 to 9: each check is asked where those before it found no offender. Assumes nothing.
+-- The order of 1 to 7, 24, 8 and 9: each check is asked where those before it found no offender. Assumes nothing.
 use mathlib.Core.Path.{_≡_, sym, _∙_, ap, ap₂}
 use mathlib.Core.Bool.{Bool, true, false}
 use mathlib.Core.List.{List, _++_}
@@ -78,7 +78,7 @@ module _ (b : List ℕ) where
     unfolding checkOf
     passed-contents r e h = h ∙ ap (λ w. checkedAs w b) (sym (check-right (contentsChecks b) _ (sym said ∙ e)))
 
-  -- ---- 4 to 7
+  -- ---- 4 to 7 and 24
 
   module _ (room : ℕ) (l : Loaded) (loaded : l ≡ loadOf (tasksOf b) (locksOf b) (usesOf b)) where
     abbrev rest : Verdict

@@ -1,4 +1,4 @@
-// RULES 4 to 6: a book, that is its contents (1 to 3), its plan (2 and 4 to 7), its events where they
+// RULES 4 to 6: a book, that is its contents (1 to 3), its plan (2, 4 to 7 and 24), its events where they
 // lie (8), and the row space for them (9); and the writer of one (23).
 mod bodies;
 mod contents;
@@ -16,7 +16,7 @@ use rules::answer::Verdict;
 ghost use mathlib.Core.Path.{_≡_};
 ghost use Rattle.rules.specs.Books.Book.{checkedOf};
 
-// The book's plan and the place of its event body, or the first offender of 1 to 9. Each event
+// The book's plan and the place of its event body, or the first offender of 1 to 9 and 24. Each event
 // needs four bytes of room for its row.
 pub fn check(b: &[u8], room: usize) -> Checked
     ensures { λ r. ⌜ r ≡ checkedOf (now (b .entry)) room ⌝ }

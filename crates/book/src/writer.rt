@@ -1,4 +1,4 @@
-// RULES 6.5, 6.6: a book written from its records into a lent buffer, or the first offender of 2, 4 to 8
+// RULES 6.5, 6.6: a book written from its records into a lent buffer, or the first offender of 2, 4 to 7, 24, 8
 // and 23.
 use crate::entry::CONTENTS;
 use crate::lay::lay;
@@ -108,7 +108,7 @@ fn first_last(events: &[u32], size: usize, room: usize) -> Verdict
     Verdict::Passed
 }
 
-// 2, 4 to 8 and 23, in this order, each at its first offender.
+// 2, 4 to 7, 24, 8 and 23, in this order, each at its first offender.
 fn first_fault(tasks: &[u16], locks: &[u32], uses: &[u16], events: &[u32], room: usize) -> Verdict
     ensures { λ r. ⌜ r ≡ firstFault (writeChecks (now (tasks .entry)) (now (locks .entry)) (now (uses .entry)) (now (events .entry)) room) ⌝ }
 {

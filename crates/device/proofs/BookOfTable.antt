@@ -44,14 +44,14 @@ module _ (ts : List TaskRecord) (locks uses : List ℕ) where
       ∙ ap₂ (loadOf (numbersOf ts)) (locks-back (numbersOf ts) locks uses []) (uses-back (numbersOf ts) locks uses []))
 
 -- a table's numbers fit two bytes
-numbers-fit : (ts : List TaskRecord) → ((i : ℕ) → (getD ts i noRecord .base < 2 ^ 8) × (getD ts i noRecord .second < 2 ^ 8))
+numbers-fit : (ts : List TaskRecord) → ((i : ℕ) → (getD ts i noRecord .base < 2 ^ 8) × (getD ts i noRecord .maximum < 2 ^ 8))
     → (i : ℕ) → at (numbersOf ts) i < 2 ^ 16
 numbers-fit [] h i = omega arith
 numbers-fit (t ∷ ts) h zero = omega (arith, h 0 .0, h 0 .1)
 numbers-fit (t ∷ ts) h (suc i) = numbers-fit ts (λ i. h (suc i)) i
 
 -- so the book is of bytes, where two bytes hold each count
-pub table-bytes : (ts : List TaskRecord) (locks uses : List ℕ) → ((i : ℕ) → (getD ts i noRecord .base < 2 ^ 8) × (getD ts i noRecord .second < 2 ^ 8))
+pub table-bytes : (ts : List TaskRecord) (locks uses : List ℕ) → ((i : ℕ) → (getD ts i noRecord .base < 2 ^ 8) × (getD ts i noRecord .maximum < 2 ^ 8))
     → ((i : ℕ) → at locks i < 2 ^ 32) → ((i : ℕ) → at uses i < 2 ^ 16) → length ts < 2 ^ 16 → length locks < 2 ^ 16 → length uses < 2 ^ 16
     → Bytes (tableBook ts locks uses)
 table-bytes ts locks uses t l u n m k = book-bytes (numbersOf ts) locks uses [] (record {

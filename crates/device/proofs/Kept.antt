@@ -30,24 +30,24 @@ abbrev with : Numbers → ℕ → Numbers
 with n w = record { words = set (n .words) (n .count) w; count = n .count + 1 }
 
 -- with the two bytes as the code has them
-pub kept-in : (n : Numbers) (base second low high : ℕ) → low ≡ base → high ≡ second → n .count < mostKept → with n (low + high * 256) ≡ kept n base second
+pub kept-in : (n : Numbers) (base maximum low high : ℕ) → low ≡ base → high ≡ maximum → n .count < mostKept → with n (low + high * 256) ≡ kept n base maximum
 unfolding kept
-kept-in n base second low high a b h =
-    ap₂ (λ x y. with n (x + y * 256)) a b ∙ sym (if-true (ltb (n .count) mostKept) (with n (base + second * 256)) n (lt-ltb (n .count) mostKept h))
+kept-in n base maximum low high a b h =
+    ap₂ (λ x y. with n (x + y * 256)) a b ∙ sym (if-true (ltb (n .count) mostKept) (with n (base + maximum * 256)) n (lt-ltb (n .count) mostKept h))
 
-pub kept-full : (n : Numbers) (base second : ℕ) → mostKept ≤ n .count → n ≡ kept n base second
+pub kept-full : (n : Numbers) (base maximum : ℕ) → mostKept ≤ n .count → n ≡ kept n base maximum
 unfolding kept
-kept-full n base second h = sym (if-false (ltb (n .count) mostKept) (with n (base + second * 256)) n (le-ltb (n .count) mostKept h))
+kept-full n base maximum h = sym (if-false (ltb (n .count) mostKept) (with n (base + maximum * 256)) n (le-ltb (n .count) mostKept h))
 
 -- ---- a turn of the loop over the table
 
 -- what stands past the end
 abbrev pub noRecord : TaskRecord
-noRecord = record { base = 0; second = 0 }
+noRecord = record { base = 0; maximum = 0 }
 
 module _ (ts : List TaskRecord) (i : ℕ) (n : Numbers) where
   -- one record more
-  pub kept-turn : i < length ts → keptFrom n (drop i ts) ≡ keptFrom (kept n (getD ts i noRecord .base) (getD ts i noRecord .second)) (drop (i + 1) ts)
+  pub kept-turn : i < length ts → keptFrom n (drop i ts) ≡ keptFrom (kept n (getD ts i noRecord .base) (getD ts i noRecord .maximum)) (drop (i + 1) ts)
   unfolding keptFrom
   kept-turn l = rw (add-one i) (ap (keptFrom n) (drop-cons ts i noRecord l))
 
@@ -64,7 +64,7 @@ stores : (ts : List TaskRecord) (n : Numbers) → n .count + length ts ≤ mostK
 unfolding keptFrom
 stores [] n l = ap {B = Numbers} (λ k. record { words = n .words; count = k }) (sym (add-zero (n .count)))
 stores (t ∷ ts) n l =
-    ap (λ m. keptFrom m ts) (sym (kept-in n (t .base) (t .second) (t .base) (t .second) refl refl (omega (arith, l))))
+    ap (λ m. keptFrom m ts) (sym (kept-in n (t .base) (t .maximum) (t .base) (t .maximum) refl refl (omega (arith, l))))
     ∙ stores ts (with n (wordOf t)) (omega (arith, l))
     ∙ ap₂ {C = Numbers} (λ j k. record { words = sets (set (n .words) (n .count) (wordOf t)) j (numbersOf ts); count = k }) (add-one (n .count)) (omega arith)
 
@@ -80,9 +80,9 @@ full : (ts : List TaskRecord) (n : Numbers) → n .count ≤ mostKept → length
 unfolding keptFrom
 full [] n a w b = (omega (arith, a, b), w)
 full (t ∷ ts) n a w b = ⊎-elim
-    (λ h. subst Full (kept-in n (t .base) (t .second) (t .base) (t .second) refl refl h)
+    (λ h. subst Full (kept-in n (t .base) (t .maximum) (t .base) (t .maximum) refl refl h)
     (full ts (with n (wordOf t)) (omega (arith, h)) (length-set (n .words) (n .count) (wordOf t) ∙ w) (omega (arith, b))))
-    (λ h. subst Full (kept-full n (t .base) (t .second) h) (full ts n a w (omega (arith, h))))
+    (λ h. subst Full (kept-full n (t .base) (t .maximum) h) (full ts n a w (omega (arith, h))))
     (lt-or-le (n .count) mostKept)
   where
     Full : Numbers → Type 0

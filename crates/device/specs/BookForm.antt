@@ -17,7 +17,7 @@ use Rattle.device.specs.declared.table.TaskRecord.{TaskRecord}
 
 -- the task records of a book, as a table
 abbrev pub recordAt : List ℕ → ℕ → TaskRecord
-recordAt b i = record { base = at b (bodyAt b 0 + i * 2); second = at b (bodyAt b 0 + i * 2 + 1) }
+recordAt b i = record { base = at b (bodyAt b 0 + i * 2); maximum = at b (bodyAt b 0 + i * 2 + 1) }
 
 abbrev pub recordsOf : List ℕ → List TaskRecord
 recordsOf b = tabulate (countAt b 0) (recordAt b)
@@ -28,7 +28,7 @@ answerOf c = record { verdict = c .verdict; plan = c .plan }
 
 -- nothing but its plan can be refused in a book: it has its contents (1), is laid out right (3), has not too many events (2) and no wrong one (8), and there is
 -- row space (9).
--- What is left is 2 for tasks, locks and uses, and 4 to 7
+-- What is left is 2 for tasks, locks and uses, 4 to 7 and 24
 pub record OnlyPlan (b : List ℕ) (room : ℕ) : Type 0 where
   pub whole : contents ≤ length b
   pub layout : (e : ℕ) → e < 5 → layoutFault b e ≡ false

@@ -10,7 +10,7 @@ use Rattle.device.specs.declared.numbers.Numbers.{Numbers}
 
 -- the number of a record's two bytes, the low one first
 abbrev pub wordOf : TaskRecord → ℕ
-wordOf t = t .base + t .second * 256
+wordOf t = t .base + t .maximum * 256
 
 abbrev pub numbersOf : List TaskRecord → List ℕ
 numbersOf ts = map wordOf ts
@@ -24,13 +24,13 @@ abbrev pub noNumbers : Numbers
 noNumbers = record { words = replicate mostKept 0; count = 0 }
 
 unfoldable pub kept : Numbers → ℕ → ℕ → Numbers
-kept n base second =
-    if ltb (n .count) mostKept then (record { words = set (n .words) (n .count) (base + second * 256); count = n .count + 1 })
+kept n base maximum =
+    if ltb (n .count) mostKept then (record { words = set (n .words) (n .count) (base + maximum * 256); count = n .count + 1 })
     else n
 
 unfoldable pub keptFrom : Numbers → List TaskRecord → Numbers
 keptFrom n [] = n
-keptFrom n (t ∷ ts) = keptFrom (kept n (t .base) (t .second)) ts
+keptFrom n (t ∷ ts) = keptFrom (kept n (t .base) (t .maximum)) ts
 
 abbrev pub keptOf : List TaskRecord → Numbers
 keptOf ts = keptFrom noNumbers ts

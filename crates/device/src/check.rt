@@ -16,7 +16,7 @@ pub struct DeviceCheck {
     pub events: usize,
 }
 
-// 1 to 9, for a book that is to be replayed with so many bytes of row space.
+// 1 to 9 and 24, for a book that is to be replayed with so many bytes of row space.
 #[no_mangle]
 pub extern "C" fn recorder_check(book: &[u8], room: usize) -> DeviceCheck
     ensures { λ r. ⌜ r ≡ checkSpelled (checkedOf (now (book .entry)) room) ⌝ }

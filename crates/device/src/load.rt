@@ -30,7 +30,7 @@ fn spell(l: Loaded) -> DeviceLoad
     }
 }
 
-// `load_table` under a name that a host links: 2, and 4 to 7.
+// `load_table` under a name that a host links: 2, 4 to 7 and 24.
 #[no_mangle]
 pub extern "C" fn recorder_load_table(
     tasks: &[TaskRecord],

@@ -24,14 +24,14 @@ pub fn none() -> Numbers
 }
 
 // The next record's two bytes, as one number; past the room nothing is kept.
-pub fn keep(n: Numbers, base: u8, second: u8) -> Numbers
-    ensures { λ r. ⌜ r ≡ kept n base second ⌝ }
+pub fn keep(n: Numbers, base: u8, maximum: u8) -> Numbers
+    ensures { λ r. ⌜ r ≡ kept n base maximum ⌝ }
 {
     let mut m = n;
     let k = m.count;
     if k < ROOM {
         let low = wide_byte(base);
-        let high = wide_byte(second);
+        let high = wide_byte(maximum);
         m.words[k] = low + high * 256;
         m.count = k + 1;
     }

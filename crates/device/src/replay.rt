@@ -21,7 +21,7 @@ pub struct DeviceReplay {
     pub state: State,
 }
 
-// 1 to 9 first, and no row byte changes where one refuses; then the events up to the first refusal,
+// 1 to 9 and 24 first, and no row byte changes where one refuses; then the events up to the first refusal,
 // each accepted one with its four row bytes. No other byte of the rows changes. The protocol is named by
 // its number.
 #[no_mangle]

@@ -10,7 +10,7 @@ ghost use Rattle.device.specs.Table.{numbersOf, keptOf};
 #[repr(C)]
 pub struct TaskRecord {
     pub base: u8,
-    pub second: u8,
+    pub maximum: u8,
 }
 
 // The numbers of the records, read where they lie.
@@ -21,13 +21,14 @@ fn gather(tasks: &[TaskRecord]) -> Numbers
     let mut i = 0;
     while i < tasks.len() {
         let t = tasks[i];
-        n = numbers::keep(n, t.base, t.second);
+        n = numbers::keep(n, t.base, t.maximum);
         i = i + 1;
     }
     n
 }
 
-// The plan of a table of records with its locks and uses, or the first offender of 2 and 4 to 7.
+// The plan of a table of records with its locks and uses, or the first offender of 2,
+// 4 to 7 and 24.
 pub fn load_table(tasks: &[TaskRecord], locks: &[u32], uses: &[u16]) -> Loaded
     ensures { λ r. ⌜ r ≡ loadOf (numbersOf (now (tasks .entry))) (now (locks .entry)) (now (uses .entry)) ⌝ }
 {

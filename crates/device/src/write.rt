@@ -13,7 +13,7 @@ pub struct DeviceWrite {
     pub length: usize,
 }
 
-// 2, 4 to 8 and 23; where one refuses, no byte of the buffer changes. Else the book stands at its
+// 2, 4 to 7, 24, 8 and 23; where one refuses, no byte of the buffer changes. Else the book stands at its
 // start, and the bytes after the book stay.
 #[no_mangle]
 pub extern "C" fn recorder_write(

@@ -1,5 +1,6 @@
 // What every crate shares of numbers: rows of open locks and of saved words, sets of locks, the rest of
-// a table, numbers made wider, and the two kinds of priority.
+// a table, tests that all hold, numbers made wider, and the two kinds of priority.
+pub mod all;
 pub mod mask;
 pub mod number;
 pub mod priority;

@@ -6,9 +6,9 @@ use rules::priority::UserPriority;
 ghost use mathlib.Core.Path.{_≡_};
 ghost use Prim.Native.Nat.{max};
 ghost use lib.Dec.{eqb, leb, ltb};
-ghost use Rattle.rules.specs.Schedulers.Lazy.{callsFor};
+ghost use Rattle.rules.specs.Schedulers.Lazy.{callsFor, cutTo};
 
-// A base or a kept priority as it stands in a table.
+// A base, a maximum or a kept priority as it stands in a table.
 pub fn kernel_of(x: u8) -> KernelPriority
     ensures { λ r. ⌜ r .0 ≡ x ⌝ }
 {
@@ -74,6 +74,16 @@ pub fn calls_for(back: UserPriority, next: KernelPriority) -> bool
     ensures { λ r. ⌜ r ≡ callsFor (back .0) (next .0) ⌝ }
 {
     back.0 < next.0
+}
+
+// The rule for a cut: a word above its task's maximum becomes that.
+pub fn cut_to(maximum: KernelPriority, user: UserPriority) -> UserPriority
+    ensures { λ r. ⌜ r .0 ≡ cutTo (maximum .0) (user .0) ⌝ }
+{
+    if maximum.0 < user.0 {
+        return UserPriority(maximum.0);
+    }
+    user
 }
 
 // The greater of two words, and of two records.

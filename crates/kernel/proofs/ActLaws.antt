@@ -14,7 +14,7 @@ use Rattle.rules.specs.Numbers.Place.{at, renewed}
 use Rattle.rules.specs.Numbers.Refusal.{firstTrue}
 use Rattle.rules.specs.Schedulers.Figures.{Figures, figuresOf}
 use Rattle.rules.specs.Schedulers.FiguresAfter.{differs, eagerCalls, figuresAfter, delayed, charged}
-use Rattle.rules.specs.Schedulers.Lazy.{Words, wordsOf, stateOf, bestKept, backOf, stays, wordsAfter, lazyCall}
+use Rattle.rules.specs.Schedulers.Lazy.{Words, wordsOf, stateOf, entering, bestKept, backOf, stays, wordsAfter, lazyCall}
 use Rattle.rules.specs.Schedulers.EventRefusals.{testsOf, refusalOf}
 use Rattle.rules.specs.Soundness.Sound.{SoundAndSized}
 use Rattle.rules.specs.Replays.Step.{afterOf, answered, actOf}
@@ -36,9 +36,9 @@ use Rattle.rules.proofs.Books.Obeyed.{few-tasks, few-locks}
 use Rattle.rules.proofs.Schedulers.Passed.{Takeable, Givable, Allowed, allowed}
 use Rattle.rules.proofs.Schedulers.WordsKept.{take-calls, give-calls}
 use Rattle.rules.proofs.Soundness.SoundKept.{scene}
-use Rattle.kernel.specs.Lent.{steppedAs, beside, refusedAs, acceptedWith, answeredAs, acceptedAs, enteredTurn, wordsOn}
+use Rattle.kernel.specs.Lent.{steppedAs, beside, refusedAs, acceptedWith, answeredAs, acceptedAs, enteringHead, tickedTurn, wordsOn}
 use Rattle.kernel.specs.Work.{waitedBy, chargedRow}
-use Rattle.kernel.specs.Ready.{ReleaseReady, AcquireReady, UnlockReady, WorkReady, FinishReady}
+use Rattle.kernel.specs.Ready.{TickReady, ReleaseReady, AcquireReady, UnlockReady, WorkReady, FinishReady}
 use Rattle.kernel.specs.Parts.{Outcome, acquireTested, unlockTested, workTested}
 use Rattle.kernel.specs.Parts.{ReleaseAnswered, AcquireAnswered, UnlockAnswered, WorkAnswered, FinishAnswered}
 use Rattle.kernel.specs.declared.acted.Acted.{Acted}
@@ -49,8 +49,8 @@ use Rattle.kernel.proofs.Ready as readied
 
 -- ---- what the code of each event asks for
 
-module _ (pr : Protocol) (n m : ℕ) (base ceiling limit uses : List ℕ) (h : Head) (released kept delay depth takes saved units owner : List ℕ)
-    (S : SoundAndSized pr (planWith n m base ceiling limit uses) (stateWith h released kept delay depth takes saved units owner))
+module _ (pr : Protocol) (n m : ℕ) (base maximum ceiling limit uses : List ℕ) (h : Head) (released kept delay depth takes saved units owner : List ℕ)
+    (S : SoundAndSized pr (planWith n m base maximum ceiling limit uses) (stateWith h released kept delay depth takes saved units owner))
     (room : h .accepted < maxAccepted) where
   pub release-ready : (t : ℕ) → ReleaseReady h n released kept t
   release-ready = readied.release-ready _ _ _ S room
@@ -66,6 +66,9 @@ module _ (pr : Protocol) (n m : ℕ) (base ceiling limit uses : List ℕ) (h : H
 
   pub finish-ready : FinishReady h n kept
   finish-ready = readied.finish-ready _ _ _ S room
+
+  pub tick-ready : TickReady h
+  tick-ready = readied.tick-ready _ _ _ S room
 
   -- the tournament is asked for the greatest kept priority
   pub best-ready : n ≤ maxTasks
@@ -137,7 +140,7 @@ module _ (pr : Protocol) (p : Plan) (s : State) where
         (readied.work-laden pr p s S room a (readied.work-within _ passed (s .head .running) a _ refl))
 
     module _ (e : Event) (r : Acted) (out : Stepped) where
-      pub release-acts : (t : ℕ) (released₂ kept₂ delay₂ : List ℕ) → ReleaseAnswered pr (s .head) (p .tasks) t (p .base) (s .released) (s .kept)
+      pub release-acts : (t : ℕ) (released₂ kept₂ delay₂ : List ℕ) → ReleaseAnswered pr (s .head) (p .tasks) t (p .base) (p .maximum) (s .released) (s .kept)
           (s .delay) r released₂ kept₂ delay₂
           → e ≡ Event.Release t → out ≡ steppedAs r released₂ kept₂ delay₂ (s .depth) (s .takes) (s .saved) (s .units) (s .owner) → out ≡ actOf pr p s e
       unfolding afterOf figuresAfter eagerCalls wordsAfter lazyCall
@@ -157,7 +160,7 @@ module _ (pr : Protocol) (p : Plan) (s : State) where
           ∙ answers (Event.Acquire l) e _ (acquire-same p s S l) arm
 
       pub unlock-acts : (l : ℕ) (kept₂ depth₂ takes₂ saved₂ units₂ owner₂ : List ℕ)
-          → UnlockAnswered pr (s .head) (p .tasks) (p .locks) l (s .released) (s .kept) (s .depth) (s .takes) (s .saved) (s .units)
+          → UnlockAnswered pr (s .head) (p .tasks) (p .locks) l (p .maximum) (s .released) (s .kept) (s .depth) (s .takes) (s .saved) (s .units)
           (s .owner) r kept₂ depth₂ takes₂ saved₂ units₂ owner₂
           → e ≡ Event.Unlock l → out ≡ steppedAs r (s .released) kept₂ (s .delay) depth₂ takes₂ saved₂ units₂ owner₂ → out ≡ actOf pr p s e
       unfolding afterOf figuresAfter eagerCalls wordsAfter lazyCall
@@ -177,7 +180,7 @@ module _ (pr : Protocol) (p : Plan) (s : State) where
           (d .words (s .kept) (s .saved) (s .owner)))
           ∙ answers (Event.Work a) e _ (work-same p s S a) arm
 
-      pub finish-acts : (released₂ kept₂ : List ℕ) → FinishAnswered pr (s .head) (p .tasks) (s .released) (s .kept) (s .depth) r released₂ kept₂
+      pub finish-acts : (released₂ kept₂ : List ℕ) → FinishAnswered pr (s .head) (p .tasks) (p .maximum) (s .released) (s .kept) (s .depth) r released₂ kept₂
           → e ≡ Event.Finish → out ≡ steppedAs r released₂ kept₂ (s .delay) (s .depth) (s .takes) (s .saved) (s .units) (s .owner) → out ≡ actOf pr p s e
       unfolding afterOf figuresAfter eagerCalls wordsAfter lazyCall
       finish-acts released₂ kept₂ q arm o =
@@ -185,11 +188,12 @@ module _ (pr : Protocol) (p : Plan) (s : State) where
           (λ passed d. whole _ _ _ _ (d .counted .answer) (rw (d .counted .number, d .counted .calls, d .place)) (d .words (s .saved) (s .owner)))
           ∙ answers Event.Finish e _ (finish-same p s S) arm
 
-      pub tick-acts : (turn : Turn) (most : KernelPriority) → turn ≡ enteredTurn pr (s .head .running) (s .head .user) (most .0)
-          → most .0 ≡ bestKept (s .kept) (p .tasks) → r ≡ acceptedWith (s .head) turn false 0 → e ≡ Event.Tick → out ≡ beside s r → out ≡ actOf pr p s e
-      unfolding testsOf firstTrue answered afterOf figuresAfter eagerCalls wordsAfter stays lazyCall if_then_else_
-      tick-acts turn most t b q arm o =
-          o ∙ ap (beside s) (q ∙ ap (λ v. acceptedWith (s .head) v false 0) (t ∙ ap (enteredTurn pr (s .head .running) (s .head .user)) b))
-          ∙ whole _ _ _ _ refl refl (ap (λ z. wordsOn (enteredTurn pr (s .head .running) (s .head .user) (bestKept (s .kept) (p .tasks))) z (s .kept) (s .saved)
-          (s .owner)) (add-zero (s .head .lazy)))
+      pub tick-acts : (most : KernelPriority) → most .0 ≡ bestKept (s .kept) (p .tasks)
+          → r ≡ acceptedWith (s .head) (tickedTurn pr (enteringHead (p .maximum) (s .head)) (most .0)) false 0
+          → e ≡ Event.Tick → out ≡ beside s r → out ≡ actOf pr p s e
+      unfolding testsOf firstTrue answered afterOf figuresAfter eagerCalls wordsAfter entering stays lazyCall if_then_else_
+      tick-acts most b q arm o =
+          let after : ℕ → Turn = tickedTurn pr (enteringHead (p .maximum) (s .head)) in
+          o ∙ ap (beside s) (q ∙ ap (λ v. acceptedWith (s .head) (after v) false 0) b)
+          ∙ whole _ _ _ _ refl refl (ap (λ z. wordsOn (after (bestKept (s .kept) (p .tasks))) z (s .kept) (s .saved) (s .owner)) (add-zero (s .head .lazy)))
           ∙ answers Event.Tick e Tested.Passed refl arm

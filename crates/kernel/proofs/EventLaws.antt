@@ -9,14 +9,14 @@ use Rattle.rules.specs.Numbers.Choice.{if_then_else_}
 use Rattle.rules.specs.Numbers.Place.{at, renewed}
 use Rattle.rules.specs.Numbers.Row.{under, pushed}
 use Rattle.rules.specs.Schedulers.FiguresAfter.{differs}
-use Rattle.rules.specs.Schedulers.Lazy.{Words, switched, afterRelease, afterAcquire}
+use Rattle.rules.specs.Schedulers.Lazy.{Words, entering, switched, afterRelease, afterAcquire}
 use Rattle.rules.specs.declared.protocol.Protocol.{Protocol}
 use Rattle.rules.specs.declared.state.Head.{Head}
 use Rattle.rules.specs.declared.answer.Answer.{Answer}
 use Rattle.rules.specs.declared.priority.KernelPriority.{KernelPriority}
 use Rattle.rules.specs.declared.priority.UserPriority.{UserPriority}
 use Rattle.figures.proofs.Rows.{push-fits}
-use Rattle.kernel.specs.Lent.{acceptedWith, turnOf, turned, wordsOn, wordsWith}
+use Rattle.kernel.specs.Lent.{acceptedWith, enteringHead, tickedTurn, turnOf, turned, wordsOn, wordsWith}
 use Rattle.kernel.specs.Work.{waited, chargedRow}
 use Rattle.kernel.specs.Parts.{Counted, ReleaseDone, AcquireDone, UnlockWords, UnlockDone, WorkDone, FinishDone}
 use Rattle.kernel.specs.declared.acted.Acted.{Acted}
@@ -34,15 +34,17 @@ module _ (h : Head) (turn : Turn) where
   counts = record { answer = refl; number = refl; calls = refl }
 
 module _ (h : Head) (after : Turn) (r : Acted) where
-  pub release-done : (pr : Protocol) (n t : ℕ) (base released kept delay kept₂ : List ℕ) (b : KernelPriority) → b .0 ≡ at base t
-      → ((w : Words) → turned after kept₂ w ≡ afterRelease pr n (set released t (h .accepted + 1)) (set kept t (b .0)) (b .0) (turned (turnOf h) kept w))
+  pub release-done : (pr : Protocol) (n t : ℕ) (base maximum released kept delay kept₂ : List ℕ) (b : KernelPriority) (found : Head) → b .0 ≡ at base t
+      → found ≡ enteringHead maximum h
+      → ((w : Words) → turned after kept₂ w ≡ afterRelease pr n (set released t (h .accepted + 1)) (set kept t (b .0)) (b .0) (turned (turnOf found) kept w))
       → r ≡ acceptedWith h after false 0
-      → ReleaseDone pr h n t base released kept delay r (set released t (h .accepted + 1)) kept₂ (set delay t 0)
-  release-done pr n t base released kept delay kept₂ b read e q = rw q (record {
+      → ReleaseDone pr h n t base maximum released kept delay r (set released t (h .accepted + 1)) kept₂ (set delay t 0)
+  unfolding entering
+  release-done pr n t base maximum released kept delay kept₂ b found read cut e q = rw q (record {
     counted = counts h after;
     place = refl;
     wait = refl;
-    words = λ saved owner. uncalled h after kept₂ saved owner ∙ e (wordsWith h kept saved owner) ∙ rw read;
+    words = λ saved owner. uncalled h after kept₂ saved owner ∙ e (wordsWith h kept saved owner) ∙ rw (read, cut);
   })
 
   pub acquire-done : (l row v : ℕ) (ceiling depth takes saved owner saved₂ owner₂ : List ℕ) (top : UserPriority) → top .0 ≡ at ceiling l
@@ -62,14 +64,21 @@ module _ (h : Head) (after : Turn) (r : Acted) where
     words = λ kept. uncalled h after kept saved₂ owner₂ ∙ e (h .lazy) kept ∙ rw c;
   })
 
-  pub finish-done : (pr : Protocol) (n : ℕ) (released kept kept₂ : List ℕ)
-      → ((w : Words) → turned after kept₂ w ≡ switched pr n (set released (h .running) 0) (set kept (h .running) 0) w) → r ≡ acceptedWith h after false 0
-      → FinishDone pr h n released kept r (set released (h .running) 0) kept₂
-  finish-done pr n released kept kept₂ e q = rw q (record {
+  pub finish-done : (pr : Protocol) (n : ℕ) (maximum released kept kept₂ : List ℕ) (found : Head) → found ≡ enteringHead maximum h
+      → ((w : Words) → turned after kept₂ w ≡ switched pr n (set released (h .running) 0) (set kept (found .running) 0) w)
+      → r ≡ acceptedWith h after false 0
+      → FinishDone pr h n maximum released kept r (set released (h .running) 0) kept₂
+  unfolding entering
+  finish-done pr n maximum released kept kept₂ found cut e q = rw q (record {
     counted = counts h after;
     place = refl;
-    words = λ saved owner. uncalled h after kept₂ saved owner ∙ e (wordsWith h kept saved owner);
+    words = λ saved owner. uncalled h after kept₂ saved owner ∙ e (entering maximum (wordsWith h kept saved owner)) ∙ rw cut;
   })
+
+pub tick-done : (pr : Protocol) (maximum : List ℕ) (h found : Head) (after : Turn) (most : KernelPriority) (r : Acted) → found ≡ enteringHead maximum h
+    → after ≡ tickedTurn pr found (most .0) → r ≡ acceptedWith h after false 0
+    → r ≡ acceptedWith h (tickedTurn pr (enteringHead maximum h) (most .0)) false 0
+tick-done pr maximum h found after most r e g q = q ∙ ap (λ t. acceptedWith h t false 0) (g ∙ ap (λ x. tickedTurn pr x (most .0)) e)
 
 pub work-done : (h : Head) (turn : Turn) (r : Acted) → turn ≡ turnOf h → (n a : ℕ) (base released delay depth takes units delay₂ units₂ : List ℕ)
     → delay₂ ≡ renewed delay (waited base released delay (at base (h .running)) a) n
@@ -82,13 +91,13 @@ work-done h turn r turns n a base released delay depth takes units delay₂ unit
   words = λ kept saved owner. uncalled h turn kept saved owner ∙ rw turns;
 })
 
-pub unlock-done : (pr : Protocol) (h : Head) (r : Acted) (n l row u : ℕ) (released kept depth takes saved units owner kept₂ saved₂ owner₂ : List ℕ)
+pub unlock-done : (pr : Protocol) (h : Head) (r : Acted) (n l row u : ℕ) (maximum released kept depth takes saved units owner kept₂ saved₂ owner₂ : List ℕ)
     (given : Unlocked)
-    → row ≡ at takes (h .running) → u ≡ under row → UnlockWords pr h n l released kept saved owner given kept₂ saved₂ owner₂
+    → row ≡ at takes (h .running) → u ≡ under row → UnlockWords pr h n l maximum released kept saved owner given kept₂ saved₂ owner₂
     → r ≡ acceptedWith h (given .turn) (given .call) (differs (h .user .0) (given .back .0))
-    → UnlockDone pr h n l released kept depth takes saved units owner r kept₂ (set depth (h .running) (at depth (h .running) - 1))
+    → UnlockDone pr h n l maximum released kept depth takes saved units owner r kept₂ (set depth (h .running) (at depth (h .running) - 1))
     (set takes (h .running) u) saved₂ (set units l 0) owner₂
-unlock-done pr h r n l row u released kept depth takes saved units owner kept₂ saved₂ owner₂ given read rest g q =
+unlock-done pr h r n l row u maximum released kept depth takes saved units owner kept₂ saved₂ owner₂ given read rest g q =
     rw q (record {
       counted = record {
         answer = ap Answer.Accepted (g .call);

@@ -2,28 +2,52 @@
 use mathlib.Core.Path.{_≡_, sym, _∙_, ap}
 use mathlib.Core.Bool.{Bool, true, false}
 use mathlib.Core.List.{List}
-use Prim.Native.Nat.{ℕ, _+_, _%_, _^_, _<_, max}
+use Prim.Native.Nat.{ℕ, _+_, _%_, _^_, _≤_, _<_, max}
 use native.Mathlib.Omega.{arith}
 use lib.Dec.{ltb}
 use lib.ListN.{set}
 use lib.Seq.{set-getD}
 use borrow.Author.Tests.{ltb-true}
+use Rattle.rules.specs.Numbers.Capacity.{maxTasks}
 use Rattle.rules.specs.Numbers.Choice.{if_then_else_}
 use Rattle.rules.specs.Numbers.Place.{at}
 use Rattle.rules.specs.Numbers.Row.{newest, under, pushed}
-use Rattle.rules.specs.Schedulers.Lazy.{Words, callsFor, bestKept, runsOn, switched, stays, afterRelease, afterAcquire, restored, afterUnlock}
+use Rattle.rules.specs.Schedulers.Lazy.{Words, callsFor, cutTo, entering, bestKept, runsOn, switched, stays, afterRelease, afterAcquire, restored, leaves}
+use Rattle.rules.specs.Schedulers.Lazy.{afterUnlock}
 use Rattle.rules.specs.declared.protocol.Protocol.{Protocol}
 use Rattle.rules.specs.declared.state.Head.{Head}
 use Rattle.rules.specs.declared.priority.KernelPriority.{KernelPriority}
 use Rattle.rules.specs.declared.priority.UserPriority.{UserPriority}
 use Rattle.rules.proofs.Numbers.Choice.{if-true, if-false}
 use Rattle.rules.proofs.Numbers.Place.{greatest-set}
+use Rattle.rules.proofs.Schedulers.Rules.{uncut}
 use Rattle.rules.proofs.Soundness.Shortcuts.{newcomer-runs}
 use Rattle.figures.proofs.Rows.{push-fits}
-use Rattle.kernel.specs.Lent.{turned, enteredTurn, turnOf, wordsOn}
+use Rattle.kernel.specs.Lent.{enteringHead, turned, enteredTurn, turnOf, wordsOn}
 use Rattle.kernel.specs.Parts.{UnlockWords}
-use Rattle.kernel.specs.Ready.{Arrives}
+use Rattle.kernel.specs.Ready.{IdleWord, Arrives}
 use Rattle.kernel.specs.declared.switch.Turn.{Turn}
+
+-- ---- an entry
+
+module _ (maximum : List ℕ) (running : ℕ) (user : UserPriority) where
+  pub nobody-found : IdleWord running (user .0) → maxTasks ≤ running → user .0 ≡ cutTo (at maximum running) (user .0)
+  nobody-found h l = sym (uncut (at maximum running) (user .0) (omega (arith, h l)))
+
+  -- v is the task's maximum
+  pub task-found : (v : ℕ) (k : KernelPriority) (r : UserPriority) → v ≡ at maximum running → k .0 ≡ v → r .0 ≡ cutTo (k .0) (user .0)
+      → r .0 ≡ cutTo (at maximum running) (user .0)
+  task-found v k r e g q = q ∙ ap (λ x. cutTo x (user .0)) (g ∙ e)
+
+-- somebody runs
+pub runs-found : (running : ℕ) (user : UserPriority) → running < maxTasks → IdleWord running (user .0)
+runs-found running user l g = absurd (omega arith)
+
+pub found-head : (maximum : List ℕ) (h : Head) (user : UserPriority) → user .0 ≡ cutTo (at maximum (h .running)) (h .user .0)
+    → _≡_ {A = Head} (record { accepted = h .accepted; running = h .running; user = user; next = h .next; lazy = h .lazy; eager = h .eager })
+    (enteringHead maximum h)
+found-head maximum h user e =
+    ap (λ v. record { accepted = h .accepted; running = h .running; user = record { 0 = v }; next = h .next; lazy = h .lazy; eager = h .eager }) e
 
 -- ---- release
 
@@ -85,7 +109,7 @@ acquire-raises l row v h ceiling user saved owner read few q g lazy kept = rw (g
 
 -- ---- unlock: back is the word that was saved, and r whether it is below the next word
 
-module _ (pr : Protocol) (n l row u : ℕ) (h : Head) (released kept saved owner : List ℕ) (back : UserPriority) (r : Bool)
+module _ (pr : Protocol) (n l row u : ℕ) (h : Head) (maximum released kept saved owner : List ℕ) (back : UserPriority) (r : Bool)
     (read : row ≡ at saved (h .running)) (popped : back .0 ≡ newest row) (rest : u ≡ under row) (said : r ≡ callsFor (back .0) (h .next .0)) where
   newest-back : back .0 ≡ newest (at saved (h .running))
   newest-back = popped ∙ ap newest read
@@ -96,20 +120,22 @@ module _ (pr : Protocol) (n l row u : ℕ) (h : Head) (released kept saved owner
   popped-row : set saved (h .running) u ≡ set saved (h .running) (under (at saved (h .running)))
   popped-row = ap (set saved (h .running)) (rest ∙ ap under read)
 
-  pub unlock-calls : r ≡ true → (kept₂ : List ℕ) (after : Turn)
-      → ((w : Words) → turned after kept₂ w ≡ switched pr n released (set kept (h .running) (back .0)) w)
-      → UnlockWords pr h n l released kept saved owner (record { turn = after; call = true; back = back }) kept₂ (set saved (h .running) u) (set owner l 0)
-  unfolding afterUnlock restored if_then_else_
-  unlock-calls y kept₂ after e = record {
+  -- found is the word that the kernel finds
+  pub unlock-calls : r ≡ true → (found : UserPriority) (kept₂ : List ℕ) (after : Turn) → found .0 ≡ cutTo (at maximum (h .running)) (back .0)
+      → ((w : Words) → turned after kept₂ w ≡ switched pr n released (set kept (h .running) (found .0)) w)
+      → UnlockWords pr h n l maximum released kept saved owner (record { turn = after; call = true; back = back }) kept₂ (set saved (h .running) u)
+      (set owner l 0)
+  unfolding afterUnlock leaves entering restored if_then_else_
+  unlock-calls y found kept₂ after cut e = record {
     call = sym (calls true y);
     back = newest-back;
-    words = λ lazy. rw popped-row (e (restored l 1 (wordsOn (turnOf h) lazy kept saved owner))
-        ∙ ap (λ v. switched pr n released (set kept (h .running) v) (restored l 1 (wordsOn (turnOf h) lazy kept saved owner))) newest-back
+    words = λ lazy. let w : Words = entering maximum (restored l 1 (wordsOn (turnOf h) lazy kept saved owner)) in
+        rw popped-row (e w ∙ ap (λ v. switched pr n released (set kept (h .running) v) w) (cut ∙ ap (cutTo (at maximum (h .running))) newest-back)
         ∙ sym (if-true (callsFor (newest (at saved (h .running))) (h .next .0)) _ _ (calls true y)));
   }
 
   pub unlock-stays : r ≡ false
-      → UnlockWords pr h n l released kept saved owner (record {
+      → UnlockWords pr h n l maximum released kept saved owner (record {
         turn = record { running = h .running; user = back; next = h .next };
         call = false;
         back = back;

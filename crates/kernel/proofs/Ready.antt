@@ -1,5 +1,5 @@
 -- What passes the tests of an event has what its accepted code asks for; and a sound state has what the event asks for. Assumes nothing.
-use mathlib.Core.Path.{_≡_, sym, _∙_}
+use mathlib.Core.Path.{_≡_, sym, _∙_, ap}
 use mathlib.Core.Bool.{Bool, true, false, not, _||_}
 use mathlib.Core.List.{List}
 use Prim.Native.Nat.{ℕ, _+_, _≤_, _<_, _^_}
@@ -14,7 +14,7 @@ use Rattle.rules.specs.Numbers.Row.{newest, has}
 use Rattle.rules.specs.Numbers.Choice.{if_then_else_}
 use Rattle.rules.specs.Numbers.Refusal.{numberOf, firstTrue, testFor}
 use Rattle.rules.specs.Schedulers.Figures.{Figures, figuresOf, holds}
-use Rattle.rules.specs.Schedulers.Lazy.{bestKept}
+use Rattle.rules.specs.Schedulers.Lazy.{cutTo, bestKept}
 use Rattle.rules.specs.Schedulers.EventRefusals.{releaseOrder, acquireOrder, unlockOrder, workOrder, finishOrder}
 use Rattle.rules.specs.Soundness.Sound.{savedOf, SoundAndSized}
 use Rattle.rules.specs.declared.plan.Plan.{Plan}
@@ -26,11 +26,13 @@ use Rattle.rules.specs.declared.answer.Tested.{Tested}
 use Rattle.rules.specs.declared.refusal.Refusal.the-variants.{NobodyRuns, Unknown, AlreadyReleased, RowFull, NotNewest, PastLimit}
 use Rattle.rules.proofs.Numbers.Choice.{or-false, untrue, not-so}
 use Rattle.rules.proofs.Soundness.Shortcuts.{kept-none, kept-running, idle-word, newcomer-other, waiting}
+use Rattle.rules.proofs.Schedulers.Rules.{uncut}
 use Rattle.rules.proofs.Numbers.Row.{saves-places}
 use Rattle.rules.proofs.Books.Obeyed.{few-tasks, few-locks, base-byte, ceiling-byte}
 use Rattle.rules.proofs.Numbers.Order.{none-holds}
+use Rattle.kernel.specs.Lent.{enteringHead}
 use Rattle.kernel.specs.Work.{pastRow, Laden}
-use Rattle.kernel.specs.Ready.{Counts, Arrives, ReleaseReady, AcquireReady, UnlockReady, WorkReady, FinishReady}
+use Rattle.kernel.specs.Ready.{Counts, IdleWord, TickReady, Arrives, ReleaseReady, AcquireReady, UnlockReady, WorkReady, FinishReady}
 use Rattle.kernel.proofs.SameTests.{some-past}
 
 -- ---- the tests that were passed
@@ -98,6 +100,28 @@ module _ (tested : Tested) (passed : tested ≡ Tested.Passed) where
     pub finish-runs : x < maxTasks
     unfolding finishOrder testFor numberOf if_then_else_
     finish-runs = leb-false maxTasks x (none-holds _ (sym said ∙ passed) NobodyRuns)
+
+-- ---- what an entry to the kernel asks for: that nobody's word is 0
+
+module _ (maximum : List ℕ) (h : Head) where
+  module _ (n t : ℕ) (kept : List ℕ) (A : Arrives h n kept t) where
+    pub arrives-found : IdleWord (h .running) (h .user .0)
+    arrives-found l = A .idle (omega (arith, A .few))
+
+    -- a newcomer arrives at the word that is found
+    pub found-arrives : (found : Head) → found ≡ enteringHead maximum h → Arrives found n kept t
+    found-arrives found e = rw e (record {
+      few = A .few;
+      sized = A .sized;
+      known = A .known;
+      none = A .none;
+      other = A .other;
+      left = A .left;
+      idle = λ l. ap (cutTo (at maximum (h .running))) (A .idle l) ∙ uncut (at maximum (h .running)) 0 (omega arith);
+    })
+
+  pub found-left : (kept : List ℕ) (found : Head) → found ≡ enteringHead maximum h → at kept (h .running) ≡ 0 → at kept (found .running) ≡ 0
+  found-left kept found e z = rw e z
 
 -- ---- what a sound state has
 
@@ -167,6 +191,9 @@ module _ (pr : Protocol) (p : Plan) (s : State) (S : SoundAndSized pr p s) (room
       within : (l : ℕ) → has (at (s .takes) r) (at (s .depth) r) l ≡ true → ltb (at (p .limit) l) (at (s .units) l + a) ≡ false
       within l h = not-so (ltb (at (p .limit) l) (at (s .units) l + a)) (λ o. untrue
           (sym (some-past (p .limit) (s .units) a (at (s .takes) r) (at (s .depth) r) l h o) ∙ q))
+
+  pub tick-ready : TickReady (s .head)
+  tick-ready = record { counts = counts; idle = λ l. idle-word S (omega (arith, few-tasks (S .sound .plan))) }
 
   pub finish-ready : FinishReady (s .head) (p .tasks) (s .kept)
   finish-ready = record { counts = counts; few = few-tasks (S .sound .plan); sized = S .wordsSized .kept; left = kept-running S }

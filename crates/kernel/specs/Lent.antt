@@ -6,7 +6,8 @@ use Rattle.rules.specs.Numbers.Capacity.{nobody}
 use Rattle.rules.specs.Numbers.Choice.{if_then_else_}
 use Rattle.rules.specs.Schedulers.Whole.{stateWith}
 use Rattle.rules.specs.Schedulers.Protocol.{secondWord}
-use Rattle.rules.specs.Schedulers.Lazy.{Words, wordsOf, lazyCall}
+use Rattle.rules.specs.Numbers.Place.{at}
+use Rattle.rules.specs.Schedulers.Lazy.{Words, cutTo, wordsOf, lazyCall}
 use Rattle.rules.specs.Replays.Step.{afterOf, answered}
 use Rattle.rules.specs.declared.plan.Plan.{Plan}
 use Rattle.rules.specs.declared.protocol.Protocol.{Protocol}
@@ -55,6 +56,18 @@ answeredAs t pr p s e = answered t s (afterOf pr p s e) (lazyCall (wordsOf s) e)
 abbrev pub acceptedAs : Protocol → Plan → State → Event → Stepped
 acceptedAs pr p s e = record { answer = Answer.Accepted (lazyCall (wordsOf s) e); state = afterOf pr p s e }
 
+-- the head that an entry to the kernel goes on with
+abbrev pub enteringHead : List ℕ → Head → Head
+enteringHead maximum h =
+    record {
+      accepted = h .accepted;
+      running = h .running;
+      user = record { 0 = cutTo (at maximum (h .running)) (h .user .0) };
+      next = h .next;
+      lazy = h .lazy;
+      eager = h .eager;
+    }
+
 -- ---- the words
 
 -- who runs and the two words, of a head
@@ -64,6 +77,10 @@ turnOf h = record { running = h .running; user = h .user; next = h .next }
 -- what an entry to the kernel leaves where q runs with this word, and `best` is the greatest kept priority
 abbrev pub enteredTurn : Protocol → ℕ → UserPriority → ℕ → Turn
 enteredTurn pr q user best = record { running = q; user = user; next = record { 0 = secondWord pr (user .0) best } }
+
+-- and where whoever runs goes on with the word of the head
+abbrev pub tickedTurn : Protocol → Head → ℕ → Turn
+tickedTurn pr h best = enteredTurn pr (h .running) (h .user) best
 
 abbrev pub idleTurn : Turn
 idleTurn = record { running = nobody; user = record { 0 = 0 }; next = record { 0 = 0 } }

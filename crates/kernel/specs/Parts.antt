@@ -14,7 +14,7 @@ use Rattle.rules.specs.Numbers.Row.{newest, under, pushed}
 use Rattle.rules.specs.Numbers.Refusal.{firstTrue}
 use Rattle.rules.specs.Schedulers.EventRefusals.{releaseOrder, acquireOrder, unlockOrder, workOrder, finishOrder}
 use Rattle.rules.specs.Schedulers.FiguresAfter.{differs}
-use Rattle.rules.specs.Schedulers.Lazy.{callsFor, backOf, switched, afterRelease, afterAcquire, afterUnlock}
+use Rattle.rules.specs.Schedulers.Lazy.{callsFor, entering, backOf, switched, afterRelease, afterAcquire, afterUnlock}
 use Rattle.rules.specs.declared.protocol.Protocol.{Protocol}
 use Rattle.rules.specs.declared.state.Head.{Head}
 use Rattle.rules.specs.declared.answer.Tested.{Tested}
@@ -40,17 +40,18 @@ pub record Counted (h : Head) (r : Acted) (call : Bool) (eager : ℕ) : Type 0 w
 abbrev pub releaseTested : ℕ → ℕ → List ℕ → Tested
 releaseTested n t released = firstTrue (releaseOrder (leb n t) (ltb 0 (at released t)))
 
-pub record ReleaseDone (pr : Protocol) (h : Head) (n t : ℕ) (base released kept delay : List ℕ) (r : Acted) (released₂ kept₂ delay₂ : List ℕ) : Type 0 where
+pub record ReleaseDone (pr : Protocol) (h : Head) (n t : ℕ) (base maximum released kept delay : List ℕ) (r : Acted) (released₂ kept₂ delay₂ : List ℕ)
+    : Type 0 where
   pub counted : Counted h r false 0
   pub place : released₂ ≡ set released t (h .accepted + 1)
   pub wait : delay₂ ≡ set delay t 0
   pub words : (saved owner : List ℕ) → wordsWith (r .head) kept₂ saved owner
-      ≡ afterRelease pr n (set released t (h .accepted + 1)) (set kept t (at base t)) (at base t) (wordsWith h kept saved owner)
+      ≡ afterRelease pr n (set released t (h .accepted + 1)) (set kept t (at base t)) (at base t) (entering maximum (wordsWith h kept saved owner))
 
-abbrev pub ReleaseAnswered : Protocol → Head → ℕ → ℕ → (base released kept delay : List ℕ) → Acted → (released₂ kept₂ delay₂ : List ℕ) → Type 0
-ReleaseAnswered pr h n t base released kept delay r released₂ kept₂ delay₂ =
+abbrev pub ReleaseAnswered : Protocol → Head → ℕ → ℕ → (base maximum released kept delay : List ℕ) → Acted → (released₂ kept₂ delay₂ : List ℕ) → Type 0
+ReleaseAnswered pr h n t base maximum released kept delay r released₂ kept₂ delay₂ =
     Outcome (releaseTested n t released) h r (released ∷ kept ∷ delay ∷ []) (released₂ ∷ kept₂ ∷ delay₂ ∷ [])
-    (ReleaseDone pr h n t base released kept delay r released₂ kept₂ delay₂)
+    (ReleaseDone pr h n t base maximum released kept delay r released₂ kept₂ delay₂)
 
 -- ---- acquire
 
@@ -73,29 +74,30 @@ AcquireAnswered h m l ceiling uses depth takes saved owner r depth₂ takes₂ s
 -- ---- unlock
 
 -- the words after it, the call and the word that is put back: r at exit of what was lent
-pub record UnlockWords (pr : Protocol) (h : Head) (n l : ℕ) (released kept saved owner : List ℕ) (r : Unlocked) (kept₂ saved₂ owner₂ : List ℕ) : Type 0 where
+pub record UnlockWords (pr : Protocol) (h : Head) (n l : ℕ) (maximum released kept saved owner : List ℕ) (r : Unlocked) (kept₂ saved₂ owner₂ : List ℕ)
+    : Type 0 where
   pub call : r .call ≡ callsFor (newest (at saved (h .running))) (h .next .0)
   pub back : r .back .0 ≡ newest (at saved (h .running))
   pub words : (lazy : ℕ) → wordsOn (r .turn) (lazy + (if r .call then 1 else 0)) kept₂ saved₂ owner₂
-      ≡ afterUnlock pr n released l (wordsOn (turnOf h) lazy kept saved owner)
+      ≡ afterUnlock pr n maximum released l (wordsOn (turnOf h) lazy kept saved owner)
 
 abbrev pub unlockTested : ℕ → ℕ → ℕ → (depth takes : List ℕ) → Tested
 unlockTested x m l depth takes = firstTrue (unlockOrder (leb maxTasks x) (leb m l) (eqb (at depth x) 0 || not (eqb (newest (at takes x)) l)))
 
-pub record UnlockDone (pr : Protocol) (h : Head) (n l : ℕ) (released kept depth takes saved units owner : List ℕ) (r : Acted)
+pub record UnlockDone (pr : Protocol) (h : Head) (n l : ℕ) (maximum released kept depth takes saved units owner : List ℕ) (r : Acted)
     (kept₂ depth₂ takes₂ saved₂ units₂ owner₂ : List ℕ) : Type 0 where
   pub counted : Counted h r (callsFor (backOf (wordsWith h kept saved owner)) (h .next .0)) (differs (h .user .0) (backOf (wordsWith h kept saved owner)))
   pub count : depth₂ ≡ set depth (h .running) (at depth (h .running) - 1)
   pub row : takes₂ ≡ set takes (h .running) (under (at takes (h .running)))
   pub section : units₂ ≡ set units l 0
-  pub words : wordsWith (r .head) kept₂ saved₂ owner₂ ≡ afterUnlock pr n released l (wordsWith h kept saved owner)
+  pub words : wordsWith (r .head) kept₂ saved₂ owner₂ ≡ afterUnlock pr n maximum released l (wordsWith h kept saved owner)
 
-abbrev pub UnlockAnswered : Protocol → Head → ℕ → ℕ → ℕ → (released kept depth takes saved units owner : List ℕ) → Acted
+abbrev pub UnlockAnswered : Protocol → Head → ℕ → ℕ → ℕ → (maximum released kept depth takes saved units owner : List ℕ) → Acted
     → (kept₂ depth₂ takes₂ saved₂ units₂ owner₂ : List ℕ) → Type 0
-UnlockAnswered pr h n m l released kept depth takes saved units owner r kept₂ depth₂ takes₂ saved₂ units₂ owner₂ =
+UnlockAnswered pr h n m l maximum released kept depth takes saved units owner r kept₂ depth₂ takes₂ saved₂ units₂ owner₂ =
     Outcome (unlockTested (h .running) m l depth takes) h r (kept ∷ depth ∷ takes ∷ saved ∷ units ∷ owner ∷ [])
     (kept₂ ∷ depth₂ ∷ takes₂ ∷ saved₂ ∷ units₂ ∷ owner₂ ∷ [])
-    (UnlockDone pr h n l released kept depth takes saved units owner r kept₂ depth₂ takes₂ saved₂ units₂ owner₂)
+    (UnlockDone pr h n l maximum released kept depth takes saved units owner r kept₂ depth₂ takes₂ saved₂ units₂ owner₂)
 
 -- ---- work
 
@@ -118,12 +120,12 @@ WorkAnswered h n a base limit released delay depth takes units r delay₂ units�
 abbrev pub finishTested : ℕ → List ℕ → Tested
 finishTested x depth = firstTrue (finishOrder (leb maxTasks x) (ltb 0 (at depth x)))
 
-pub record FinishDone (pr : Protocol) (h : Head) (n : ℕ) (released kept : List ℕ) (r : Acted) (released₂ kept₂ : List ℕ) : Type 0 where
+pub record FinishDone (pr : Protocol) (h : Head) (n : ℕ) (maximum released kept : List ℕ) (r : Acted) (released₂ kept₂ : List ℕ) : Type 0 where
   pub counted : Counted h r false 0
   pub place : released₂ ≡ set released (h .running) 0
   pub words : (saved owner : List ℕ) → wordsWith (r .head) kept₂ saved owner
-      ≡ switched pr n (set released (h .running) 0) (set kept (h .running) 0) (wordsWith h kept saved owner)
+      ≡ switched pr n (set released (h .running) 0) (set kept (h .running) 0) (entering maximum (wordsWith h kept saved owner))
 
-abbrev pub FinishAnswered : Protocol → Head → ℕ → (released kept depth : List ℕ) → Acted → (released₂ kept₂ : List ℕ) → Type 0
-FinishAnswered pr h n released kept depth r released₂ kept₂ =
-    Outcome (finishTested (h .running) depth) h r (released ∷ kept ∷ []) (released₂ ∷ kept₂ ∷ []) (FinishDone pr h n released kept r released₂ kept₂)
+abbrev pub FinishAnswered : Protocol → Head → ℕ → (maximum released kept depth : List ℕ) → Acted → (released₂ kept₂ : List ℕ) → Type 0
+FinishAnswered pr h n maximum released kept depth r released₂ kept₂ =
+    Outcome (finishTested (h .running) depth) h r (released ∷ kept ∷ []) (released₂ ∷ kept₂ ∷ []) (FinishDone pr h n maximum released kept r released₂ kept₂)

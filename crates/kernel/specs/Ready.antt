@@ -15,6 +15,14 @@ pub record Counts (h : Head) : Type 0 where
   pub lazy : h .lazy ≤ h .accepted
   pub eager : h .eager ≤ h .accepted
 
+-- nobody's word is 0
+abbrev pub IdleWord : (running user : ℕ) → Type 0
+IdleWord running user = maxTasks ≤ running → user ≡ 0
+
+pub record TickReady (h : Head) : Type 0 where
+  pub counts : Counts h
+  pub idle : IdleWord (h .running) (h .user .0)
+
 -- a newcomer t and another task that runs, or no user word: nothing is kept for either
 pub record Arrives (h : Head) (n : ℕ) (kept : List ℕ) (t : ℕ) : Type 0 where
   pub few : n ≤ maxTasks

@@ -2,12 +2,11 @@
 // place, and so is the tournament beside the kept priorities.
 use crate::acquire::acquire;
 use crate::acted::Acted;
-use crate::counts::accepted;
 use crate::counts::refused;
 use crate::finish::finish;
-use crate::lazy::after_tick;
 use crate::release::release;
 use crate::switch::best;
+use crate::tick::tick;
 use crate::unlock::unlock;
 use crate::work::work;
 use rules::capacity::MAX_ACCEPTED;
@@ -34,6 +33,7 @@ pub fn act(
     n: usize,
     m: usize,
     base: &[u8; MAX_TASKS],
+    maximum: &[u8; MAX_TASKS],
     ceiling: &[u8; MAX_LOCKS],
     limit: &[u16; MAX_LOCKS],
     uses: &[u32; MAX_TASKS],
@@ -48,12 +48,12 @@ pub fn act(
     tree: &mut [u64; PLACES],
     e: Event,
 ) -> Acted
-    requires { ⌜ SoundAndSized protocol (planWith n m (now base) (now ceiling) (now limit) (now uses))
+    requires { ⌜ SoundAndSized protocol (planWith n m (now base) (now maximum) (now ceiling) (now limit) (now uses))
         (stateWith h (now released) (now kept) (now delay) (now depth) (now takes) (now saved) (now units) (now owner)) ⌝ }
     requires { ⌜ (length (now limit) ≡ maxLocks) × (now tree ≡ tournamentOf n (now released) (now kept)) ⌝ }
     ensures { λ r. ⌜ steppedAs r (now (released .exit)) (now (kept .exit)) (now (delay .exit)) (now (depth .exit)) (now (takes .exit)) (now (saved .exit))
         (now (units .exit)) (now (owner .exit))
-        ≡ actOf protocol (planWith n m (now (base .entry)) (now (ceiling .entry)) (now (limit .entry)) (now (uses .entry)))
+        ≡ actOf protocol (planWith n m (now (base .entry)) (now (maximum .entry)) (now (ceiling .entry)) (now (limit .entry)) (now (uses .entry)))
         (stateWith h (now (released .entry)) (now (kept .entry)) (now (delay .entry)) (now (depth .entry)) (now (takes .entry)) (now (saved .entry))
         (now (units .entry)) (now (owner .entry))) e ⌝ }
     ensures { λ r. ⌜ now (tree .exit) ≡ tournamentOf n (now (released .exit)) (now (kept .exit)) ⌝ }
@@ -62,13 +62,25 @@ pub fn act(
         return refused(h, Refusal::Exhausted);
     }
     match e {
-        Event::Release(t) => release(protocol, h, n, base, released, kept, tree, delay, t),
+        Event::Release(t) => release(
+            protocol,
+            h,
+            n,
+            base,
+            maximum,
+            released,
+            kept,
+            tree,
+            delay,
+            t,
+        ),
         Event::Acquire(l) => acquire(h, m, ceiling, uses, depth, takes, saved, owner, l),
         Event::Unlock(l) => unlock(
             protocol,
             h,
             n,
             m,
+            maximum,
             released,
             kept,
             tree,
@@ -92,12 +104,7 @@ pub fn act(
             units,
             a,
         ),
-        Event::Finish => finish(protocol, h, n, released, kept, tree, depth),
-        Event::Tick => accepted(
-            h,
-            after_tick(protocol, h, best(n, released, kept, tree)),
-            false,
-            0,
-        ),
+        Event::Finish => finish(protocol, h, n, maximum, released, kept, tree, depth),
+        Event::Tick => tick(protocol, h, maximum, best(n, released, kept, tree)),
     }
 }

@@ -2,6 +2,7 @@
 use crate::acted::Acted;
 use crate::counts::accepted;
 use crate::counts::refused;
+use crate::entry::entering;
 use crate::lazy::after_finish;
 use crate::refusals::finish_refusal;
 use rules::answer::Tested;
@@ -21,19 +22,21 @@ fn accept(
     protocol: Protocol,
     h: Head,
     n: usize,
+    maximum: &[u8; MAX_TASKS],
     released: &mut [u32; MAX_TASKS],
     kept: &mut [u8; MAX_TASKS],
     tree: &mut [u64; PLACES],
 ) -> Acted
     requires { ⌜ FinishReady h n (now kept) × (h .running < maxTasks) × (now tree ≡ tournamentOf n (now released) (now kept)) ⌝ }
     ensures { λ r. ⌜ FinishDone protocol h n
-        (now (released .entry)) (now (kept .entry))
+        (now (maximum .entry)) (now (released .entry)) (now (kept .entry))
         r (now (released .exit)) (now (kept .exit)) ⌝ }
     ensures { λ r. ⌜ now (tree .exit) ≡ tournamentOf n (now (released .exit)) (now (kept .exit)) ⌝ }
 {
     let x = h.running as usize;
     released[x] = 0;
-    let after = after_finish(protocol, h, n, released, kept, tree);
+    let found = entering(maximum, h);
+    let after = after_finish(protocol, found, n, released, kept, tree);
     accepted(h, after, false, 0)
 }
 
@@ -42,6 +45,7 @@ pub fn finish(
     protocol: Protocol,
     h: Head,
     n: usize,
+    maximum: &[u8; MAX_TASKS],
     released: &mut [u32; MAX_TASKS],
     kept: &mut [u8; MAX_TASKS],
     tree: &mut [u64; PLACES],
@@ -49,13 +53,13 @@ pub fn finish(
 ) -> Acted
     requires { ⌜ FinishReady h n (now kept) × (now tree ≡ tournamentOf n (now released) (now kept)) ⌝ }
     ensures { λ r. ⌜ FinishAnswered protocol h n
-        (now (released .entry)) (now (kept .entry)) (now (depth .entry))
+        (now (maximum .entry)) (now (released .entry)) (now (kept .entry)) (now (depth .entry))
         r (now (released .exit)) (now (kept .exit)) ⌝ }
     ensures { λ r. ⌜ now (tree .exit) ≡ tournamentOf n (now (released .exit)) (now (kept .exit)) ⌝ }
 {
     let tested = finish_refusal(h.running as usize, depth);
     match tested {
         Tested::Refused(why) => refused(h, why),
-        Tested::Passed => accept(protocol, h, n, released, kept, tree),
+        Tested::Passed => accept(protocol, h, n, maximum, released, kept, tree),
     }
 }

@@ -1,5 +1,7 @@
-// RULES 9.4 to 9.8: the words of the lazy scheduler after each event that moves them: who runs, the
-// user word, the second word, kept priorities and saved words. The figures are moved elsewhere.
+// RULES 9.4 to 9.9: the words of the lazy scheduler after each event that moves them: who runs, the
+// user word, the second word, kept priorities and saved words. The figures are moved elsewhere, and the
+// word that a release, a finish or a tick finds is cut already.
+use crate::entry::found_word;
 use crate::protocol::entered;
 use crate::switch::Turn;
 use crate::switch::best;
@@ -31,7 +33,7 @@ ghost use Rattle.rules.specs.Numbers.Capacity.{maxLocks, maxTasks};
 ghost use Rattle.rules.specs.Schedulers.Lazy.{Words, bestKept, switched, stays, afterRelease, afterAcquire};
 ghost use Rattle.rules.specs.Numbers.Place.{at};
 ghost use Rattle.tournament.specs.Keys.{tournamentOf};
-ghost use Rattle.kernel.specs.Lent.{enteredTurn, turned, turnOf, wordsOn};
+ghost use Rattle.kernel.specs.Lent.{tickedTurn, turned, turnOf, wordsOn};
 ghost use Rattle.kernel.specs.Parts.{UnlockWords};
 ghost use Rattle.kernel.specs.Ready.{Arrives};
 
@@ -145,11 +147,12 @@ pub struct Unlocked {
 }
 
 // Unlock: the saved word is back. Where the second word is strictly above it, the kernel is called
-// once and switches.
+// once, which is an entry, and switches.
 pub fn after_unlock(
     protocol: Protocol,
     h: Head,
     n: usize,
+    maximum: &[u8; MAX_TASKS],
     released: &[u32; MAX_TASKS],
     kept: &mut [u8; MAX_TASKS],
     tree: &mut [u64; PLACES],
@@ -159,7 +162,7 @@ pub fn after_unlock(
 ) -> Unlocked
     requires { ⌜ (h .running < maxTasks) × (l < maxLocks) × (n ≤ maxTasks) × (length (now kept) ≡ maxTasks) ⌝ }
     requires { ⌜ now tree ≡ tournamentOf n (now released) (now kept) ⌝ }
-    ensures { λ r. ⌜ UnlockWords protocol h n l (now (released .entry)) (now (kept .entry)) (now (saved .entry)) (now (owner .entry))
+    ensures { λ r. ⌜ UnlockWords protocol h n l (now (maximum .entry)) (now (released .entry)) (now (kept .entry)) (now (saved .entry)) (now (owner .entry))
         r (now (kept .exit)) (now (saved .exit)) (now (owner .exit)) ⌝ }
     ensures { λ r. ⌜ now (tree .exit) ≡ tournamentOf n (now (released .entry)) (now (kept .exit)) ⌝ }
 {
@@ -171,7 +174,8 @@ pub fn after_unlock(
     owner[y] = 0;
     let next = h.next;
     if calls_for(back, next) {
-        let after = leave(protocol, n, released, kept, tree, h.running, back);
+        let found = found_word(maximum, h.running, back);
+        let after = leave(protocol, n, released, kept, tree, h.running, found);
         return Unlocked {
             turn: after,
             call: true,
@@ -209,7 +213,7 @@ pub fn after_finish(
 
 // Tick: the kernel is entered, and whoever runs goes on.
 pub fn after_tick(protocol: Protocol, h: Head, most: KernelPriority) -> Turn
-    ensures { λ r. ⌜ r ≡ enteredTurn protocol (h .running) (h .user) (most .0) ⌝ }
+    ensures { λ r. ⌜ r ≡ tickedTurn protocol h (most .0) ⌝ }
 {
     let user = h.user;
     entered(protocol, h.running, user, most)

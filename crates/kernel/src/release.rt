@@ -2,6 +2,7 @@
 use crate::acted::Acted;
 use crate::counts::accepted;
 use crate::counts::refused;
+use crate::entry::entering;
 use crate::lazy::after_release;
 use crate::refusals::release_refusal;
 use figures::priority::kernel_of;
@@ -21,6 +22,7 @@ fn accept(
     h: Head,
     n: usize,
     base: &[u8; MAX_TASKS],
+    maximum: &[u8; MAX_TASKS],
     released: &mut [u32; MAX_TASKS],
     kept: &mut [u8; MAX_TASKS],
     tree: &mut [u64; PLACES],
@@ -29,14 +31,16 @@ fn accept(
 ) -> Acted
     requires { ⌜ Counts h × Arrives h n (now kept) t × (now tree ≡ tournamentOf n (now released) (now kept)) ⌝ }
     ensures { λ r. ⌜ ReleaseDone protocol h n t
-        (now (base .entry)) (now (released .entry)) (now (kept .entry)) (now (delay .entry))
+        (now (base .entry)) (now (maximum .entry)) (now (released .entry)) (now (kept .entry)) (now (delay .entry))
         r (now (released .exit)) (now (kept .exit)) (now (delay .exit)) ⌝ }
     ensures { λ r. ⌜ now (tree .exit) ≡ tournamentOf n (now (released .exit)) (now (kept .exit)) ⌝ }
 {
     let x = t as usize;
     released[x] = h.accepted + 1;
     delay[x] = 0;
-    let after = after_release(protocol, h, n, released, kept, tree, t, kernel_of(base[x]));
+    let found = entering(maximum, h);
+    let b = kernel_of(base[x]);
+    let after = after_release(protocol, found, n, released, kept, tree, t, b);
     accepted(h, after, false, 0)
 }
 
@@ -46,6 +50,7 @@ pub fn release(
     h: Head,
     n: usize,
     base: &[u8; MAX_TASKS],
+    maximum: &[u8; MAX_TASKS],
     released: &mut [u32; MAX_TASKS],
     kept: &mut [u8; MAX_TASKS],
     tree: &mut [u64; PLACES],
@@ -54,13 +59,24 @@ pub fn release(
 ) -> Acted
     requires { ⌜ ReleaseReady h n (now released) (now kept) t × (now tree ≡ tournamentOf n (now released) (now kept)) ⌝ }
     ensures { λ r. ⌜ ReleaseAnswered protocol h n t
-        (now (base .entry)) (now (released .entry)) (now (kept .entry)) (now (delay .entry))
+        (now (base .entry)) (now (maximum .entry)) (now (released .entry)) (now (kept .entry)) (now (delay .entry))
         r (now (released .exit)) (now (kept .exit)) (now (delay .exit)) ⌝ }
     ensures { λ r. ⌜ now (tree .exit) ≡ tournamentOf n (now (released .exit)) (now (kept .exit)) ⌝ }
 {
     let tested = release_refusal(n, released, t);
     match tested {
         Tested::Refused(why) => refused(h, why),
-        Tested::Passed => accept(protocol, h, n, base, released, kept, tree, delay, t),
+        Tested::Passed => accept(
+            protocol,
+            h,
+            n,
+            base,
+            maximum,
+            released,
+            kept,
+            tree,
+            delay,
+            t,
+        ),
     }
 }

@@ -25,6 +25,7 @@ fn accept(
     protocol: Protocol,
     h: Head,
     n: usize,
+    maximum: &[u8; MAX_TASKS],
     released: &[u32; MAX_TASKS],
     kept: &mut [u8; MAX_TASKS],
     tree: &mut [u64; PLACES],
@@ -39,7 +40,8 @@ fn accept(
     requires { ⌜ (n ≤ maxTasks) × (0 < at (now depth) (h .running)) × (length (now kept) ≡ maxTasks) ⌝ }
     requires { ⌜ now tree ≡ tournamentOf n (now released) (now kept) ⌝ }
     ensures { λ r. ⌜ UnlockDone protocol h n l
-        (now (released .entry)) (now (kept .entry)) (now (depth .entry)) (now (takes .entry)) (now (saved .entry)) (now (units .entry)) (now (owner .entry))
+        (now (maximum .entry)) (now (released .entry)) (now (kept .entry)) (now (depth .entry)) (now (takes .entry)) (now (saved .entry))
+        (now (units .entry)) (now (owner .entry))
         r (now (kept .exit)) (now (depth .exit)) (now (takes .exit)) (now (saved .exit)) (now (units .exit)) (now (owner .exit)) ⌝ }
     ensures { λ r. ⌜ now (tree .exit) ≡ tournamentOf n (now (released .entry)) (now (kept .exit)) ⌝ }
 {
@@ -50,7 +52,18 @@ fn accept(
     let row = takes[x];
     takes[x] = under_of(row);
     units[y] = 0;
-    let unlocked = after_unlock(protocol, h, n, released, kept, tree, saved, owner, l);
+    let unlocked = after_unlock(
+        protocol,
+        h,
+        n,
+        maximum,
+        released,
+        kept,
+        tree,
+        saved,
+        owner,
+        l,
+    );
     let after = unlocked.turn;
     accepted_with_word(h, after, unlocked.call, unlocked.back)
 }
@@ -61,6 +74,7 @@ pub fn unlock(
     h: Head,
     n: usize,
     m: usize,
+    maximum: &[u8; MAX_TASKS],
     released: &[u32; MAX_TASKS],
     kept: &mut [u8; MAX_TASKS],
     tree: &mut [u64; PLACES],
@@ -73,7 +87,8 @@ pub fn unlock(
 ) -> Acted
     requires { ⌜ UnlockReady h n m (now kept) × (now tree ≡ tournamentOf n (now released) (now kept)) ⌝ }
     ensures { λ r. ⌜ UnlockAnswered protocol h n m l
-        (now (released .entry)) (now (kept .entry)) (now (depth .entry)) (now (takes .entry)) (now (saved .entry)) (now (units .entry)) (now (owner .entry))
+        (now (maximum .entry)) (now (released .entry)) (now (kept .entry)) (now (depth .entry)) (now (takes .entry)) (now (saved .entry))
+        (now (units .entry)) (now (owner .entry))
         r (now (kept .exit)) (now (depth .exit)) (now (takes .exit)) (now (saved .exit)) (now (units .exit)) (now (owner .exit)) ⌝ }
     ensures { λ r. ⌜ now (tree .exit) ≡ tournamentOf n (now (released .entry)) (now (kept .exit)) ⌝ }
 {
@@ -84,6 +99,7 @@ pub fn unlock(
             protocol,
             h,
             n,
+            maximum,
             released,
             kept,
             tree,

@@ -8,8 +8,8 @@ use Rattle.rules.specs.Numbers.Refusal.{numberOf, firstTrue, found, firstFault}
 use Rattle.rules.specs.Numbers.Mask.{hasBit, withBit}
 use Rattle.rules.specs.Numbers.Row.{has, priority, saves}
 use Rattle.rules.specs.Books.Event.{eventFault, eventOf}
-use Rattle.rules.specs.Books.Plan.{most, countFault, taskFault, lockFault, declares, users, usersBase, usersFault, ceilingFault}
-use Rattle.rules.specs.Books.Load.{taskFaultAt, lockFaultAt, countFaultOf, useFault, masksOf, planOf, recordChecks, loadChecks}
+use Rattle.rules.specs.Books.Plan.{most, countFault, taskFault, lockFault, declares, users, usersBase, usersFault, ceilingFault, maximumFault, aboveFault}
+use Rattle.rules.specs.Books.Load.{taskFaultAt, lockFaultAt, countFaultOf, useFault, useAbove, masksOf, planOf, recordChecks, loadChecks}
 use Rattle.rules.specs.Books.Book.{sizeOf, bodyAt, layoutFault, contentsChecks, eventChecks, checkOf, checkedAs}
 use Rattle.rules.specs.Schedulers.Figures.{holds, priorityOf, rankOf}
 use Rattle.rules.specs.Schedulers.Elect.{earlier, earliest, elected}
@@ -17,7 +17,8 @@ use Rattle.rules.specs.Schedulers.EventRefusals.{elsewhere, notNewest, pastLimi
 use Rattle.rules.specs.Schedulers.EventRefusals.{releaseOrder, acquireOrder, unlockOrder, workOrder, finishOrder, refusalOf}
 use Rattle.rules.specs.Schedulers.FiguresAfter.{differs, eagerCalls, charged, delayed, figuresAfter}
 use Rattle.rules.specs.Schedulers.Protocol.{secondWord}
-use Rattle.rules.specs.Schedulers.Lazy.{callsFor, runsOn, switched, stays, afterRelease, afterAcquire, restored, afterUnlock, wordsAfter, lazyCall}
+use Rattle.rules.specs.Schedulers.Lazy.{callsFor, cutTo, entering, runsOn, switched, stays, afterRelease, afterAcquire, restored, leaves, afterUnlock}
+use Rattle.rules.specs.Schedulers.Lazy.{wordsAfter, lazyCall}
 use Rattle.rules.specs.Soundness.Sound.{keptOf, savedOf, ownerOf}
 use Rattle.rules.specs.Soundness.SoundTest.{taskObeys, lockObeys, spareObeys, obeys, rowTest, ownTest, numberNew, numberTest}
 use Rattle.rules.specs.Soundness.SoundTest.{taskTest, lockTest, runsTest, secondTest, headTest, spareTest, soundTest}
@@ -37,7 +38,7 @@ bookOfRefused =
     ∷ 2 ∷ 0 ∷ 2 ∷ 0 ∷ 40 ∷ 0 ∷ 0 ∷ 0
     ∷ 3 ∷ 0 ∷ 4 ∷ 0 ∷ 48 ∷ 0 ∷ 0 ∷ 0
     ∷ 4 ∷ 0 ∷ 4 ∷ 0 ∷ 56 ∷ 0 ∷ 0 ∷ 0
-    ∷ 1 ∷ 0 ∷ 3 ∷ 0 ∷ 5 ∷ 0 ∷ 7 ∷ 0
+    ∷ 1 ∷ 5 ∷ 3 ∷ 5 ∷ 5 ∷ 5 ∷ 7 ∷ 7
     ∷ 5 ∷ 0 ∷ 4 ∷ 0 ∷ 3 ∷ 0 ∷ 10 ∷ 0
     ∷ 0 ∷ 0 ∷ 0 ∷ 1 ∷ 1 ∷ 1 ∷ 2 ∷ 0
     ∷ 1 ∷ 0 ∷ 0 ∷ 0
@@ -49,11 +50,12 @@ bookOfRefused =
 printed : (textOf Second book ≡ block) × (textOf First book ≡ blockByFirst) × (textOf Second bookOfRefused ≡ blockOfRefused)
 unfolding book block blockByFirst bookOfRefused blockOfRefused
     if_then_else_ allTrue every any count greatest firstFrom from renewed zeros numberOf firstTrue found firstFault eventFault eventOf hasBit
-    withBit most countFault taskFault lockFault declares users usersBase usersFault ceilingFault taskFaultAt lockFaultAt countFaultOf useFault masksOf planOf
+    withBit most countFault taskFault lockFault declares users usersBase usersFault ceilingFault maximumFault aboveFault taskFaultAt lockFaultAt countFaultOf
+    useFault useAbove masksOf planOf
     recordChecks loadChecks sizeOf bodyAt layoutFault contentsChecks eventChecks checkOf checkedAs
     has priority saves holds priorityOf rankOf earlier earliest elected elsewhere notNewest pastLimit testsOf releaseOrder acquireOrder unlockOrder workOrder
     finishOrder refusalOf differs eagerCalls charged delayed figuresAfter
-    secondWord callsFor runsOn switched stays afterRelease afterAcquire restored afterUnlock
+    secondWord callsFor cutTo entering runsOn switched stays afterRelease afterAcquire restored leaves afterUnlock
     wordsAfter lazyCall keptOf savedOf ownerOf
     taskObeys lockObeys spareObeys obeys rowTest ownTest numberNew numberTest taskTest lockTest runsTest secondTest headTest spareTest soundTest
     afterOf answered actOf stepOf withRow onward runFrom replayAs replayOf

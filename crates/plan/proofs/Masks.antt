@@ -15,6 +15,16 @@ use Rattle.rules.specs.Books.Load.{useTask, useLock, masksOf}
 use Rattle.rules.proofs.Numbers.Choice.{if-true}
 use Rattle.plan.specs.Placed.{Placed}
 
+-- w is the use at place i
+module _ (n m i w : ℕ) (uses : List ℕ) (read : w ≡ at uses i) where
+  pub task-placed : Placed n m uses → i < length uses → useTask w < n
+  unfolding Placed
+  task-placed h b = rw read (h i b .0)
+
+  pub lock-placed : Placed n m uses → i < length uses → useLock w < m
+  unfolding Placed
+  lock-placed h b = rw read (h i b .1)
+
 module _ (uses : List ℕ) where
   abbrev pub MasksSoFar : ℕ → List ℕ → Type 0
   MasksSoFar i masks = (i ≤ length uses) × (masks ≡ masksOf uses i)
@@ -24,15 +34,13 @@ module _ (uses : List ℕ) where
 
   -- w is the use at place i, t and l its ids, v the set with the lock
   module _ (i w t l : ℕ) (read : w ≡ at uses i) (task : t ≡ useTask w) (lock : l ≡ useLock w) where
-    pub task-in : Placed uses → i < length uses → t < maxTasks
-    unfolding Placed
-    task-in h b = rw (task, read) (h i b .0)
+    pub task-in : Placed maxTasks maxLocks uses → i < length uses → t < maxTasks
+    task-in h b = rw task (task-placed maxTasks maxLocks i w uses read h b)
 
-    pub lock-in : Placed uses → i < length uses → l < maxLocks
-    unfolding Placed
-    lock-in h b = rw (lock, read) (h i b .1)
+    pub lock-in : Placed maxTasks maxLocks uses → i < length uses → l < maxLocks
+    lock-in h b = rw lock (lock-placed maxTasks maxLocks i w uses read h b)
 
-    pub masks-next : (masks : List ℕ) (v : ℕ) → MasksSoFar i masks → i < length uses → Placed uses
+    pub masks-next : (masks : List ℕ) (v : ℕ) → MasksSoFar i masks → i < length uses → Placed maxTasks maxLocks uses
         → v ≡ (if ltb l maxLocks then withBit (at masks t) l else at masks t) → MasksSoFar (i + 1) (set masks t v)
     unfolding masksOf
     masks-next masks v e h u g =

@@ -9,13 +9,13 @@ use Rattle.rules.specs.Numbers.Place.{at, firstFrom, renewed, tabulate}
 use Rattle.rules.specs.Numbers.Choice.{if_then_else_}
 use Rattle.rules.specs.Numbers.Refusal.{numberOf, firstFault, checkFor}
 use Rattle.rules.specs.Books.Plan.{ceilingFault}
-use Rattle.rules.specs.Books.Load.{taskBase, lockCeiling, lockLimit, countFaultOf, taskFaultAt, lockFaultAt, useFault}
+use Rattle.rules.specs.Books.Load.{taskBase, taskMaximum, lockCeiling, lockLimit, countFaultOf, taskFaultAt, lockFaultAt, useFault, useAbove}
 use Rattle.rules.specs.Books.Load.{masksOf, planOf, recordChecks, loadChecks, passedLoad, refusedLoad, loadedAs, loadOf}
 use Rattle.rules.specs.declared.plan.Plan.{Plan}
 use Rattle.rules.specs.declared.answer.Verdict.{Verdict}
 use Rattle.rules.specs.declared.answer.Loaded.{Loaded}
 use Rattle.rules.specs.declared.refusal.Refusal.{Refusal}
-use Rattle.rules.specs.declared.refusal.Refusal.the-variants.{WrongCount, WrongTask, WrongLock, WrongUse, WrongCeiling}
+use Rattle.rules.specs.declared.refusal.Refusal.the-variants.{WrongCount, WrongTask, WrongLock, WrongUse, WrongCeiling, AboveMaximum}
 use Rattle.rules.proofs.Numbers.Place.{first-same, renewed-table, none-past}
 use Rattle.rules.proofs.Numbers.Checks.{Clean, clean-for, check-left, check-right, check-none, check-finds, check-passes}
 use Rattle.rules.proofs.Books.Loaded.{tasks-fit, locks-fit, use-known}
@@ -29,20 +29,24 @@ use Rattle.plan.proofs.Users.{ceiling-same}
 table : (f : ℕ → ℕ) (n : ℕ) (xs : List ℕ) → f 0 ≡ 0 → length xs ≤ n → renewed (replicate n 0) (λ i. f (at xs i)) (length xs) ≡ tabulate n (λ i. f (at xs i))
 table f n xs z h = renewed-table (λ i. f (at xs i)) n (length xs) h (λ i l. ap f (sym (none-past xs (length xs) i refl l)) ∙ z)
 
-pub as-plan : (tasks locks uses base ceiling limit masks : List ℕ) (few : (length tasks ≤ maxTasks) × (length locks ≤ maxLocks))
+pub as-plan : (tasks locks uses base maximum ceiling limit masks : List ℕ) (few : (length tasks ≤ maxTasks) × (length locks ≤ maxLocks))
     → base ≡ renewed (replicate maxTasks 0) (λ t. taskBase (at tasks t)) (length tasks)
+    → maximum ≡ renewed (replicate maxTasks 0) (λ t. taskMaximum (at tasks t)) (length tasks)
     → ceiling ≡ renewed (replicate maxLocks 0) (λ l. lockCeiling (at locks l)) (length locks)
     → limit ≡ renewed (replicate maxLocks 0) (λ l. lockLimit (at locks l)) (length locks)
     → masks ≡ masksOf uses (length uses)
-    → _≡_ {A = Plan} (record { tasks = length tasks; locks = length locks; base = base; ceiling = ceiling; limit = limit; uses = masks })
+    → _≡_ {A = Plan}
+    (record { tasks = length tasks; locks = length locks; base = base; maximum = maximum; ceiling = ceiling; limit = limit; uses = masks })
     (planOf tasks locks uses)
 unfolding planOf
-as-plan tasks locks uses base ceiling limit masks few a b c d = rw (
+as-plan tasks locks uses base maximum ceiling limit masks few a b c d e = rw (
   a,
   b,
   c,
   d,
+  e,
   table taskBase maxTasks tasks refl (few .0),
+  table taskMaximum maxTasks tasks refl (few .0),
   table lockCeiling maxLocks locks refl (few .1),
   table lockLimit maxLocks locks refl (few .1),
 )
@@ -78,7 +82,7 @@ module _ (tasks locks uses : List ℕ) (e : ℕ) (count : e ≡ firstFrom (count
         no-wrong h = sym (check-passes _ _ e count counts ∙ check-passes _ _ t task tasked ∙ check-passes _ _ l lock locked ∙ check-passes _ _ u use′ h
             ∙ check-none)
 
--- ---- then 7
+-- ---- then 7 and 24
 
 -- v is what the checks of the records say
 module _ (tasks locks uses : List ℕ) (v : Verdict) (said : v ≡ firstFault (recordChecks tasks locks uses)) where
@@ -101,9 +105,13 @@ module _ (tasks locks uses : List ℕ) (v : Verdict) (said : v ≡ firstFault (r
     unfolding recordChecks checkFor numberOf if_then_else_
     few-locks = locks-fit (length tasks) (length locks) (length uses) (clean WrongCount 1 (omega arith))
 
-    pub placed : Placed uses
+    pub known : Placed (length tasks) (length locks) uses
     unfolding recordChecks checkFor numberOf if_then_else_ Placed
-    placed i b = let (t, l) = use-known (length tasks) (length locks) uses i (clean WrongUse i b) in (omega (arith, few-tasks), omega (arith, few-locks))
+    known i b = use-known (length tasks) (length locks) uses i (clean WrongUse i b)
+
+    pub placed : Placed maxTasks maxLocks uses
+    unfolding Placed
+    placed i b = let (t, l) = known i b in (omega (arith, few-tasks), omega (arith, few-locks))
 
     -- q is the plan as built, and c its first lock of a wrong ceiling
     module _ (q : Plan) (built : q ≡ p) where
@@ -130,8 +138,19 @@ module _ (tasks locks uses : List ℕ) (v : Verdict) (said : v ≡ firstFault (r
             (sym (check-right (recordChecks tasks locks uses) _ (sym said ∙ passed) ∙ check-finds _ _ c first h
             ∙ ap (Verdict.Refused WrongCeiling) (omega arith)))
 
-        pub all-right : (r : Loaded) → length locks ≤ c → r ≡ passedLoad q → r ≡ loadOf tasks locks uses
-        unfolding loadOf loadedAs loadChecks
-        all-right r h g =
-            g ∙ ap passedLoad built
-            ∙ ap (λ w. loadedAs w p) (sym (check-right (recordChecks tasks locks uses) _ (sym said ∙ passed) ∙ check-passes _ _ c first h ∙ check-none))
+        -- u is the first use of a lock above its task's maximum
+        module _ (right : length locks ≤ c) (u : ℕ) (above : u ≡ firstFrom (useAbove tasks locks uses) 0 (length uses)) where
+          pub wrong-maximum : (r : Loaded) → u < length uses → r ≡ refusedLoad AboveMaximum u → r ≡ loadOf tasks locks uses
+          unfolding loadOf loadedAs loadChecks
+          wrong-maximum r h g =
+              g
+              ∙ ap (λ w. loadedAs w p)
+              (sym (check-right (recordChecks tasks locks uses) _ (sym said ∙ passed) ∙ check-passes _ _ c first right ∙ check-finds _ _ u above h
+              ∙ ap (Verdict.Refused AboveMaximum) (omega arith)))
+
+          pub all-right : (r : Loaded) → length uses ≤ u → r ≡ passedLoad q → r ≡ loadOf tasks locks uses
+          unfolding loadOf loadedAs loadChecks
+          all-right r h g =
+              g ∙ ap passedLoad built
+              ∙ ap (λ w. loadedAs w p)
+              (sym (check-right (recordChecks tasks locks uses) _ (sym said ∙ passed) ∙ check-passes _ _ c first right ∙ check-passes _ _ u above h ∙ check-none))

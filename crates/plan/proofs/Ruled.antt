@@ -1,22 +1,24 @@
 -- The ways through the test of a plan that is handed in. Assumes nothing.
 use mathlib.Core.Path.{_≡_, refl, sym, _∙_, ap}
-use mathlib.Core.Bool.{Bool, true, false, not}
+use mathlib.Core.Bool.{Bool, true, false, not, _||_}
 use mathlib.Core.List.{List, [], _∷_}
 use Prim.Native.Nat.{ℕ, zero, suc, _*_, _%_, _^_, _≤_, _<_}
 use native.Mathlib.Nat.{one-mul, mod-eq-of-lt}
 use native.Mathlib.Omega.{arith}
 use lib.Dec.{eqb, ltb}
+use lib.ListN.{drop}
 use lib.Pow.{pow-lt}
-use borrow.Author.Tests.{eq-eqb, ne-eqb, lt-ltb, ltb-false}
+use borrow.Author.Tests.{eq-eqb, ne-eqb, lt-ltb, le-ltb, ltb-false}
 use Rattle.rules.proofs.Numbers.Choice.{or-false, all-next}
 use Rattle.rules.specs.Numbers.Capacity.{maxTasks, maxLocks}
 use Rattle.rules.specs.Numbers.Choice.{if_then_else_, allTrue}
-use Rattle.rules.specs.Books.Plan.{most, countFault, taskFault, lockFault}
-use Rattle.rules.specs.Numbers.Place.{at, every}
+use Rattle.rules.specs.Books.Plan.{most, countFault, taskFault, lockFault, declares, aboveFault}
+use Rattle.rules.specs.Numbers.Mask.{hasBit}
+use Rattle.rules.specs.Numbers.Place.{at, every, zeros}
 use Rattle.rules.specs.Soundness.SoundTest.{taskObeys, lockObeys, spareObeys, obeys}
 use Rattle.rules.specs.declared.plan.Plan.{Plan}
-use Rattle.plan.specs.Lent.{wrongCeiling, taskBy, lockBy, spareBy, partsBy}
-use Rattle.plan.proofs.Users.{ceiling-same}
+use Rattle.plan.specs.Lent.{usersTop, sharedBy, aboveBy, taskBy, lockBy, spareBy, partsBy}
+use Rattle.plan.proofs.Users.{ceiling-said, ceiling-same}
 
 last : (t : Bool) → t ≡ allTrue (t ∷ [])
 unfolding allTrue if_then_else_
@@ -32,38 +34,63 @@ pub locks-fit : (r : Bool) (m : ℕ) → r ≡ countFault 1 m → r ≡ false �
 unfolding countFault most if_then_else_
 locks-fit r m d e = ltb-false maxLocks m (sym d ∙ e)
 
--- a task with base b and set of locks u, where there are m locks
-module _ (b u m : ℕ) where
-  pub task-unbased : b ≡ 0 → false ≡ allTrue (not (taskFault b 0) ∷ ltb b (2 ^ 8) ∷ ltb u (2 ^ m) ∷ [])
+-- a task with base b, maximum c and set of locks u, where there are m locks
+module _ (b c u m : ℕ) where
+  abbrev taskAll : Bool
+  taskAll = allTrue (not (taskFault b c) ∷ ltb b (2 ^ 8) ∷ ltb c (2 ^ 8) ∷ ltb u (2 ^ m) ∷ [])
+
+  pub task-unbased : b ≡ 0 → false ≡ taskAll
   unfolding taskFault allTrue if_then_else_
   task-unbased e = rw (eq-eqb b 0 e)
 
-  pub task-based : (b ≡ 0 → ⊥) → b < 2 ^ 8 → m ≤ maxLocks → ltb u (1 * 2 ^ m % 2 ^ 64) ≡ allTrue (not (taskFault b 0) ∷ ltb b (2 ^ 8) ∷ ltb u (2 ^ m) ∷ [])
+  pub task-below : (b ≡ 0 → ⊥) → c < b → false ≡ taskAll
   unfolding taskFault allTrue if_then_else_
-  task-based n h l =
-      let q : 2 ^ m < 2 ^ 64 = (let k : m < 64 = omega arith in pow-lt k) in
-      rw (ne-eqb b 0 n, lt-ltb b (2 ^ 8) h, one-mul (2 ^ m), mod-eq-of-lt q) (last (ltb u (2 ^ m)))
+  task-below n h = rw (ne-eqb b 0 n, lt-ltb c b h)
 
--- a lock with ceiling c and limit u; w says that its ceiling is wrong
-module _ (c u : ℕ) (w : Bool) where
-  pub lock-unceiled : c ≡ 0 → false ≡ allTrue (not (lockFault c 0 u) ∷ ltb c (2 ^ 8) ∷ ltb u (2 ^ 16) ∷ not w ∷ [])
+  pub task-based : (b ≡ 0 → ⊥) → b ≤ c → b < 2 ^ 8 → c < 2 ^ 8 → m ≤ maxLocks → ltb u (1 * 2 ^ m % 2 ^ 64) ≡ taskAll
+  unfolding taskFault allTrue if_then_else_
+  task-based n o h k l =
+      let q : 2 ^ m < 2 ^ 64 = (let k : m < 64 = omega arith in pow-lt k) in
+      rw (ne-eqb b 0 n, le-ltb c b o, lt-ltb b (2 ^ 8) h, lt-ltb c (2 ^ 8) k, one-mul (2 ^ m), mod-eq-of-lt q) (last (ltb u (2 ^ m)))
+
+-- a lock with ceiling c and limit u; w says that its ceiling is wrong, and v that it is above a user's maximum
+module _ (c u : ℕ) (w v : Bool) where
+  abbrev lockAll : Bool
+  lockAll = allTrue (not (lockFault c 0 u) ∷ ltb c (2 ^ 8) ∷ ltb u (2 ^ 16) ∷ not w ∷ not v ∷ [])
+
+  pub lock-unceiled : c ≡ 0 → false ≡ lockAll
   unfolding lockFault allTrue if_then_else_
   lock-unceiled e = rw (eq-eqb c 0 e)
 
-  pub lock-unlimited : (c ≡ 0 → ⊥) → u ≡ 0 → false ≡ allTrue (not (lockFault c 0 u) ∷ ltb c (2 ^ 8) ∷ ltb u (2 ^ 16) ∷ not w ∷ [])
+  pub lock-unlimited : (c ≡ 0 → ⊥) → u ≡ 0 → false ≡ lockAll
   unfolding lockFault allTrue if_then_else_
   lock-unlimited n e = rw (ne-eqb c 0 n, eq-eqb u 0 e)
 
-  pub lock-limited : (c ≡ 0 → ⊥) → (u ≡ 0 → ⊥) → c < 2 ^ 8 → u < 2 ^ 16 → not w ≡ allTrue (not (lockFault c 0 u) ∷ ltb c (2 ^ 8) ∷ ltb u (2 ^ 16) ∷ not w ∷ [])
-  unfolding lockFault allTrue if_then_else_
-  lock-limited n z a b = rw (ne-eqb c 0 n, ne-eqb u 0 z, lt-ltb c (2 ^ 8) a, lt-ltb u (2 ^ 16) b) (last (not w))
+  module _ (n : c ≡ 0 → ⊥) (z : u ≡ 0 → ⊥) (a : c < 2 ^ 8) (b : u < 2 ^ 16) where
+    pub lock-wrong : w ≡ true → false ≡ lockAll
+    unfolding lockFault allTrue if_then_else_
+    lock-wrong e = rw (ne-eqb c 0 n, ne-eqb u 0 z, lt-ltb c (2 ^ 8) a, lt-ltb u (2 ^ 16) b, e)
 
--- the test of lock l, where w says whether its ceiling is wrong
-pub lock-tested : (n l : ℕ) (base ceiling limit uses : List ℕ) (w r : Bool) → w ≡ wrongCeiling n base ceiling uses l
-    → r ≡ allTrue (not (lockFault (at ceiling l) 0 (at limit l)) ∷ ltb (at ceiling l) (2 ^ 8) ∷ ltb (at limit l) (2 ^ 16) ∷ not w ∷ [])
-    → r ≡ lockBy n base ceiling limit uses l
+    pub lock-limited : w ≡ false → not v ≡ lockAll
+    unfolding lockFault allTrue if_then_else_
+    lock-limited e = rw (ne-eqb c 0 n, ne-eqb u 0 z, lt-ltb c (2 ^ 8) a, lt-ltb u (2 ^ 16) b, e) (last (not v))
+
+-- the test of lock l, of ceiling c and limit u; top and v are what its users say, and w is what 7 says
+pub lock-tested : (n shared l c u : ℕ) (base maximum ceiling limit uses : List ℕ) (top : ℕ) (w v r : Bool) → shared ≡ sharedBy n uses
+    → c ≡ at ceiling l → u ≡ at limit l → top ≡ usersTop n base uses l → v ≡ aboveBy n maximum c uses l
+    → w ≡ (not (hasBit shared l) || not (eqb c top))
+    → r ≡ allTrue (not (lockFault c 0 u) ∷ ltb c (2 ^ 8) ∷ ltb u (2 ^ 16) ∷ not w ∷ not v ∷ [])
+    → r ≡ lockBy n base maximum ceiling limit uses l
 unfolding lockBy
-lock-tested n l base ceiling limit uses w r e d = rw (← e) d
+lock-tested n shared l c u base maximum ceiling limit uses top w v r found b k t o e d =
+    d ∙ rw (ceiling-said n shared l base ceiling uses found c top w b t e, o, b, k)
+
+-- the places past the last task and the last lock
+pub spare-parts : (n m : ℕ) (base maximum ceiling limit uses : List ℕ) (r a b c d e : Bool) → r ≡ allTrue (a ∷ b ∷ c ∷ d ∷ e ∷ [])
+    → a ≡ zeros (drop n base) → b ≡ zeros (drop n maximum) → c ≡ zeros (drop n uses) → d ≡ zeros (drop m ceiling) → e ≡ zeros (drop m limit)
+    → r ≡ spareBy n m base maximum ceiling limit uses
+unfolding spareBy
+spare-parts n m base maximum ceiling limit uses r a b c d e q A B C D E = rw (← A, ← B, ← C, ← D, ← E) q
 
 -- ---- the whole plan
 
@@ -76,27 +103,27 @@ every-same f g (suc k) h = rw (every-same f g k (λ x l. h x (omega arith)), h k
 module _ (p : Plan) where
   -- the tests of this plan, by its arrays
   abbrev lockHere : ℕ → Bool
-  lockHere = lockBy (p .tasks) (p .base) (p .ceiling) (p .limit) (p .uses)
+  lockHere = lockBy (p .tasks) (p .base) (p .maximum) (p .ceiling) (p .limit) (p .uses)
 
   abbrev parts : Bool
-  parts = partsBy (p .tasks) (p .locks) (p .base) (p .ceiling) (p .limit) (p .uses)
+  parts = partsBy (p .tasks) (p .locks) (p .base) (p .maximum) (p .ceiling) (p .limit) (p .uses)
 
-  task-same : (t : ℕ) → taskBy (p .locks) (p .base) (p .uses) t ≡ taskObeys p t
+  task-same : (t : ℕ) → taskBy (p .locks) (p .base) (p .maximum) (p .uses) t ≡ taskObeys p t
   unfolding taskBy taskObeys
   task-same t = refl
 
   lock-same : (l : ℕ) → lockHere l ≡ lockObeys p l
-  unfolding lockBy lockObeys
+  unfolding lockBy lockObeys aboveBy aboveFault declares
   lock-same l = rw (ceiling-same p l)
 
-  spare-same : spareBy (p .tasks) (p .locks) (p .base) (p .ceiling) (p .limit) (p .uses) ≡ spareObeys p
+  spare-same : spareBy (p .tasks) (p .locks) (p .base) (p .maximum) (p .ceiling) (p .limit) (p .uses) ≡ spareObeys p
   unfolding spareBy spareObeys
   spare-same = refl
 
   parts-same : parts ≡ allTrue (every (taskObeys p) (p .tasks) ∷ every (lockObeys p) (p .locks) ∷ spareObeys p ∷ [])
   unfolding partsBy
   parts-same = rw (
-    every-same (taskBy (p .locks) (p .base) (p .uses)) (taskObeys p) (p .tasks) (λ t h. task-same t),
+    every-same (taskBy (p .locks) (p .base) (p .maximum) (p .uses)) (taskObeys p) (p .tasks) (λ t h. task-same t),
     every-same lockHere (lockObeys p) (p .locks) (λ l h. lock-same l),
     spare-same,
   )

@@ -1,9 +1,10 @@
--- 7 by the arrays: the locks that two tasks may take are those with two users or more. Assumes nothing.
+-- 7 and 24 by the arrays: the locks that two tasks may take are those with two users or more, and a user's maximum is below the ceiling where the least one is.
+-- Assumes nothing.
 use mathlib.Core.Path.{_≡_, refl, sym, _∙_, ap, ap₂}
 use mathlib.Core.Bool.{Bool, true, false, not, _&&_, _||_}
 use mathlib.Core.List.{List}
 use mathlib.Core.Logic.{⊎-elim}
-use Prim.Native.Nat.{ℕ, zero, suc, _+_, _≤_, _<_}
+use Prim.Native.Nat.{ℕ, zero, suc, _+_, _-_, _≤_, _<_, max}
 use native.Mathlib.Numerals.{add-one}
 use native.Mathlib.Omega.{arith}
 use lib.Bits.{bitAnd, bitOr}
@@ -12,10 +13,11 @@ use borrow.Author.Tests.{le-leb, lt-leb, lt-ltb, le-ltb}
 use Rattle.rules.specs.Numbers.Choice.{if_then_else_}
 use Rattle.rules.specs.Numbers.Mask.{hasBit}
 use Rattle.rules.specs.Numbers.Place.{at, count}
-use Rattle.rules.specs.Books.Plan.{declares, users, usersBase, usersFault, ceilingFault}
+use Rattle.rules.specs.Books.Plan.{declares, users, usersBase, usersFault, ceilingFault, maximumFault}
 use Rattle.rules.specs.declared.plan.Plan.{Plan}
 use Rattle.rules.proofs.Numbers.Choice.{by-test, lt-or-le}
 use Rattle.rules.proofs.Numbers.Mask.{bit-none, and-has, or-has}
+use Rattle.rules.proofs.Numbers.Place.{AskedSoFar, asked-start, asked-next}
 use Rattle.plan.specs.Lent.{usersBy, usersTop, wrongCeiling, usedBy, sharedBy}
 
 -- ---- a walk over the tasks
@@ -78,15 +80,45 @@ ceiling-same p l = refl
 
 -- ---- the code's test of lock l
 
-module _ (n shared l : ℕ) (base ceiling uses : List ℕ) (in′ : Bool) (found : shared ≡ sharedBy n uses) (said : in′ ≡ hasBit shared l) where
-  few : not in′ ≡ ltb (usersBy n uses l) 2
-  few = ap not (said ∙ ap (λ s. hasBit s l) found ∙ shared-two uses l n) ∙ not-two (usersBy n uses l)
-
-  pub ceiling-few : in′ ≡ false → true ≡ wrongCeiling n base ceiling uses l
-  unfolding wrongCeiling usersFault
-  ceiling-few e = rw (← few, e)
+module _ (n shared l : ℕ) (base ceiling uses : List ℕ) (found : shared ≡ sharedBy n uses) where
+  few : not (hasBit shared l) ≡ ltb (usersBy n uses l) 2
+  few = ap not (ap (λ s. hasBit s l) found ∙ shared-two uses l n) ∙ not-two (usersBy n uses l)
 
   -- c is its ceiling, and top the greatest base
-  pub ceiling-said : (c top : ℕ) → in′ ≡ true → c ≡ at ceiling l → top ≡ usersTop n base uses l → not (eqb c top) ≡ wrongCeiling n base ceiling uses l
+  pub ceiling-said : (c top : ℕ) (r : Bool) → c ≡ at ceiling l → top ≡ usersTop n base uses l → r ≡ (not (hasBit shared l) || not (eqb c top))
+      → r ≡ wrongCeiling n base ceiling uses l
   unfolding wrongCeiling usersFault
-  ceiling-said c top e h g = rw (← few, e, h, g)
+  ceiling-said c top r h g e = e ∙ rw (few, h, g)
+
+-- ---- 24 by the arrays: the users' least maximum is `gap` below 255
+
+above-either : (k a b : ℕ) → (ltb k a || ltb k b) ≡ ltb k (max a b)
+above-either k a b = ⊎-elim
+    (λ (q : k < max a b). ⊎-elim
+    (λ (g : k < a). rw (lt-ltb k a g, lt-ltb k (max a b) q))
+    (λ (g : a ≤ k). let h : k < b = omega arith in rw (le-ltb k a g, lt-ltb k b h, lt-ltb k (max a b) q)) (lt-or-le k a))
+    (λ (q : max a b ≤ k). rw (le-ltb k a (omega arith), le-ltb k b (omega arith), le-ltb k (max a b) q))
+    (lt-or-le k (max a b))
+
+-- of one task: b says that it is a user, and m is its maximum
+gap-here : (b : Bool) (m c : ℕ) → m < 256 → c < 256 → ltb (255 - c) (if b then 255 - m else 0) ≡ (b && maximumFault m c)
+unfolding maximumFault if_then_else_
+gap-here true m c h k = ⊎-elim
+    (λ (q : m < c). rw (lt-ltb (255 - c) (255 - m) (omega arith), lt-ltb m c q))
+    (λ (q : c ≤ m). rw (le-ltb (255 - c) (255 - m) (omega arith), le-ltb m c q))
+    (lt-or-le m c)
+gap-here false m c h k = le-ltb (255 - c) 0 (omega arith)
+
+-- r is how far the ceiling c is below 255, v and m belong to task i, and g is v if that is a user
+pub gap-said : (i l c r set m v g : ℕ) (maximum uses : List ℕ) → g ≡ (if hasBit set l then v else 0) → set ≡ at uses i → v ≡ 255 - m → m ≡ at maximum i
+    → m < 256 → r ≡ 255 - c → c < 256 → ltb r g ≡ (hasBit (at uses i) l && maximumFault (at maximum i) c)
+gap-said i l c r set m v g maximum uses q a s b small e top =
+    ap₂ ltb e (q ∙ ap (λ z. if hasBit set l then z else 0) s) ∙ gap-here (hasBit set l) m c small top ∙ rw (a, b)
+
+-- what is asked of the greatest so far is asked of each
+module _ (f : ℕ → Bool) (n r : ℕ) where
+  pub gap-start : AskedSoFar f n 0 (ltb r 0)
+  gap-start = rw (le-ltb r 0 (omega arith)) (asked-start f n)
+
+  pub gap-next : (i gap g d : ℕ) → AskedSoFar f n i (ltb r gap) → i < n → ltb r g ≡ f i → d ≡ max gap g → AskedSoFar f n (i + 1) (ltb r d)
+  gap-next i gap g d e h q k = rw (k, ← above-either r gap g) (asked-next f n i (ltb r gap) (ltb r g) e h q)

@@ -1,6 +1,6 @@
 -- The ways through a test that is said with "or": the code's returns, one law each. Assumes nothing.
 use mathlib.Core.Path.{_≡_}
-use mathlib.Core.Bool.{Bool, true, false, not, and-true, and-false, or-false}
+use mathlib.Core.Bool.{Bool, true, false, not, _||_, and-true, and-false, or-false}
 use mathlib.Core.List.{List}
 use Prim.Native.Nat.{ℕ, _-_, _≤_, _<_}
 use lib.Dec.{eqb, leb, ltb}
@@ -8,18 +8,33 @@ use borrow.Author.Tests.{eq-eqb, ne-eqb, le-leb, lt-leb, lt-ltb, le-ltb}
 use native.Mathlib.Omega.{arith}
 use Rattle.rules.specs.Numbers.Choice.{if_then_else_}
 use Rattle.rules.specs.Numbers.Place.{at}
-use Rattle.rules.specs.Books.Plan.{most, countFault, taskFault, lockFault}
-use Rattle.rules.specs.Books.Load.{useTask, useLock, useKey, useFault, countFaultOf}
+use Rattle.rules.specs.Numbers.Mask.{hasBit}
+use Rattle.rules.specs.Books.Plan.{most, countFault, taskFault, lockFault, maximumFault}
+use Rattle.rules.specs.Books.Load.{taskMaximum, lockCeiling, useTask, useLock, useKey, useFault, countFaultOf}
 
 -- 4, with a and b for the parts as the code has them
-module _ (base second a b : ℕ) where
-  pub task-zero : a ≡ base → a ≡ 0 → true ≡ taskFault base second
+module _ (base maximum a b : ℕ) where
+  pub task-zero : a ≡ base → a ≡ 0 → true ≡ taskFault base maximum
   unfolding taskFault
   task-zero e z = rw (← e, eq-eqb a 0 z)
 
-  pub task-else : a ≡ base → (a ≡ 0 → ⊥) → b ≡ second → not (eqb b 0) ≡ taskFault base second
+  pub task-else : a ≡ base → (a ≡ 0 → ⊥) → b ≡ maximum → ltb b a ≡ taskFault base maximum
   unfolding taskFault
   task-else e n g = rw (← e, ← g, ne-eqb a 0 n)
+
+-- 24, of a use w: x and y are the records of its task t and its lock l, a and b the maximum and the ceiling
+pub above-use : (tasks locks : List ℕ) (w t l x y a b : ℕ) (r : Bool) → t ≡ useTask w → l ≡ useLock w → x ≡ at tasks t → y ≡ at locks l
+    → a ≡ taskMaximum x → b ≡ lockCeiling y → r ≡ maximumFault a b
+    → r ≡ maximumFault (taskMaximum (at tasks (useTask w))) (lockCeiling (at locks (useLock w)))
+above-use tasks locks w t l x y a b r e f g h j k q = rw (← e, ← f, ← g, ← h, ← j, ← k) q
+
+-- 7, of a lock: r says that it is shared
+module _ (shared ceiling top l : ℕ) (r : Bool) (said : r ≡ hasBit shared l) where
+  pub ceiling-alone : r ≡ false → true ≡ (not (hasBit shared l) || not (eqb ceiling top))
+  ceiling-alone e = rw (← said, e)
+
+  pub ceiling-shared : r ≡ true → not (eqb ceiling top) ≡ (not (hasBit shared l) || not (eqb ceiling top))
+  ceiling-shared e = rw (← said, e)
 
 -- 5
 module _ (ceiling second limit a b d : ℕ) where

@@ -8,7 +8,7 @@ use lib.ListN.{drop}
 use Rattle.rules.specs.Numbers.Choice.{if_then_else_, allTrue}
 use Rattle.rules.specs.Numbers.Place.{at, every, any, count, greatest, zeros}
 use Rattle.rules.specs.Numbers.Mask.{hasBit}
-use Rattle.rules.specs.Books.Plan.{taskFault, lockFault, usersFault}
+use Rattle.rules.specs.Books.Plan.{taskFault, lockFault, usersFault, maximumFault}
 
 -- ---- the users of a lock, among the first n tasks
 
@@ -24,6 +24,10 @@ usersTop n base uses l = greatest (λ x. if hasBit (at uses x) l then at base x 
 unfoldable pub wrongCeiling : ℕ → List ℕ → List ℕ → List ℕ → ℕ → Bool
 wrongCeiling n base ceiling uses l = usersFault (usersBy n uses l) (at ceiling l) (usersTop n base uses l)
 
+-- 24, of lock l with this ceiling: it is above the maximum of one that may take it
+unfoldable pub aboveBy : ℕ → List ℕ → ℕ → List ℕ → ℕ → Bool
+aboveBy n maximum ceiling uses l = any (λ x. hasBit (at uses x) l && maximumFault (at maximum x) ceiling) n
+
 -- for all locks at once, as sets: those that one task may take, and those that two may
 unfoldable pub usedBy : ℕ → List ℕ → ℕ
 usedBy zero uses = 0
@@ -35,34 +39,37 @@ sharedBy (suc k) uses = bitOr (sharedBy k uses) (bitAnd (usedBy k uses) (at uses
 
 -- ---- a plan of n tasks and m locks
 
-unfoldable pub taskBy : ℕ → List ℕ → List ℕ → ℕ → Bool
-taskBy m base uses t = allTrue (not (taskFault (at base t) 0) ∷ ltb (at base t) (2 ^ 8) ∷ ltb (at uses t) (2 ^ m) ∷ [])
+unfoldable pub taskBy : ℕ → List ℕ → List ℕ → List ℕ → ℕ → Bool
+taskBy m base maximum uses t =
+    allTrue (not (taskFault (at base t) (at maximum t)) ∷ ltb (at base t) (2 ^ 8) ∷ ltb (at maximum t) (2 ^ 8) ∷ ltb (at uses t) (2 ^ m) ∷ [])
 
-unfoldable pub lockBy : ℕ → List ℕ → List ℕ → List ℕ → List ℕ → ℕ → Bool
-lockBy n base ceiling limit uses l =
+unfoldable pub lockBy : ℕ → List ℕ → List ℕ → List ℕ → List ℕ → List ℕ → ℕ → Bool
+lockBy n base maximum ceiling limit uses l =
     allTrue
     (not (lockFault (at ceiling l) 0 (at limit l))
     ∷ ltb (at ceiling l) (2 ^ 8)
     ∷ ltb (at limit l) (2 ^ 16)
     ∷ not (wrongCeiling n base ceiling uses l)
+    ∷ not (aboveBy n maximum (at ceiling l) uses l)
     ∷ [])
 
 -- places past the last task and the last lock hold 0
-unfoldable pub spareBy : ℕ → ℕ → List ℕ → List ℕ → List ℕ → List ℕ → Bool
-spareBy n m base ceiling limit uses =
+unfoldable pub spareBy : ℕ → ℕ → List ℕ → List ℕ → List ℕ → List ℕ → List ℕ → Bool
+spareBy n m base maximum ceiling limit uses =
     allTrue
     (zeros (drop n base)
+    ∷ zeros (drop n maximum)
     ∷ zeros (drop n uses)
     ∷ zeros (drop m ceiling)
     ∷ zeros (drop m limit)
     ∷ [])
 
-unfoldable pub partsBy : ℕ → ℕ → List ℕ → List ℕ → List ℕ → List ℕ → Bool
-partsBy n m base ceiling limit uses =
+unfoldable pub partsBy : ℕ → ℕ → List ℕ → List ℕ → List ℕ → List ℕ → List ℕ → Bool
+partsBy n m base maximum ceiling limit uses =
     allTrue
-    (every (taskBy m base uses) n
-    ∷ every (lockBy n base ceiling limit uses) m
-    ∷ spareBy n m base ceiling limit uses
+    (every (taskBy m base maximum uses) n
+    ∷ every (lockBy n base maximum ceiling limit uses) m
+    ∷ spareBy n m base maximum ceiling limit uses
     ∷ [])
 
 -- ---- the bound on a delay

@@ -2,6 +2,7 @@
 use crate::record::lock_ceiling;
 use crate::record::lock_limit;
 use crate::record::task_base;
+use crate::record::task_maximum;
 use crate::record::use_lock;
 use crate::record::use_task;
 use figures::mask::with_bit;
@@ -18,7 +19,7 @@ ghost use lib.ListN.{length};
 ghost use Rattle.rules.specs.Numbers.Place.{at, renewed};
 ghost use Rattle.rules.specs.Numbers.Capacity.{maxTasks, maxLocks};
 ghost use Rattle.plan.specs.Placed.{Placed};
-ghost use Rattle.rules.specs.Books.Load.{taskBase, lockCeiling, lockLimit, masksOf, planOf, refusedLoad, passedLoad};
+ghost use Rattle.rules.specs.Books.Load.{taskBase, taskMaximum, lockCeiling, lockLimit, masksOf, planOf, refusedLoad, passedLoad};
 
 // The blank plan beside a refusal.
 pub fn refused(why: Refusal, place: usize) -> Loaded
@@ -51,6 +52,17 @@ fn fill_bases(tasks: &[u16], base: &mut [u8; MAX_TASKS])
     }
 }
 
+fn fill_maxima(tasks: &[u16], maximum: &mut [u8; MAX_TASKS])
+    requires { ⌜ length (now tasks) ≤ maxTasks ⌝ }
+    ensures { λ _. ⌜ now (maximum .exit) ≡ renewed (now (maximum .entry)) (λ t. taskMaximum (at (now (tasks .entry)) t)) (length (now (tasks .entry))) ⌝ }
+{
+    let mut t: usize = 0;
+    while t < tasks.len() {
+        maximum[t] = task_maximum(tasks[t]);
+        t += 1;
+    }
+}
+
 fn fill_ceilings(locks: &[u32], ceiling: &mut [u8; MAX_LOCKS])
     requires { ⌜ length (now locks) ≤ maxLocks ⌝ }
     ensures { λ _. ⌜ now (ceiling .exit) ≡ renewed (now (ceiling .entry)) (λ l. lockCeiling (at (now (locks .entry)) l)) (length (now (locks .entry))) ⌝ }
@@ -75,7 +87,7 @@ fn fill_limits(locks: &[u32], limit: &mut [u16; MAX_LOCKS])
 
 fn fill_masks(uses: &[u16], masks: &mut [u32; MAX_TASKS])
     requires { ⌜ now masks ≡ masksOf (now uses) 0 ⌝ }
-    requires { ⌜ Placed (now uses) ⌝ }
+    requires { ⌜ Placed maxTasks maxLocks (now uses) ⌝ }
     ensures { λ _. ⌜ now (masks .exit) ≡ masksOf (now (uses .entry)) (length (now (uses .entry))) ⌝ }
 {
     let mut i: usize = 0;
@@ -91,11 +103,13 @@ fn fill_masks(uses: &[u16], masks: &mut [u32; MAX_TASKS])
 
 pub fn built(tasks: &[u16], locks: &[u32], uses: &[u16]) -> Plan
     requires { ⌜ (length (now tasks) ≤ maxTasks) × (length (now locks) ≤ maxLocks) ⌝ }
-    requires { ⌜ Placed (now uses) ⌝ }
+    requires { ⌜ Placed maxTasks maxLocks (now uses) ⌝ }
     ensures { λ r. ⌜ r ≡ planOf (now (tasks .entry)) (now (locks .entry)) (now (uses .entry)) ⌝ }
 {
     let mut base = [0u8; MAX_TASKS];
     fill_bases(tasks, &mut base);
+    let mut maximum = [0u8; MAX_TASKS];
+    fill_maxima(tasks, &mut maximum);
     let mut ceiling = [0u8; MAX_LOCKS];
     fill_ceilings(locks, &mut ceiling);
     let mut limit = [0u16; MAX_LOCKS];
@@ -106,6 +120,7 @@ pub fn built(tasks: &[u16], locks: &[u32], uses: &[u16]) -> Plan
         tasks: tasks.len(),
         locks: locks.len(),
         base: base,
+        maximum: maximum,
         ceiling: ceiling,
         limit: limit,
         uses: masks,

@@ -5,7 +5,9 @@ use rules::capacity::MAX_LOCKS;
 use rules::capacity::MAX_TASKS;
 use rules::plan::Plan;
 ghost use mathlib.Core.Path.{_≡_};
+ghost use mathlib.Core.Bool.{not, _||_};
 ghost use Prim.Native.Nat.{_<_, _≤_};
+ghost use lib.Dec.{eqb};
 ghost use Rattle.rules.specs.Numbers.Capacity.{maxTasks, maxLocks};
 ghost use Rattle.rules.specs.Numbers.Choice.{if_then_else_};
 ghost use Rattle.rules.specs.Numbers.Place.{firstFrom};
@@ -29,12 +31,12 @@ pub fn shared_locks(n: usize, uses: &[u32; MAX_TASKS]) -> u32
     shared
 }
 
-// The base of a task that may take the locks of this set, if lock l is one of them, and 0 if not.
-fn user_base(base: u8, uses: u32, l: u8) -> u8
-    ensures { λ r. ⌜ r ≡ (if hasBit uses l then base else 0) ⌝ }
+// A number of a task that may take the locks of this set, if lock l is one of them, and 0 if not.
+pub fn if_user(number: u8, uses: u32, l: u8) -> u8
+    ensures { λ r. ⌜ r ≡ (if hasBit uses l then number else 0) ⌝ }
 {
     if has_bit(uses, l) {
-        return base;
+        return number;
     }
     0
 }
@@ -48,15 +50,25 @@ fn users_base(n: usize, base: &[u8; MAX_TASKS], uses: &[u32; MAX_TASKS], l: u8) 
     let mut top: u8 = 0;
     let mut x: usize = 0;
     while x < n {
-        let b = user_base(base[x], uses[x], l);
+        let b = if_user(base[x], uses[x], l);
         top = greater_byte(top, b);
         x += 1;
     }
     top
 }
 
-// Whether lock l is none of the shared ones, or its ceiling is another.
-pub fn wrong_ceiling(
+// Whether lock l is none of the shared ones, or its ceiling is another than the greatest base of its users.
+pub fn other_ceiling(shared: u32, ceiling: u8, top: u8, l: u8) -> bool
+    ensures { λ r. ⌜ r ≡ (not (hasBit shared l) || not (eqb ceiling top)) ⌝ }
+{
+    if !has_bit(shared, l) {
+        return true;
+    }
+    ceiling != top
+}
+
+// The same, by the arrays.
+fn wrong_ceiling(
     n: usize,
     shared: u32,
     base: &[u8; MAX_TASKS],
@@ -68,11 +80,8 @@ pub fn wrong_ceiling(
     requires { ⌜ shared ≡ sharedBy n (now uses) ⌝ }
     ensures { λ r. ⌜ r ≡ wrongCeiling n (now (base .entry)) (now (ceiling .entry)) (now (uses .entry)) l ⌝ }
 {
-    if !has_bit(shared, l as u8) {
-        return true;
-    }
     let top = users_base(n, base, uses, l as u8);
-    ceiling[l] != top
+    other_ceiling(shared, ceiling[l], top, l as u8)
 }
 
 // The first of m locks at fault; m where there is none.

@@ -4,7 +4,7 @@ use crate::record::lock_ceiling;
 use crate::record::lock_limit;
 use crate::record::lock_second;
 use crate::record::task_base;
-use crate::record::task_second;
+use crate::record::task_maximum;
 use crate::record::use_lock;
 use crate::record::use_task;
 use rules::answer::Verdict;
@@ -16,7 +16,7 @@ ghost use lib.ListN.{length};
 ghost use Rattle.rules.specs.Numbers.Choice.{if_then_else_};
 ghost use Rattle.rules.specs.Numbers.Place.{firstFrom};
 ghost use Rattle.rules.specs.Books.Plan.{taskFault, lockFault};
-ghost use Rattle.rules.specs.Books.Load.{taskBase, taskSecond, lockCeiling, lockSecond, lockLimit, useKey};
+ghost use Rattle.rules.specs.Books.Load.{taskBase, taskMaximum, lockCeiling, lockSecond, lockLimit, useKey};
 ghost use Rattle.rules.specs.Books.Load.{countFaultOf, taskFaultAt, lockFaultAt, useFault, recordChecks};
 ghost use Rattle.rules.specs.Numbers.Refusal.{firstFault};
 
@@ -47,12 +47,13 @@ fn first_count(n: usize, m: usize, u: usize) -> usize
 }
 
 fn task_fault(w: u16) -> bool
-    ensures { λ r. ⌜ r ≡ taskFault (taskBase w) (taskSecond w) ⌝ }
+    ensures { λ r. ⌜ r ≡ taskFault (taskBase w) (taskMaximum w) ⌝ }
 {
-    if task_base(w) == 0 {
+    let base = task_base(w);
+    if base == 0 {
         return true;
     }
-    task_second(w) != 0
+    task_maximum(w) < base
 }
 
 fn first_task(tasks: &[u16]) -> usize

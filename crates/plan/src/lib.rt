@@ -4,8 +4,10 @@ mod ceilings;
 pub mod count;
 mod faults;
 mod lower;
+mod maxima;
 mod obey;
 mod record;
+mod walk;
 
 use rules::answer::Loaded;
 use rules::answer::Verdict;
@@ -17,7 +19,7 @@ ghost use Rattle.rules.specs.Demands.Bound.{boundOf};
 ghost use Rattle.rules.specs.Soundness.SoundTest as SoundTest;
 
 // One number for a record, little-endian: a task's two bytes, a lock's four, a use's two. The answer
-// is the plan, or the first offender of 2 and 4 to 7.
+// is the plan, or the first offender of 2, 4 to 7 and 24.
 pub fn load(tasks: &[u16], locks: &[u32], uses: &[u16]) -> Loaded
     ensures { λ r. ⌜ r ≡ loadOf (now (tasks .entry)) (now (locks .entry)) (now (uses .entry)) ⌝ }
 {
@@ -29,6 +31,10 @@ pub fn load(tasks: &[u16], locks: &[u32], uses: &[u16]) -> Loaded
             let c = ceilings::first_ceiling(plan);
             if c < locks.len() {
                 return build::refused(Refusal::WrongCeiling, c);
+            }
+            let u = maxima::first_above(tasks, locks, uses);
+            if u < uses.len() {
+                return build::refused(Refusal::AboveMaximum, u);
             }
             build::loaded(plan)
         }
@@ -53,5 +59,13 @@ pub fn obeys(p: Plan) -> bool
     if count::count_fault(1, p.locks) {
         return false;
     }
-    obey::parts_obey(p.tasks, p.locks, &p.base, &p.ceiling, &p.limit, &p.uses)
+    obey::parts_obey(
+        p.tasks,
+        p.locks,
+        &p.base,
+        &p.maximum,
+        &p.ceiling,
+        &p.limit,
+        &p.uses,
+    )
 }

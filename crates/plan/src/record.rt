@@ -1,6 +1,6 @@
 // The parts of a record.
 ghost use mathlib.Core.Path.{_≡_};
-ghost use Rattle.rules.specs.Books.Load.{taskBase, taskSecond, lockCeiling, lockSecond, lockLimit, useTask, useLock};
+ghost use Rattle.rules.specs.Books.Load.{taskBase, taskMaximum, lockCeiling, lockSecond, lockLimit, useTask, useLock};
 
 pub fn task_base(w: u16) -> u8
     ensures { λ r. ⌜ r ≡ taskBase w ⌝ }
@@ -8,8 +8,8 @@ pub fn task_base(w: u16) -> u8
     (w % 256) as u8
 }
 
-pub fn task_second(w: u16) -> u8
-    ensures { λ r. ⌜ r ≡ taskSecond w ⌝ }
+pub fn task_maximum(w: u16) -> u8
+    ensures { λ r. ⌜ r ≡ taskMaximum w ⌝ }
 {
     (w / 256 % 256) as u8
 }

@@ -1,25 +1,25 @@
--- A plan that a load or a check of the code gives, or that `obeys` accepts, obeys the rules; so two different tasks may take each of its locks.
--- Assumes nothing.
-use mathlib.Core.Path.{_≡_, sym, _∙_, ap, subst}
+-- A plan that a load or a check of the code gives, or that `obeys` accepts, obeys the rules; so two different tasks may take each of its locks, and no lock is
+-- above the maximum of a task that may take it. Assumes nothing.
+use mathlib.Core.Path.{_≡_, sym, _∙_, subst}
 use mathlib.Core.Bool.{true}
 use mathlib.Core.List.{List}
-use Prim.Native.Nat.{ℕ, _<_}
+use Prim.Native.Nat.{ℕ, _≤_, _<_}
 use contract.Lifetimes.{Lfts}
-use lib.ListN.{length}
 use denote.Ref.{now}
 use Rattle.rules.specs.Numbers.Answer.{verdictNumber}
-use Rattle.rules.specs.Books.Plan.{Shared, Obeys}
+use Rattle.rules.specs.Numbers.Place.{at}
+use Rattle.rules.specs.Books.Plan.{declares, Shared, Obeys}
 use Rattle.rules.specs.Books.Load.{loadOf}
-use Rattle.rules.specs.Books.Book.{checkedOf}
 use Rattle.rules.specs.declared.plan.Plan.{Plan}
 use Rattle.rules.specs.declared.answer.Checked.{Checked}
 use Rattle.rules.specs.declared.answer.Loaded.{Loaded}
 use Rattle.device.specs.Table.{numbersOf}
-use Rattle.device.specs.Device.{checkSpelled, loadSpelled}
+use Rattle.device.specs.Device.{loadSpelled}
 use Rattle.device.specs.declared.table.TaskRecord.{TaskRecord}
 use Rattle.device.specs.declared.check.DeviceCheck.{DeviceCheck}
 use Rattle.device.specs.declared.load.DeviceLoad.{DeviceLoad}
 use Rattle.rules.proofs.Soundness.SoundTest.{obeys-so}
+use Rattle.rules.proofs.Books.Obeyed.{ceiling-maximum}
 use Rattle.rules.proofs.Demands.Demand1.{demand1}
 use Rattle.plan.proofs.load.Reads as load
 use Rattle.plan.proofs.obeys.Reads as obeys
@@ -52,3 +52,7 @@ recorder-check-obeys κs a b r h = subst (λ (c : DeviceCheck). c .number ≡ 0 
 -- each lock of such a plan is shared
 pub obeying-shares : (p : Plan) → Obeys p → (l : ℕ) → l < p .locks → Shared p l
 obeying-shares p O l h = demand1 .seven p l .0 (O .ceilings l h) .0
+
+-- and its ceiling is at most the maximum of each task that may take it
+pub obeying-below : (p : Plan) → Obeys p → (t l : ℕ) → t < p .tasks → l < p .locks → declares p t l ≡ true → at (p .ceiling) l ≤ at (p .maximum) t
+obeying-below p O = ceiling-maximum O

@@ -46,6 +46,9 @@ use Rattle.rules.proofs.answer.answer_number.Reads as answer-number
 use Rattle.rules.proofs.answer.answer_calls.Reads as answer-calls
 use Rattle.rules.proofs.plan.blank.Reads as blank
 use Rattle.rules.proofs.state.fresh.Reads as fresh
+use Rattle.figures.proofs.all.all_five.Reads as all-five
+use Rattle.figures.proofs.all.all_six.Reads as all-six
+use Rattle.figures.proofs.all.all_eight.Reads as all-eight
 use Rattle.figures.proofs.mask.has_bit.Reads as has-bit
 use Rattle.figures.proofs.mask.with_bit.Reads as with-bit
 use Rattle.figures.proofs.number.place_of.Reads as place-of
@@ -64,6 +67,7 @@ use Rattle.figures.proofs.priority.above.Reads as above
 use Rattle.figures.proofs.priority.at_most.Reads as at-most
 use Rattle.figures.proofs.priority.exceeds.Reads as exceeds
 use Rattle.figures.proofs.priority.calls_for.Reads as calls-for
+use Rattle.figures.proofs.priority.cut_to.Reads as cut-to
 use Rattle.figures.proofs.priority.raised.Reads as raised
 use Rattle.figures.proofs.priority.higher.Reads as higher
 use Rattle.figures.proofs.priority.same_word.Reads as same-word
@@ -138,7 +142,16 @@ one-blank a b c r q h k = h ∙ sym k
 pub one-fresh : (a : _) (b c : _) (r q : State) → fresh.Post tt a r b → fresh.Post tt a q c → r ≡ q
 one-fresh a b c r q h k = h ∙ sym k
 
--- ---- the numbers of `figures`: sets of locks, widths, the two kinds of priority, rows, and the rest of a table
+-- ---- the numbers of `figures`: tests that all hold, sets of locks, widths, the two kinds of priority, rows, and the rest of a table
+
+pub one-all-five : (a : _) (b c : _) (r q : Bool) → all-five.Post tt a r b → all-five.Post tt a q c → r ≡ q
+one-all-five a b c r q h k = h ∙ sym k
+
+pub one-all-six : (a : _) (b c : _) (r q : Bool) → all-six.Post tt a r b → all-six.Post tt a q c → r ≡ q
+one-all-six a b c r q h k = h ∙ sym k
+
+pub one-all-eight : (a : _) (b c : _) (r q : Bool) → all-eight.Post tt a r b → all-eight.Post tt a q c → r ≡ q
+one-all-eight a b c r q h k = h ∙ sym k
 
 pub one-has-bit : (a : _) (b c : _) (r q : Bool) → has-bit.Post tt a r b → has-bit.Post tt a q c → r ≡ q
 one-has-bit a b c r q h k = h ∙ sym k
@@ -193,6 +206,9 @@ one-exceeds a b c r q h k = h ∙ sym k
 
 pub one-calls-for : (a : _) (b c : _) (r q : Bool) → calls-for.Post tt a r b → calls-for.Post tt a q c → r ≡ q
 one-calls-for a b c r q h k = h ∙ sym k
+
+pub one-cut-to : (a : _) (b c : _) (r q : UserPriority) → cut-to.Post tt a r b → cut-to.Post tt a q c → r ≡ q
+one-cut-to a b c r q h k = same-user r q (h ∙ sym k)
 
 pub one-raised : (a : _) (b c : _) (r q : UserPriority) → raised.Post tt a r b → raised.Post tt a q c → r ≡ q
 one-raised a b c r q h k = same-user r q (h ∙ sym k)
@@ -352,16 +368,16 @@ pub one-build : (κs : Lfts 3) (a : _) (b c : _) (r q : _) → build.Post κs a 
 one-build κs a b c r q h k few e = h few e ∙ sym (k few e)
 
 -- the answer, the head and every array that the act was lent to change, put together as a step; and the tournament
-pub one-act : (κs : Lfts 13) (a : _) (b c : _) (r q : Acted) → act.Post κs a r b → act.Post κs a q c
-    → (steppedAs r (now (b .1 .1 .1 .1 .1 .1 .1 .1 .0)) (now (b .1 .1 .1 .1 .1 .1 .1 .1 .1 .0)) (now (b .1 .1 .1 .1 .1 .1 .1 .1 .1 .1 .0))
-    (now (b .1 .1 .1 .1 .1 .1 .1 .1 .1 .1 .1 .0)) (now (b .1 .1 .1 .1 .1 .1 .1 .1 .1 .1 .1 .1 .0))
-    (now (b .1 .1 .1 .1 .1 .1 .1 .1 .1 .1 .1 .1 .1 .0)) (now (b .1 .1 .1 .1 .1 .1 .1 .1 .1 .1 .1 .1 .1 .1 .0))
-    (now (b .1 .1 .1 .1 .1 .1 .1 .1 .1 .1 .1 .1 .1 .1 .1 .0))
-    ≡ steppedAs q (now (c .1 .1 .1 .1 .1 .1 .1 .1 .0)) (now (c .1 .1 .1 .1 .1 .1 .1 .1 .1 .0)) (now (c .1 .1 .1 .1 .1 .1 .1 .1 .1 .1 .0))
-    (now (c .1 .1 .1 .1 .1 .1 .1 .1 .1 .1 .1 .0)) (now (c .1 .1 .1 .1 .1 .1 .1 .1 .1 .1 .1 .1 .0))
-    (now (c .1 .1 .1 .1 .1 .1 .1 .1 .1 .1 .1 .1 .1 .0)) (now (c .1 .1 .1 .1 .1 .1 .1 .1 .1 .1 .1 .1 .1 .1 .0))
-    (now (c .1 .1 .1 .1 .1 .1 .1 .1 .1 .1 .1 .1 .1 .1 .1 .0)))
-    × (now (b .1 .1 .1 .1 .1 .1 .1 .1 .1 .1 .1 .1 .1 .1 .1 .1 .0) ≡ now (c .1 .1 .1 .1 .1 .1 .1 .1 .1 .1 .1 .1 .1 .1 .1 .1 .0))
+pub one-act : (κs : Lfts 14) (a : _) (b c : _) (r q : Acted) → act.Post κs a r b → act.Post κs a q c
+    → (steppedAs r (now (b .1 .1 .1 .1 .1 .1 .1 .1 .1 .0)) (now (b .1 .1 .1 .1 .1 .1 .1 .1 .1 .1 .0)) (now (b .1 .1 .1 .1 .1 .1 .1 .1 .1 .1 .1 .0))
+    (now (b .1 .1 .1 .1 .1 .1 .1 .1 .1 .1 .1 .1 .0)) (now (b .1 .1 .1 .1 .1 .1 .1 .1 .1 .1 .1 .1 .1 .0))
+    (now (b .1 .1 .1 .1 .1 .1 .1 .1 .1 .1 .1 .1 .1 .1 .0)) (now (b .1 .1 .1 .1 .1 .1 .1 .1 .1 .1 .1 .1 .1 .1 .1 .0))
+    (now (b .1 .1 .1 .1 .1 .1 .1 .1 .1 .1 .1 .1 .1 .1 .1 .1 .0))
+    ≡ steppedAs q (now (c .1 .1 .1 .1 .1 .1 .1 .1 .1 .0)) (now (c .1 .1 .1 .1 .1 .1 .1 .1 .1 .1 .0)) (now (c .1 .1 .1 .1 .1 .1 .1 .1 .1 .1 .1 .0))
+    (now (c .1 .1 .1 .1 .1 .1 .1 .1 .1 .1 .1 .1 .0)) (now (c .1 .1 .1 .1 .1 .1 .1 .1 .1 .1 .1 .1 .1 .0))
+    (now (c .1 .1 .1 .1 .1 .1 .1 .1 .1 .1 .1 .1 .1 .1 .0)) (now (c .1 .1 .1 .1 .1 .1 .1 .1 .1 .1 .1 .1 .1 .1 .1 .0))
+    (now (c .1 .1 .1 .1 .1 .1 .1 .1 .1 .1 .1 .1 .1 .1 .1 .1 .0)))
+    × (now (b .1 .1 .1 .1 .1 .1 .1 .1 .1 .1 .1 .1 .1 .1 .1 .1 .1 .0) ≡ now (c .1 .1 .1 .1 .1 .1 .1 .1 .1 .1 .1 .1 .1 .1 .1 .1 .1 .0))
 one-act κs a b c r q h k = (
   h .0 ∙ sym (k .0),
   h .1 ∙ ap₂ (tournamentOf (a .1 .1 .0)) (ap (λ (x : Stepped). x .state .released) (h .0 ∙ sym (k .0)))

@@ -25,7 +25,7 @@ use Rattle.scheduler.proofs.replay.Reads as replay
 use Rattle.promises.specs.Reaching.{Reaching}
 use Rattle.promises.proofs.Passed.{number-is, plan-is}
 
--- where none of 1 to 9 refuses the book, every row, the verdict, both counts and every delay are what demands 2 and 3 ask
+-- where none of 1 to 9 and 24 refuses the book, every row, the verdict, both counts and every delay are what demands 2 and 3 ask
 pub replay-keeps : (κs : Lfts 2) (a : _) (b : _) (r : Replayed) → replay.Post κs a r b
     → verdictNumber (checkOf (now (a .1 .0)) (length (now (a .1 .1 .0)))) ≡ 0
     → RanUpTo (a .0) (planIn (now (a .1 .0))) (eventsOf (now (a .1 .0))) (now (a .1 .1 .0)) (ranAs r (now (b .1 .1 .0))) (r .state .head .accepted)

@@ -1,6 +1,6 @@
--- Demands 2 and 3, said of a run of `step` from a fresh start. Assumes nothing.
+-- Demands 2 and 3, and that the kernel cuts nothing, said of a run of `step` from a fresh start; the last of every state that `sound` accepts. Assumes nothing.
 use mathlib.Core.Path.{_≡_, sym, _∙_, ap, subst}
-use mathlib.Core.Bool.{true}
+use mathlib.Core.Bool.{Bool, true}
 use mathlib.Core.List.{List}
 use Prim.Native.Nat.{ℕ, zero, suc}
 use native.Mathlib.Omega.{arith}
@@ -10,6 +10,7 @@ use Rattle.rules.specs.Replays.Step.{stepOf}
 use Rattle.rules.specs.Demands.History.{eventAt, lazyAt}
 use Rattle.rules.specs.Demands.Demand2.{Demand2}
 use Rattle.rules.specs.Demands.Fair.{Between}
+use Rattle.rules.specs.Demands.Maximum.{Uncut}
 use Rattle.rules.specs.declared.plan.Plan.{Plan}
 use Rattle.rules.specs.declared.protocol.Protocol.{Protocol}
 use Rattle.rules.specs.declared.protocol.Protocol.the-variants.{Second, First}
@@ -17,8 +18,11 @@ use Rattle.rules.specs.declared.state.State.{State}
 use Rattle.rules.specs.declared.event.Event.{Event}
 use Rattle.rules.specs.declared.answer.Stepped.{Stepped}
 use Rattle.rules.proofs.Demands.Demand2.{demand2}
+use Rattle.rules.proofs.Demands.Maximum.{maximum}
 use Rattle.rules.proofs.Demands.Fair.{fair, between}
 use Rattle.rules.proofs.Demands.Jobs.{lateAt, delays-same, delay-counted}
+use Rattle.rules.proofs.Soundness.SoundTest.{sound-is}
+use Rattle.sound.proofs.sound.Reads as sound
 use Rattle.promises.specs.Stepping.{StepsTo, ComesTo, StepAt, SideBySide}
 
 module _ (pr : Protocol) {p : Plan} (O : Obeys p) (es : List Event) where
@@ -41,6 +45,7 @@ module _ (pr : Protocol) {p : Plan} (O : Obeys p) (es : List Event) where
         covers = E .covers;
         atMost = E .atMost;
         word = E .word;
+        uncut = maximum .fresh pr p O es (suc k);
         oneHolder = subst (λ f. (x y l : ℕ) → holds f x l ≡ true → holds f y l ≡ true → x ≡ y) (sym (E .figures)) (E .oneHolder);
         lazy = E .lazy;
         eager = E .eager;
@@ -60,6 +65,10 @@ module _ (pr : Protocol) {p : Plan} (O : Obeys p) (es : List Event) where
   pub steps-keep : (k : ℕ) (s : State) (r : Stepped) → ComesTo pr p es k s → StepsTo pr p es k s r → StepAt pr p es k r
   steps-keep k s r before stepped =
       subst (StepAt pr p es k) (sym (stepped ∙ ap (λ (u : State). stepOf pr p u (eventAt es k)) (comes-to k s before))) (at-place k)
+
+-- a state that `sound` accepts, of whatever origin, leaves the kernel nothing to cut
+pub sound-uncut : (pr : Protocol) (p : Plan) (s : State) (r : Bool) → sound.Post tt (pr, (p, (s, tt))) r (pr, (p, (s, tt))) → r ≡ true → Uncut pr p s
+sound-uncut pr p s r h e = maximum .sound pr p s (sound-is pr p s .0 (sym h ∙ e))
 
 -- and of two runs over one list, by the first protocol and by the second
 pub steps-compare : {p : Plan} → Obeys p → (es : List Event) (k : ℕ) (first second : State) → ComesTo First p es k first → ComesTo Second p es k second

@@ -1,4 +1,4 @@
--- RULES 14.2, 14.3, 14.6: a run of `step` from a fresh start by either protocol, call by call, and what is promised of each answer. Assumes nothing.
+-- RULES 14.2, 14.3, 14.6, 14.7: a run of `step` from a fresh start by either protocol, call by call, and what is promised of each answer. Assumes nothing.
 use mathlib.Core.Path.{_≡_}
 use mathlib.Core.Logic.{_≢_}
 use mathlib.Core.Bool.{true}
@@ -10,6 +10,7 @@ use Rattle.rules.specs.Schedulers.Eager.{eagerTest}
 use Rattle.rules.specs.Schedulers.Figures.{figuresOf, holds, rankOf}
 use Rattle.rules.specs.Demands.History.{eventAt, eagerAt, runnerAt, acceptedAt, lazyCount, eagerCount, delayCount}
 use Rattle.rules.specs.Demands.Demand2.{Covers, Outranked, OwnWord, OwnCall}
+use Rattle.rules.specs.Demands.Maximum.{Uncut}
 use Rattle.rules.specs.declared.plan.Plan.{Plan}
 use Rattle.rules.specs.declared.protocol.Protocol.{Protocol}
 use Rattle.rules.specs.declared.state.State.{State}
@@ -39,6 +40,8 @@ pub record StepAt (pr : Protocol) (p : Plan) (es : List Event) (k : ℕ) (r : St
   pub covers : Covers p (eagerAt p es (suc k)) (runnerAt p es (suc k)) (r .state .head .next .0)
   pub atMost : r .state .head .next .0 ≤ r .state .head .user .0
   pub word : OwnWord pr p es (suc k) (r .state .head .next .0)
+  -- and no event has the kernel cut anything there
+  pub uncut : Uncut pr p (r .state)
   -- no lock has two holders; both call counts and each delay are the history's, the lazy calls are no more than the eager ones, and no delay passes the
   -- bound that `plan::bound` gives
   pub oneHolder : (x y l : ℕ) → holds (figuresOf (r .state)) x l ≡ true → holds (figuresOf (r .state)) y l ≡ true → x ≡ y

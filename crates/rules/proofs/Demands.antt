@@ -8,6 +8,7 @@ pub mod Follow
 pub mod Calls
 pub mod Demand2
 pub mod Fair
+pub mod Maximum
 pub mod Oldest
 pub mod Late
 pub mod Jobs

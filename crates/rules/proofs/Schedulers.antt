@@ -3,4 +3,5 @@ pub mod Rules
 pub mod Passed
 pub mod Elect
 pub mod FiguresKept
+pub mod Maximum
 pub mod WordsKept

@@ -26,6 +26,7 @@ pub enum Refusal {
     PastLimit,
     StillOpen,
     ShortBuffer,
+    AboveMaximum,
 }
 
 // Its number.
@@ -56,5 +57,6 @@ pub fn number(why: Refusal) -> u8
         Refusal::PastLimit => 21,
         Refusal::StillOpen => 22,
         Refusal::ShortBuffer => 23,
+        Refusal::AboveMaximum => 24,
     }
 }

@@ -31,7 +31,7 @@ abbrev pub endedAs : Ended → List ℕ → List ℕ → List ℕ → List ℕ �
 endedAs r released kept delay depth takes saved units owner rows =
     record { verdict = r .verdict; state = stateWith (r .head) released kept delay depth takes saved units owner; rows = rows }
 
--- what a refusal of 1 to 9 leaves: no state but a fresh one
+-- what a refusal of 1 to 9 or 24 leaves: no state but a fresh one
 abbrev pub untouchedAs : Refusal → ℕ → Plan → Replayed
 untouchedAs why place p = record { verdict = Verdict.Refused why place; plan = p; state = freshOf }
 

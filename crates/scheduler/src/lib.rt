@@ -33,7 +33,7 @@ pub fn step(protocol: Protocol, p: Plan, s: State, e: Event) -> Stepped
     by_value::step_sound(protocol, p, s, e)
 }
 
-// What a refusal of 1 to 9 leaves: no state but a fresh one.
+// What a refusal of 1 to 9 or 24 leaves: no state but a fresh one.
 fn untouched(why: Refusal, place: usize, plan: Plan) -> Replayed
     ensures { λ r. ⌜ r ≡ untouchedAs why place plan ⌝ }
 {
@@ -45,7 +45,7 @@ fn untouched(why: Refusal, place: usize, plan: Plan) -> Replayed
     }
 }
 
-// The replay of a book: 1 to 9 first, and no row byte changes where one refuses; then its events up
+// The replay of a book: 1 to 9 and 24 first, and no row byte changes where one refuses; then its events up
 // to the first refusal, each accepted one with its four row bytes. No other byte of the rows changes.
 pub fn replay(protocol: Protocol, book: &[u8], rows: &mut [u8]) -> Replayed
     ensures { λ r. ⌜ (ranAs r (now (rows .exit)) ≡ replayOf protocol (now (book .entry)) (now (rows .entry)))

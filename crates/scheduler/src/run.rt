@@ -40,6 +40,7 @@ fn turns<'a>(
     n: usize,
     m: usize,
     base: &'a [u8; MAX_TASKS],
+    maximum: &'a [u8; MAX_TASKS],
     ceiling: &'a [u8; MAX_LOCKS],
     limit: &'a [u16; MAX_LOCKS],
     uses: &'a [u32; MAX_TASKS],
@@ -56,11 +57,11 @@ fn turns<'a>(
     rows: &mut [u8],
     c: usize,
 ) -> Ended
-    requires { ⌜ RunReady protocol (planWith n m (now base) (now ceiling) (now limit) (now uses))
+    requires { ⌜ RunReady protocol (planWith n m (now base) (now maximum) (now ceiling) (now limit) (now uses))
         (stateWith h (now released) (now kept) (now delay) (now depth) (now takes) (now saved) (now units) (now owner)) c (now rows) ⌝ }
     ensures { λ r. ⌜ endedAs r (now (released .exit)) (now (kept .exit)) (now (delay .exit)) (now (depth .exit)) (now (takes .exit)) (now (saved .exit))
         (now (units .exit)) (now (owner .exit)) (now (rows .exit))
-        ≡ runFrom protocol (planWith n m (now (base .entry)) (now (ceiling .entry)) (now (limit .entry)) (now (uses .entry)))
+        ≡ runFrom protocol (planWith n m (now (base .entry)) (now (maximum .entry)) (now (ceiling .entry)) (now (limit .entry)) (now (uses .entry)))
         (from (eventOn first (now (body .entry))) 0 c) 0
         (stateWith h (now (released .entry)) (now (kept .entry)) (now (delay .entry)) (now (depth .entry)) (now (takes .entry)) (now (saved .entry))
         (now (units .entry)) (now (owner .entry))) (now (rows .entry)) ⌝ }
@@ -80,6 +81,7 @@ fn turns<'a>(
             n,
             m,
             base,
+            maximum,
             ceiling,
             limit,
             uses,
@@ -132,6 +134,7 @@ pub fn run_from(
         p.tasks,
         p.locks,
         &p.base,
+        &p.maximum,
         &p.ceiling,
         &p.limit,
         &p.uses,

@@ -110,6 +110,7 @@ pub fn turn(
     n: usize,
     m: usize,
     base: &[u8; MAX_TASKS],
+    maximum: &[u8; MAX_TASKS],
     ceiling: &[u8; MAX_LOCKS],
     limit: &[u16; MAX_LOCKS],
     uses: &[u32; MAX_TASKS],
@@ -127,12 +128,12 @@ pub fn turn(
     rows: &mut [u8],
     k: usize,
 ) -> Ended
-    requires { ⌜ TurnReady protocol (planWith n m (now base) (now ceiling) (now limit) (now uses))
+    requires { ⌜ TurnReady protocol (planWith n m (now base) (now maximum) (now ceiling) (now limit) (now uses))
         (stateWith h (now released) (now kept) (now delay) (now depth) (now takes) (now saved) (now units) (now owner)) (now rows) k ⌝ }
     requires { ⌜ now tree ≡ tournamentOf n (now released) (now kept) ⌝ }
     ensures { λ r. ⌜ endedAs r (now (released .exit)) (now (kept .exit)) (now (delay .exit)) (now (depth .exit)) (now (takes .exit)) (now (saved .exit))
         (now (units .exit)) (now (owner .exit)) (now (rows .exit))
-        ≡ turnedAs (actOf protocol (planWith n m (now (base .entry)) (now (ceiling .entry)) (now (limit .entry)) (now (uses .entry)))
+        ≡ turnedAs (actOf protocol (planWith n m (now (base .entry)) (now (maximum .entry)) (now (ceiling .entry)) (now (limit .entry)) (now (uses .entry)))
         (stateWith h (now (released .entry)) (now (kept .entry)) (now (delay .entry)) (now (depth .entry)) (now (takes .entry)) (now (saved .entry))
         (now (units .entry)) (now (owner .entry)))
         (eventOn first (now (body .entry)) k)) k (now (rows .entry)) ⌝ }
@@ -145,6 +146,7 @@ pub fn turn(
         n,
         m,
         base,
+        maximum,
         ceiling,
         limit,
         uses,

@@ -1,7 +1,7 @@
 // Whether the counts, the running task and the two words are sound.
-use crate::all::all_five;
 use crate::rank::greatest_kept;
 use crate::rank::rank_of;
+use figures::all::all_five;
 use figures::priority::at_most;
 use figures::priority::same_record;
 use figures::priority::same_word;

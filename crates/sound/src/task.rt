@@ -1,7 +1,7 @@
 // Whether the figures of one task are sound.
-use crate::all::all_six;
 use crate::priority::row_saves;
 use crate::rank::rank_of;
+use figures::all::all_six;
 use figures::mask::has_bit;
 use figures::number::place_of;
 use figures::priority::kernel_of;

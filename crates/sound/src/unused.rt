@@ -1,5 +1,5 @@
 // Whether the places past the last task and the last lock hold 0.
-use crate::all::all_eight;
+use figures::all::all_eight;
 use figures::spare::spare8;
 use figures::spare::spare16;
 use figures::spare::spare32;

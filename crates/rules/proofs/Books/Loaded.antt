@@ -1,5 +1,5 @@
 -- A plan that is loaded obeys the rules, and lets a task take a lock exactly where a use says so. Assumes nothing.
-use mathlib.Core.Path.{_≡_, refl, sym, _∙_, ap, subst}
+use mathlib.Core.Path.{_≡_, refl, sym, _∙_, ap, ap₂, subst}
 use mathlib.Core.Logic.{_≢_, ⊎-elim}
 use mathlib.Core.Bool.{Bool, true, false, not, _&&_, _||_}
 use mathlib.Core.List.{List}
@@ -14,16 +14,16 @@ use Rattle.rules.specs.Numbers.Capacity.{maxTasks, maxLocks}
 use Rattle.rules.specs.Numbers.Choice.{if_then_else_}
 use Rattle.rules.specs.Numbers.Place.{at, any, tabulate}
 use Rattle.rules.specs.Numbers.Mask.{hasBit, withBit}
-use Rattle.rules.specs.Books.Plan.{most, countFault, taskFault, lockFault, declares, Obeys}
-use Rattle.rules.specs.Books.Load.{taskBase, lockCeiling, lockSecond, lockLimit, useTask, useLock, taskFaultAt, lockFaultAt}
-use Rattle.rules.specs.Books.Load.{countFaultOf, useFault, masksOf, planOf, recordChecks, loadChecks, loadedAs, loadOf}
+use Rattle.rules.specs.Books.Plan.{most, countFault, taskFault, lockFault, declares, maximumFault, Obeys}
+use Rattle.rules.specs.Books.Load.{taskBase, taskMaximum, lockCeiling, lockSecond, lockLimit, useTask, useLock, taskFaultAt, lockFaultAt}
+use Rattle.rules.specs.Books.Load.{countFaultOf, useFault, useAbove, masksOf, planOf, recordChecks, loadChecks, loadedAs, loadOf}
 use Rattle.rules.specs.Numbers.Refusal.{numberOf, firstFault, checkFor}
 use Rattle.rules.specs.declared.plan.Plan.{Plan}
 use Rattle.rules.specs.declared.refusal.Refusal.{Refusal}
-use Rattle.rules.specs.declared.refusal.Refusal.the-variants.{WrongCount, WrongTask, WrongLock, WrongUse, WrongCeiling}
+use Rattle.rules.specs.declared.refusal.Refusal.the-variants.{WrongCount, WrongTask, WrongLock, WrongUse, WrongCeiling, AboveMaximum}
 use Rattle.rules.specs.declared.answer.Verdict.{Verdict}
-use Rattle.rules.proofs.Numbers.Choice.{by-test, or-false, false-or, at-or, lt-or-le}
-use Rattle.rules.proofs.Numbers.Place.{zero-past, length-from, getD-tabulate}
+use Rattle.rules.proofs.Numbers.Choice.{by-test, and-true, or-false, false-or, at-or, lt-or-le}
+use Rattle.rules.proofs.Numbers.Place.{any-some, zero-past, length-from, getD-tabulate}
 use Rattle.rules.proofs.Numbers.Checks.{Clean, clean-for}
 use Rattle.rules.proofs.Numbers.Mask.{bit-none, with-has, with-below}
 
@@ -37,6 +37,11 @@ past-table n g i h = List·getD-eq-default (tabulate n g) 0 (omega (arith, lengt
 
 past-end : (xs : List ℕ) (i : ℕ) → length xs ≤ i → at xs i ≡ 0
 past-end xs i h = List·getD-eq-default xs 0 h
+
+-- a table of n places that is made of no more records by f: each place has its record's, and past the records there is 0
+loaded : (f : ℕ → ℕ) (n : ℕ) (xs : List ℕ) → length xs ≤ n → f 0 ≡ 0 → (i : ℕ) → at (tabulate n (λ i. f (at xs i))) i ≡ f (at xs i)
+loaded f n xs few none i = ⊎-elim (λ h. at-table n (λ i. f (at xs i)) i h)
+    (λ h. past-table n (λ i. f (at xs i)) i h ∙ sym (ap f (past-end xs i (omega arith)) ∙ none)) (lt-or-le i n)
 
 -- the verdict beside a plan is the one that was given
 verdict-of : (v : Verdict) (p : Plan) → loadedAs v p .verdict ≡ v
@@ -143,23 +148,23 @@ module _ (tasks locks uses : List ℕ) (passed : firstFault (loadChecks tasks lo
 
   loaded-base : (t : ℕ) → at (p .base) t ≡ taskBase (at tasks t)
   unfolding planOf
-  loaded-base t = ⊎-elim (λ h. at-table maxTasks (λ t. taskBase (at tasks t)) t h)
-      (λ h. past-table maxTasks (λ t. taskBase (at tasks t)) t h ∙ sym (ap taskBase (past-end tasks t (omega (arith, few-tasks))))) (lt-or-le t maxTasks)
+  loaded-base t = loaded taskBase maxTasks tasks few-tasks refl t
+
+  loaded-maximum : (t : ℕ) → at (p .maximum) t ≡ taskMaximum (at tasks t)
+  unfolding planOf
+  loaded-maximum t = loaded taskMaximum maxTasks tasks few-tasks refl t
 
   loaded-ceiling : (l : ℕ) → at (p .ceiling) l ≡ lockCeiling (at locks l)
   unfolding planOf
-  loaded-ceiling l = ⊎-elim (λ h. at-table maxLocks (λ l. lockCeiling (at locks l)) l h)
-      (λ h. past-table maxLocks (λ l. lockCeiling (at locks l)) l h ∙ sym (ap lockCeiling (past-end locks l (omega (arith, few-locks))))) (lt-or-le l maxLocks)
+  loaded-ceiling l = loaded lockCeiling maxLocks locks few-locks refl l
 
   loaded-limit : (l : ℕ) → at (p .limit) l ≡ lockLimit (at locks l)
   unfolding planOf
-  loaded-limit l = ⊎-elim (λ h. at-table maxLocks (λ l. lockLimit (at locks l)) l h)
-      (λ h. past-table maxLocks (λ l. lockLimit (at locks l)) l h ∙ sym (ap lockLimit (past-end locks l (omega (arith, few-locks))))) (lt-or-le l maxLocks)
+  loaded-limit l = loaded lockLimit maxLocks locks few-locks refl l
 
-  task-clean : (t : ℕ) → t < length tasks → taskFault (at (p .base) t) 0 ≡ false
-  unfolding loadChecks recordChecks checkFor numberOf taskFaultAt taskFault if_then_else_
-  task-clean t h = rw (loaded-base t) (false-or (eqb (taskBase (at tasks t)) 0) (not (eqb 0 0))
-      (or-false (eqb (taskBase (at tasks t)) 0) _ (clean WrongTask t h) .0) refl)
+  task-clean : (t : ℕ) → t < length tasks → taskFault (at (p .base) t) (at (p .maximum) t) ≡ false
+  unfolding loadChecks recordChecks checkFor numberOf taskFaultAt if_then_else_
+  task-clean t h = rw (loaded-base t, loaded-maximum t) (clean WrongTask t h)
 
   lock-clean : (l : ℕ) → l < length locks → lockFault (at (p .ceiling) l) 0 (at (p .limit) l) ≡ false
   unfolding loadChecks recordChecks checkFor numberOf lockFaultAt lockFault if_then_else_
@@ -170,6 +175,20 @@ module _ (tasks locks uses : List ℕ) (passed : firstFault (loadChecks tasks lo
       (false-or (eqb (lockCeiling (at locks l)) 0 || not (eqb 0 0)) (eqb (lockLimit (at locks l)) 0)
       (false-or (eqb (lockCeiling (at locks l)) 0) (not (eqb 0 0)) (or-false (eqb (lockCeiling (at locks l)) 0) _ ab .0) refl) c)
 
+  -- the plan lets task t take lock l exactly where a use says so
+  pub loaded-uses : (t l : ℕ) → declares p t l ≡ any (λ i. eqb (useTask (at uses i)) t && eqb (useLock (at uses i)) l) (length uses)
+  unfolding planOf declares
+  loaded-uses t l = masks-say uses (length tasks) (length locks) few-tasks known-use (length uses) t l (omega arith)
+
+  -- and no use that says so has a lock above its task's maximum
+  use-clean : (t l : ℕ) → t < length tasks → l < length locks → declares p t l ≡ true → maximumFault (at (p .maximum) t) (at (p .ceiling) l) ≡ false
+  unfolding loadChecks recordChecks checkFor numberOf useAbove if_then_else_
+  use-clean t l _ _ d =
+      let (i, h, says) = any-some (λ i. eqb (useTask (at uses i)) t && eqb (useLock (at uses i)) l) (length uses) (sym (loaded-uses t l) ∙ d) in
+      let (a, b) = and-true (eqb (useTask (at uses i)) t) (eqb (useLock (at uses i)) l) says in
+      ap₂ maximumFault (loaded-maximum t ∙ ap (λ x. taskMaximum (at tasks x)) (sym (eqb-true (useTask (at uses i)) t a)))
+      (loaded-ceiling l ∙ ap (λ x. lockCeiling (at locks x)) (sym (eqb-true (useLock (at uses i)) l b))) ∙ clean AboveMaximum i h
+
   pub loaded-obeys : Obeys p
   unfolding planOf loadChecks recordChecks checkFor numberOf countFaultOf if_then_else_
   loaded-obeys = record {
@@ -177,23 +196,21 @@ module _ (tasks locks uses : List ℕ) (passed : firstFault (loadChecks tasks lo
     locks = counts 1 (omega arith);
     bases = task-clean;
     baseBytes = λ t. rw (loaded-base t) (omega arith);
+    maximumBytes = λ t. rw (loaded-maximum t) (omega arith);
     sections = lock-clean;
     ceilingBytes = λ l. rw (loaded-ceiling l) (omega arith);
     limitBytes = λ l. rw (loaded-limit l) (omega arith);
     uses = λ t h. masks-below uses (length tasks) (length locks) few-tasks known-use (length uses) t (omega arith);
     ceilings = clean WrongCeiling;
+    maxima = use-clean;
     noTask = λ t h. (
       loaded-base t ∙ ap taskBase (past-end tasks t h),
+      loaded-maximum t ∙ ap taskMaximum (past-end tasks t h),
       masks-past uses (length tasks) (length locks) few-tasks known-use (length uses) t
           (omega arith) h,
     );
     noLock = λ l h. (loaded-ceiling l ∙ ap lockCeiling (past-end locks l h), loaded-limit l ∙ ap lockLimit (past-end locks l h));
   }
-
-  -- the plan lets task t take lock l exactly where a use says so
-  pub loaded-uses : (t l : ℕ) → declares p t l ≡ any (λ i. eqb (useTask (at uses i)) t && eqb (useLock (at uses i)) l) (length uses)
-  unfolding planOf declares
-  loaded-uses t l = masks-say uses (length tasks) (length locks) few-tasks known-use (length uses) t l (omega arith)
 
 -- what a load answers
 module _ (tasks locks uses : List ℕ) where

@@ -1,6 +1,6 @@
 -- What the theory uses of a plan that obeys the rules. Assumes nothing.
 use mathlib.Core.Path.{_≡_}
-use mathlib.Core.Bool.{Bool, true, false, not}
+use mathlib.Core.Bool.{Bool, true, false}
 use mathlib.Core.Logic.{_↔_}
 use Prim.Native.Nat.{ℕ, _≤_, _<_}
 use native.Mathlib.Omega.{arith}
@@ -9,7 +9,7 @@ use borrow.Author.Tests.{eqb-true, eqb-false, eq-eqb, ltb-false, le-ltb, not-fal
 use Rattle.rules.specs.Numbers.Capacity.{maxTasks, maxLocks}
 use Rattle.rules.specs.Numbers.Choice.{if_then_else_}
 use Rattle.rules.specs.Numbers.Place.{at, count}
-use Rattle.rules.specs.Books.Plan.{most, countFault, taskFault, declares, Shared, users, usersBase, usersFault, ceilingFault, Obeys}
+use Rattle.rules.specs.Books.Plan.{most, countFault, taskFault, declares, Shared, users, usersBase, usersFault, ceilingFault, maximumFault, Obeys}
 use Rattle.rules.specs.declared.plan.Plan.{Plan}
 use Rattle.rules.proofs.Numbers.Choice.{if-true, or-false}
 use Rattle.rules.proofs.Numbers.Place.{count-two, two-count, greatest-all}
@@ -44,7 +44,16 @@ module _ {p : Plan} (O : Obeys p) where
 
   pub base-some : (t : ℕ) → t < p .tasks → 0 < at (p .base) t
   unfolding taskFault
-  base-some t h = omega (arith, eqb-false (at (p .base) t) 0 (or-false (eqb (at (p .base) t) 0) (not (eqb 0 0)) (O .bases t h) .0))
+  base-some t h = omega (arith, eqb-false (at (p .base) t) 0 (or-false _ (ltb (at (p .maximum) t) (at (p .base) t)) (O .bases t h) .0))
+
+  -- a task's maximum is at least its base, and at least the ceiling of each lock that it may take
+  pub base-maximum : (t : ℕ) → t < p .tasks → at (p .base) t ≤ at (p .maximum) t
+  unfolding taskFault
+  base-maximum t h = ltb-false (at (p .maximum) t) (at (p .base) t) (or-false (eqb (at (p .base) t) 0) _ (O .bases t h) .1)
+
+  pub ceiling-maximum : (t l : ℕ) → t < p .tasks → l < p .locks → declares p t l ≡ true → at (p .ceiling) l ≤ at (p .maximum) t
+  unfolding maximumFault
+  ceiling-maximum t l h k d = ltb-false (at (p .maximum) t) (at (p .ceiling) l) (O .maxima t l h k d)
 
   ceiling-is : (l : ℕ) → l < p .locks → at (p .ceiling) l ≡ usersBase p l
   ceiling-is l h = seven p l .0 (O .ceilings l h) .1

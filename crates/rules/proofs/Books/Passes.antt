@@ -1,4 +1,4 @@
--- A book that passes: the checks of 1 to 9 name each number once, and where they say 0 the contents pass, the plan obeys the rules and the events pass.
+-- A book that passes: the checks of 1 to 9 and 24 name each number once, and where they say 0 the contents pass, the plan obeys the rules and the events pass.
 -- Assumes nothing.
 use mathlib.Core.Path.{_≡_, refl, _∙_, ap}
 use mathlib.Core.Bool.{true, false}

@@ -17,8 +17,8 @@ use Rattle.rules.specs.Schedulers.EventRefusals.{refusalOf}
 use Rattle.rules.specs.Schedulers.FiguresAfter.{figuresAfter}
 use Rattle.rules.specs.Schedulers.Eager.{eagerTest}
 use Rattle.rules.specs.Schedulers.Protocol.{secondWord}
-use Rattle.rules.specs.Schedulers.Lazy.{Words, wordsOf, callsFor, backOf, runsOn, switched, stays, afterRelease}
-use Rattle.rules.specs.Schedulers.Lazy.{afterAcquire, restored, afterUnlock, wordsAfter, enters, lazyCall}
+use Rattle.rules.specs.Schedulers.Lazy.{Words, wordsOf, callsFor, cutTo, entering, backOf, runsOn, switched, stays, afterRelease}
+use Rattle.rules.specs.Schedulers.Lazy.{afterAcquire, restored, leaves, afterUnlock, wordsAfter, enters, lazyCall}
 use Rattle.rules.specs.Soundness.Sound.{keptOf, SoundSecond}
 use Rattle.rules.specs.Replays.Step.{afterOf, answered, actOf, stepOf}
 use Rattle.rules.specs.Numbers.Answer.{passes}
@@ -141,8 +141,9 @@ module _ {pr : Protocol} {p : Plan} {s : State} (F : Follows pr p s) (word : ℕ
 
 lazy-after : (pr : Protocol) (p : Plan) (released : List ℕ) (w : Words) (e : Event)
     → wordsAfter pr p released w e .lazy ≡ w .lazy + (if lazyCall w e then 1 else 0)
-unfolding wordsAfter afterRelease stays afterAcquire afterUnlock restored switched runsOn lazyCall if_then_else_
-lazy-after pr p released w (Release t) = by-test (ltb (w .user) (at (p .base) t)) (λ e. rw e (omega arith)) (λ e. rw e (omega arith))
+unfolding wordsAfter afterRelease stays afterAcquire afterUnlock leaves entering restored switched runsOn lazyCall if_then_else_
+lazy-after pr p released w (Release t) = by-test (ltb (cutTo (at (p .maximum) (w .running)) (w .user)) (at (p .base) t)) (λ e. rw e (omega arith))
+    (λ e. rw e (omega arith))
 lazy-after pr p released w (Acquire l) = omega arith
 lazy-after pr p released w (Unlock l) = by-test (callsFor (backOf w) (w .next)) (λ e. rw e) (λ e. rw e)
 lazy-after pr p released w (Work a) = omega arith

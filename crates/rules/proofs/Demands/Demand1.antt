@@ -85,7 +85,7 @@ module _ (pr : Protocol) (p : Plan) (s : State) where
       quiet = λ h. rw step-is (no-call s (afterOf pr p s e) (lazyCall (wordsOf s) e) tested (rw step-number at h));
     }
 
--- ---- 1 to 9, of records and of books
+-- ---- 1 to 9 and 24, of records and of books
 
 module _ (cs : List Check) (o : once ofCheck cs ≡ true) where
   -- a verdict that refuses has an offender
@@ -147,7 +147,7 @@ replay-refuses pr b rows = go (checkOf b (length rows))
     go Verdict.Passed h = absurd (omega arith)
     go (Verdict.Refused why place) h = record { number = refl; place = refl; state = refl; bytes = refl }
 
--- ---- 2, 4 to 8 and 23, of a book that is to be written
+-- ---- 2, 4 to 7, 24, 8 and 23, of a book that is to be written
 
 module _ (tasks locks uses events : List ℕ) where
   -- the plan's own check of the counts finds nothing that the check of all four does not

@@ -19,8 +19,8 @@ use Rattle.rules.specs.Schedulers.EventRefusals.{refusalOf}
 use Rattle.rules.specs.Schedulers.FiguresAfter.{figuresAfter}
 use Rattle.rules.specs.Schedulers.Eager.{runningOf, settle, eagerTest, eagerStep}
 use Rattle.rules.specs.Schedulers.Protocol.{secondWord}
-use Rattle.rules.specs.Schedulers.Lazy.{Words, wordsOf, callsFor, bestKept, backOf, runsOn, switched, stays, afterRelease}
-use Rattle.rules.specs.Schedulers.Lazy.{afterAcquire, restored, afterUnlock, wordsAfter, enters, lazyCall}
+use Rattle.rules.specs.Schedulers.Lazy.{Words, wordsOf, callsFor, entering, bestKept, backOf, runsOn, switched, stays, afterRelease}
+use Rattle.rules.specs.Schedulers.Lazy.{afterAcquire, restored, leaves, afterUnlock, wordsAfter, enters, lazyCall}
 use Rattle.rules.specs.Soundness.Sound.{SoundFigures, SoundWords, SoundAndSized}
 use Rattle.rules.specs.Replays.Step.{afterOf, answered, actOf, stepOf}
 use Rattle.rules.specs.Demands.History.{eventAt, eagerAt, lazyAt, runnerAt}
@@ -40,6 +40,7 @@ use Rattle.rules.proofs.Books.Obeyed.{few-tasks, base-some}
 use Rattle.rules.proofs.Schedulers.Passed.{Releasable, Takeable, Givable, Finishable, passed-room, allowed}
 use Rattle.rules.proofs.Schedulers.FiguresKept as SoundFigures
 use Rattle.rules.proofs.Schedulers.FiguresKept.{Same, same-priority, same-rank}
+use Rattle.rules.proofs.Schedulers.Maximum.{enters-same, calls-same}
 use Rattle.rules.proofs.Schedulers.WordsKept as SoundWords
 use Rattle.rules.proofs.Schedulers.Rules.{no-call, rank-out, rank-in, kept-own, kept-other, base-priority}
 use Rattle.rules.proofs.Soundness.SoundKept.{scene, after-sound, step-act, fresh-sound}
@@ -65,18 +66,18 @@ module _ (pr : Protocol) (p : Plan) (released : List ℕ) (w : Words) where
   unfolding switched runsOn
   switch-entered kept u = record { next = refl }
 
-  stay-entered : (kept : List ℕ) → Entered (stays pr (p .tasks) kept w)
+  stay-entered : (kept : List ℕ) (u : Words) → Entered (stays pr (p .tasks) kept u)
   unfolding stays
-  stay-entered kept = record { next = refl }
+  stay-entered kept u = record { next = refl }
 
   pub entered : (e : Event) → enters (lazyCall w e) e ≡ true → Entered (after e)
-  unfolding wordsAfter afterRelease afterUnlock enters lazyCall
-  entered (Release t) h = either Entered (ltb (w .user) (at (p .base) t)) _ _ (switch-entered _ _) (stay-entered _)
+  unfolding wordsAfter afterRelease afterUnlock leaves enters lazyCall
+  entered (Release t) h = either Entered (ltb (entering (p .maximum) w .user) (at (p .base) t)) _ _ (switch-entered _ _) (stay-entered _ _)
   entered (Acquire l) h = untrue (sym h)
   entered (Unlock l) h = subst Entered (sym (if-true (callsFor (backOf w) (w .next)) _ (restored l 0 w) h)) (switch-entered _ _)
   entered (Work a) h = untrue (sym h)
   entered Finish h = switch-entered _ _
-  entered Tick h = stay-entered _
+  entered Tick h = stay-entered _ _
 
   -- elsewhere who runs stays too, and the user word is then no lower than the second word, if it was so before
   pub record Left (v : Words) : Type 0 where
@@ -130,6 +131,13 @@ module _ {pr : Protocol} {p : Plan} {s : State} (F : Follows pr p s) where
   O : Obeys p
   O = S .sound .plan
 
+  -- an entry to the kernel cuts nothing, nor does a call
+  found : entering (p .maximum) w ≡ w
+  found = enters-same O (S .sound .figures) (S .sound .words)
+
+  found-back : (l : ℕ) → entering (p .maximum) (restored l 1 w) ≡ restored l 1 w
+  found-back l = calls-same O (S .sound .figures) (S .sound .words) l 1
+
   -- both schedulers test an event alike
   pub same-test : (e : Event) → eagerTest p f e ≡ refusalOf p f r e
   unfolding eagerTest
@@ -143,11 +151,11 @@ module _ {pr : Protocol} {p : Plan} {s : State} (F : Follows pr p s) where
     who-release : {t : ℕ} (o : Releasable p f t) → Ruled p (figuresAfter p f r (Release t))
         → afterOf pr p s (Release t) .head .running ≡ runningOf p (figuresAfter p f r (Release t))
     unfolding afterOf wordsAfter afterRelease stays switched runsOn runningOf
-    who-release {t} o R′ = by-test (ltb (w .user) (at (p .base) t))
+    who-release {t} o R′ = rw found (by-test (ltb (w .user) (at (p .base) t))
         (λ e. ap (λ (v : Words). v .running) (if-true (ltb (w .user) (at (p .base) t)) _ _ e)
         ∙ elected-same (at (figuresAfter p f r (Release t) .released)) _ (rankOf p (figuresAfter p f r (Release t))) (p .tasks)
         (SoundWords.release-kept (scene S room) o))
-        (λ e. ap (λ (v : Words). v .running) (if-false (ltb (w .user) (at (p .base) t)) _ _ e) ∙ best-runs O R′ r (still e))
+        (λ e. ap (λ (v : Words). v .running) (if-false (ltb (w .user) (at (p .base) t)) _ _ e) ∙ best-runs O R′ r (still e)))
       where
         some : ltb (w .user) (at (p .base) t) ≡ false → r ≢ nobody
         some e q = omega (arith, ltb-false (w .user) (at (p .base) t) e, SoundWords.nobody-user (scene S room) q, base-some O t (o .known))
@@ -175,14 +183,14 @@ module _ {pr : Protocol} {p : Plan} {s : State} (F : Follows pr p s) where
 
     who-unlock : {l : ℕ} (o : Givable p f r l) → Ruled p (figuresAfter p f r (Unlock l))
         → afterOf pr p s (Unlock l) .head .running ≡ runningOf p (figuresAfter p f r (Unlock l))
-    unfolding afterOf wordsAfter afterUnlock restored switched runsOn runningOf figuresAfter
-    who-unlock {l} o R′ = by-test (callsFor (backOf w) (w .next))
+    unfolding afterOf wordsAfter afterUnlock leaves restored switched runsOn runningOf figuresAfter
+    who-unlock {l} o R′ = rw (found-back l) (by-test (callsFor (backOf w) (w .next))
         (λ e. ap (λ (v : Words). v .running) (if-true (callsFor (backOf w) (w .next)) _ _ e)
         ∙ elected-same (at (f .released)) _ (rankOf p (figuresAfter p f r (Unlock l))) (p .tasks) (SoundWords.give-kept (scene S room) (o .runs) o))
         (λ e. ap (λ (v : Words). v .running) (if-false (callsFor (backOf w) (w .next)) _ _ e)
         ∙ best-runs O R′ r (Urgency.stay (good R) r (λ x n. same-alike p (SoundWords.give-same (scene S room) (o .runs) o x n)) (best (o .runs)) refl
         (base-priority p (figuresAfter p f r (Unlock l)) r)
-        (λ y n u. omega (arith, SoundWords.give-priority (scene S room) (o .runs) o, F .covers y n u, no-call (backOf w) (w .next) e))))
+        (λ y n u. omega (arith, SoundWords.give-priority (scene S room) (o .runs) o, F .covers y n u, no-call (backOf w) (w .next) e)))))
 
     who-finish : Finishable f r → afterOf pr p s Finish .head .running ≡ runningOf p (figuresAfter p f r Finish)
     unfolding afterOf wordsAfter switched runsOn runningOf
@@ -204,7 +212,7 @@ module _ {pr : Protocol} {p : Plan} {s : State} (F : Follows pr p s) where
   who-after (Unlock l) z R′ = who-unlock (passed-room p f r (Unlock l) z) (allowed p f r (Unlock l) z) R′
   who-after (Work a) z R′ = who-still (figuresAfter p f r (Work a)) refl (λ x. record { released = refl; depth = refl; takes = refl })
   who-after Finish z R′ = who-finish (passed-room p f r Finish z) (allowed p f r Finish z)
-  who-after Tick z R′ = who-still (figuresAfter p f r Tick) refl (λ x. record { released = refl; depth = refl; takes = refl })
+  who-after Tick z R′ = rw found (who-still (figuresAfter p f r Tick) refl (λ x. record { released = refl; depth = refl; takes = refl }))
 
   -- an event that does not enter the kernel leaves the others' priorities
   others-stay : (e : Event) → refusalOf p f r e ≡ Tested.Passed → enters (lazyCall w e) e ≡ false → (x : ℕ) → x ≢ r → Same f (figuresAfter p f r e) x

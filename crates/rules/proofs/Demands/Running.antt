@@ -34,6 +34,7 @@ use Rattle.rules.proofs.Numbers.Refusals.{numbered}
 use Rattle.rules.proofs.Numbers.Place.{below}
 use Rattle.rules.proofs.Demands.Follow.{follows, same-figures, same-tests}
 use Rattle.rules.proofs.Demands.Calls.{due, kernel-is}
+use Rattle.rules.proofs.Demands.Maximum.{maximum}
 use Rattle.rules.proofs.Demands.Demand2.{demand2}
 use Rattle.rules.proofs.Demands.Fair.{fair}
 use Rattle.rules.proofs.Demands.History.{passedAt, all-counted}
@@ -92,6 +93,7 @@ module _ (pr : Protocol) {p : Plan} (O : Obeys p) (es : List Event) (rows : List
           foremost = rw (D .running) (D .foremost);
           idle = rw (D .running) (D .idle);
           own = D .user;
+          below = maximum .fresh pr p O es (suc k) .user;
           covers = D .covers;
           atMost = D .atMost;
           word = D .word;

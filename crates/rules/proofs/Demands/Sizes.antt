@@ -35,7 +35,7 @@ use Rattle.rules.proofs.Books.Obeyed.{few-tasks, base-byte, ceiling-byt
 use Rattle.rules.proofs.Schedulers.Elect.{elected-lead, elected-some}
 use Rattle.rules.proofs.Schedulers.FiguresKept.{eager-once}
 
--- ---- the place of a refusal of 1 to 9
+-- ---- the place of a refusal of 1 to 9 or 24
 
 -- no record of these checks has a place of n or more
 Within : ℕ → List Check → Type 0
@@ -81,7 +81,7 @@ module _ (b : List ℕ) (passed : firstFault (contentsChecks b) ≡ Verdict.Pass
       let l : length (locksOf b) ≡ countAt b 1 = length-from _ 0 (countAt b 1) in
       let u : length (usesOf b) ≡ countAt b 2 = length-from _ 0 (countAt b 2) in
       let f : (countAt b 0 ≤ maxTasks) × (countAt b 1 ≤ maxLocks) × (countAt b 2 ≤ maxUses) × (countAt b 3 ≤ maxEvents) = few-records in
-      (omega arith, (omega arith, (omega arith, (omega arith, (omega arith, (omega arith, (omega arith, tt)))))))
+      (omega arith, (omega arith, (omega arith, (omega arith, (omega arith, (omega arith, (omega arith, (omega arith, tt))))))))
 
 -- every place is below the most events that a book may have
 pub place-few : (b : List ℕ) (room : ℕ) (why : Refusal) (place : ℕ) → checkOf b room ≡ Verdict.Refused why place → place < maxEvents
@@ -105,7 +105,7 @@ place-few b room why place e = go (firstFault (contentsChecks b)) refl
 module _ {p : Plan} (O : Obeys p) (f : Figures) where
   priority-byte : (x : ℕ) → priorityOf p f x < 256
   unfolding priorityOf
-  priority-byte x = priority-below (at (p .ceiling)) (at (p .base) x) 256 (at (f .takes) x) (at (f .depth) x) (base-byte O x) (ceiling-byte O)
+  priority-byte x = priority-below (at (p .ceiling)) (at (p .base) x) 256 (at (f .takes) x) (at (f .depth) x) (base-byte O x) (λ l _. ceiling-byte O l)
 
   rank-byte : (x : ℕ) → rankOf p f x < 256
   unfolding rankOf

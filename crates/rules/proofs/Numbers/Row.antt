@@ -90,21 +90,24 @@ module _ (ceiling : ℕ → ℕ) (base : ℕ) where
   priority-has row (suc k) l h = ⊎-elim (λ e. omega (arith, ap ceiling e)) (λ e. omega (arith, priority-has (under row) k l e)) (has-cases row k l h)
 
   -- and nothing but the base and these ceilings makes it
-  pub priority-below : (v row k : ℕ) → base < v → ((l : ℕ) → ceiling l < v) → priority ceiling base row k < v
+  pub priority-below : (v row k : ℕ) → base < v → ((l : ℕ) → has row k l ≡ true → ceiling l < v) → priority ceiling base row k < v
   unfolding priority
   priority-below v row zero b c = b
-  priority-below v row (suc k) b c = omega (arith, c (newest row), priority-below v (under row) k b c)
+  priority-below v row (suc k) b c =
+      omega (arith, c (newest row) (has-newest row k), priority-below v (under row) k b (λ l h. c l (has-under row k l h)))
 
   -- ---- the saved words
 
   module _ (small : base < 256) (smalls : (l : ℕ) → ceiling l < 256) where
     pub saves-newest : (row k : ℕ) → newest (saves ceiling base row (suc k)) ≡ priority ceiling base (under row) k
     unfolding saves
-    saves-newest row k = newest-pushed (saves ceiling base (under row) k) (priority ceiling base (under row) k) (priority-below 256 (under row) k small smalls)
+    saves-newest row k = newest-pushed (saves ceiling base (under row) k) (priority ceiling base (under row) k)
+        (priority-below 256 (under row) k small (λ l _. smalls l))
 
     pub saves-under : (row k : ℕ) → under (saves ceiling base row (suc k)) ≡ saves ceiling base (under row) k
     unfolding saves
-    saves-under row k = under-pushed (saves ceiling base (under row) k) (priority ceiling base (under row) k) (priority-below 256 (under row) k small smalls)
+    saves-under row k = under-pushed (saves ceiling base (under row) k) (priority ceiling base (under row) k)
+        (priority-below 256 (under row) k small (λ l _. smalls l))
 
   pub saves-pushed : (row k x : ℕ) → x < 256 → saves ceiling base (pushed row x) (suc k) ≡ pushed (saves ceiling base row k) (priority ceiling base row k)
   unfolding saves
@@ -118,5 +121,5 @@ module _ (ceiling : ℕ → ℕ) (base : ℕ) where
   unfolding saves
   saves-places row zero b c = omega arith
   saves-places row (suc k) b c =
-      places-pushed (saves ceiling base (under row) k) k (priority ceiling base (under row) k) (priority-below 256 (under row) k b c)
+      places-pushed (saves ceiling base (under row) k) k (priority ceiling base (under row) k) (priority-below 256 (under row) k b (λ l _. c l))
       (saves-places (under row) k b c)

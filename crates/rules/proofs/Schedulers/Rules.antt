@@ -2,6 +2,7 @@
 use mathlib.Core.Path.{_≡_, refl, sym, _∙_, ap}
 use mathlib.Core.Logic.{_≢_, _⊎_, inl, inr, ⊎-elim}
 use mathlib.Core.Bool.{Bool, true, false, _&&_}
+use mathlib.Core.List.{List}
 use Prim.Native.Nat.{ℕ, _+_, _≤_, _<_, min}
 use native.Mathlib.Omega.{arith}
 use lib.Dec.{eqb, leb, ltb}
@@ -15,7 +16,7 @@ use Rattle.rules.specs.Schedulers.Figures.{Figures, holds, priorityOf, r
 use Rattle.rules.specs.Schedulers.Elect.{earlier}
 use Rattle.rules.specs.Schedulers.FiguresAfter.{charged, delayed}
 use Rattle.rules.specs.Schedulers.Protocol.{secondWord}
-use Rattle.rules.specs.Schedulers.Lazy.{callsFor}
+use Rattle.rules.specs.Schedulers.Lazy.{Words, callsFor, cutTo, entering}
 use Rattle.rules.specs.Soundness.Sound.{keptOf, SoundSecond}
 use Rattle.rules.specs.Demands.Bound.{lowerAt, lowerUser, mayBlock, limitIf}
 use Rattle.rules.specs.declared.plan.Plan.{Plan}
@@ -101,6 +102,16 @@ pub stays-sound : (pr : Protocol) (second user user′ best best′ : ℕ) → (
 unfolding SoundSecond
 stays-sound Second second user user′ best best′ h e s = s ∙ e
 stays-sound First second user user′ best best′ h e s = h s
+
+-- ---- RULES 9.11: a word that is not above the maximum is not cut, so that an entry finds the words as they are
+
+pub uncut : (maximum user : ℕ) → user ≤ maximum → cutTo maximum user ≡ user
+unfolding cutTo
+uncut maximum user h = if-false (ltb maximum user) maximum user (le-ltb maximum user h)
+
+pub entering-same : (maximum : List ℕ) (w : Words) → w .user ≤ at maximum (w .running) → entering maximum w ≡ w
+unfolding entering
+entering-same maximum w h = rw (uncut (at maximum (w .running)) (w .user) h)
 
 -- ---- RULES 9.7: work counts for each open section
 

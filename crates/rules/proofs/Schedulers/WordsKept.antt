@@ -21,8 +21,8 @@ use Rattle.rules.specs.Schedulers.Figures.{Figures, holds, priorityOf, r
 use Rattle.rules.specs.Schedulers.Elect.{elected}
 use Rattle.rules.specs.Schedulers.FiguresAfter.{differs, eagerCalls, figuresAfter}
 use Rattle.rules.specs.Schedulers.Protocol.{secondWord}
-use Rattle.rules.specs.Schedulers.Lazy.{Words, WordsSized, callsFor, bestKept, backOf, runsOn, switched}
-use Rattle.rules.specs.Schedulers.Lazy.{stays, afterRelease, afterAcquire, restored, afterUnlock, wordsAfter}
+use Rattle.rules.specs.Schedulers.Lazy.{Words, WordsSized, callsFor, entering, bestKept, backOf, runsOn, switched, stays}
+use Rattle.rules.specs.Schedulers.Lazy.{afterRelease, afterAcquire, restored, leaves, afterUnlock, wordsAfter}
 use Rattle.rules.specs.Soundness.Sound.{SoundFigures, keptOf, savedOf, ownerOf, SoundSecond, SoundWords}
 use Rattle.rules.specs.declared.plan.Plan.{Plan}
 use Rattle.rules.specs.declared.protocol.Protocol.{Protocol}
@@ -38,6 +38,7 @@ use Rattle.rules.proofs.Books.Obeyed.{few-tasks, few-locks, base-some, 
 use Rattle.rules.proofs.Schedulers.Passed.{Releasable, Takeable, Givable, Finishable, Allowed}
 use Rattle.rules.proofs.Schedulers.FiguresKept as SoundFigures
 use Rattle.rules.proofs.Schedulers.FiguresKept.{Same, same-rank, same-holds}
+use Rattle.rules.proofs.Schedulers.Maximum.{enters-same, calls-same}
 
 -- ---- lists
 
@@ -156,6 +157,10 @@ module _ {pr : Protocol} {p : Plan} {f : Figures} {w : Words} (B : Scene pr p f 
   abbrev r : ℕ
   r = w .running
 
+  -- an entry to the kernel cuts nothing
+  found : entering (p .maximum) w ≡ w
+  found = enters-same O F W
+
   -- the running task is a task of the plan, or nobody
   pub running-place : r ≢ nobody → r < p .tasks
   running-place n = SoundFigures.inside F r (W .runs n)
@@ -226,7 +231,7 @@ module _ {pr : Protocol} {p : Plan} {f : Figures} {w : Words} (B : Scene pr p f 
     release-worded : SoundFigures p (figuresAfter p f r (Release t)) → SoundWords pr p (figuresAfter p f r (Release t))
         (wordsAfter pr p (figuresAfter p f r (Release t) .released) w (Release t))
     unfolding wordsAfter afterRelease figuresAfter savedOf ownerOf holds newcomer stays
-    release-worded G = by-test (ltb (w .user) (at (p .base) t))
+    release-worded G = rw found (by-test (ltb (w .user) (at (p .base) t))
         (λ e. subst (SoundWords pr p g) (sym (if-true (ltb (w .user) (at (p .base) t)) _ _ e))
         (switch-worded pr O G w (set newcomer r (w .user)) release-kept (W .saved) owns (omega (arith, W .lazy))))
         (λ e. subst (SoundWords pr p g) (sym (if-false (ltb (w .user) (at (p .base) t)) _ _ e)) (record {
@@ -238,7 +243,7 @@ module _ {pr : Protocol} {p : Plan} {f : Figures} {w : Words} (B : Scene pr p f 
           saved = W .saved;
           owner = owns;
           lazy = omega (arith, W .lazy);
-        }))
+        })))
       where
         g : Figures
         g = figuresAfter p f r (Release t)
@@ -264,8 +269,8 @@ module _ {pr : Protocol} {p : Plan} {f : Figures} {w : Words} (B : Scene pr p f 
   finish-worded : Finishable f r → SoundFigures p (figuresAfter p f r Finish)
       → SoundWords pr p (figuresAfter p f r Finish) (wordsAfter pr p (figuresAfter p f r Finish .released) w Finish)
   unfolding wordsAfter figuresAfter savedOf ownerOf holds
-  finish-worded o G = switch-worded pr O G w (set (w .kept) r 0) finish-kept (W .saved) (λ l. W .owner l ∙ sym (owner-same f g l (p .tasks) (λ x q. refl)))
-      (omega (arith, W .lazy))
+  finish-worded o G = rw found (switch-worded pr O G w (set (w .kept) r 0) finish-kept (W .saved)
+      (λ l. W .owner l ∙ sym (owner-same f g l (p .tasks) (λ x q. refl))) (omega (arith, W .lazy)))
     where
       g : Figures
       g = figuresAfter p f r Finish
@@ -302,7 +307,7 @@ module _ {pr : Protocol} {p : Plan} {f : Figures} {w : Words} (B : Scene pr p f 
   tick-worded G =
       let U : SoundWords pr p (figuresAfter p f r Tick) w =
       still (figuresAfter p f r Tick) (λ x. record { released = refl; depth = refl; takes = refl }) (omega arith) in
-      record {
+      rw found (record {
         idle = U .idle;
         runs = U .runs;
         user = U .user;
@@ -311,7 +316,7 @@ module _ {pr : Protocol} {p : Plan} {f : Figures} {w : Words} (B : Scene pr p f 
         saved = U .saved;
         owner = U .owner;
         lazy = U .lazy;
-      }
+      })
 
   -- ---- acquire and unlock: the running task's row changes, and nobody else's
 
@@ -453,8 +458,8 @@ module _ {pr : Protocol} {p : Plan} {f : Figures} {w : Words} (B : Scene pr p f 
           (λ x m. getD-set-other (w .kept) r x (backOf w) 0 m ∙ kept-give x m)
 
       give-worded : SoundFigures p give → SoundWords pr p give (wordsAfter pr p (give .released) w (Unlock l))
-      unfolding wordsAfter afterUnlock restored figuresAfter
-      give-worded G = by-test (callsFor (backOf w) (w .next))
+      unfolding wordsAfter afterUnlock leaves restored figuresAfter
+      give-worded G = rw (calls-same O F W l 1) (by-test (callsFor (backOf w) (w .next))
           (λ e. subst (SoundWords pr p give) (sym (if-true (callsFor (backOf w) (w .next)) _ _ e))
           (switch-worded pr O G (restored l 1 w) (set (w .kept) r (backOf w)) give-kept saved-give owner-give (omega (arith, W .lazy))))
           (λ e. subst (SoundWords pr p give) (sym (if-false (callsFor (backOf w) (w .next)) _ _ e)) (record {
@@ -466,7 +471,7 @@ module _ {pr : Protocol} {p : Plan} {f : Figures} {w : Words} (B : Scene pr p f 
             saved = saved-give;
             owner = owner-give;
             lazy = omega (arith, W .lazy);
-          }))
+          })))
         where
           stay : (x : ℕ) → at (w .kept) x ≡ keptOf p give r x
           stay = kept-by p give (w .kept) r own-zero kept-give

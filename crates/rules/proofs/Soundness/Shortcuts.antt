@@ -14,7 +14,7 @@ use Rattle.rules.specs.Schedulers.Elect.{elected}
 use Rattle.rules.specs.Schedulers.Figures.{Figures, figuresOf}
 use Rattle.rules.specs.Schedulers.FiguresAfter.{delayed, figuresAfter}
 use Rattle.rules.specs.Schedulers.Protocol.{secondWord}
-use Rattle.rules.specs.Schedulers.Lazy.{Words, wordsOf, bestKept, runsOn, switched, stays, afterRelease, wordsAfter}
+use Rattle.rules.specs.Schedulers.Lazy.{Words, wordsOf, entering, bestKept, runsOn, switched, stays, afterRelease, wordsAfter}
 use Rattle.rules.specs.Soundness.Shortcuts.{Shortcuts, TickSame}
 use Rattle.rules.specs.Soundness.Sound.{keptOf, SoundSecond, SoundAndSized}
 use Rattle.rules.specs.Replays.Step.{afterOf}
@@ -22,12 +22,12 @@ use Rattle.rules.specs.declared.plan.Plan.{Plan}
 use Rattle.rules.specs.declared.protocol.Protocol.{Protocol}
 use Rattle.rules.specs.declared.protocol.Protocol.the-variants.{Second}
 use Rattle.rules.specs.declared.state.State.{State}
-use Rattle.rules.specs.declared.event.Event.the-variants.{Release}
 use Rattle.rules.proofs.Numbers.Choice.{if-true, if-false, at-or, lt-or-le}
 use Rattle.rules.proofs.Numbers.Place.{greatest-all, greatest-ext, greatest-set, renewed-same, none-past}
 use Rattle.rules.proofs.Books.Obeyed.{few-tasks}
 use Rattle.rules.proofs.Schedulers.Elect.{elected-above}
 use Rattle.rules.proofs.Schedulers.Rules.{rank-in, rank-out, base-priority, kept-own, kept-other, delayed-same}
+use Rattle.rules.proofs.Schedulers.Maximum.{enters-same}
 
 -- ---- a newcomer t of base b above the user word and all that is kept; task r of user word u leaves, or nobody
 
@@ -124,19 +124,23 @@ module _ {pr : Protocol} {p : Plan} {s : State} (S : SoundAndSized pr p s) where
       (λ (q : p .tasks ≤ x). absurd (omega (arith, S .sound .figures .noTask x q .0)))
       (lt-or-le x (p .tasks))
 
+  -- an entry to the kernel cuts nothing
+  found : entering (p .maximum) (wordsOf s) ≡ wordsOf s
+  found = enters-same (S .sound .plan) (S .sound .figures) (S .sound .words)
+
   -- ---- the shortcuts
 
   pub shortcuts : Shortcuts pr p s
   unfolding afterOf wordsAfter figuresAfter afterRelease stays
   shortcuts = record {
-    waits = λ t o h. ap (λ (w : Words). w .next) (if-false (ltb (s .head .user .0) (at (p .base) t)) _ _ (le-ltb (s .head .user .0) (at (p .base) t) h))
+    waits = λ t o h. rw found (ap (λ (w : Words). w .next) (if-false (ltb (s .head .user .0) (at (p .base) t)) _ _ (le-ltb (s .head .user .0) (at (p .base) t) h))
         ∙ ap (secondWord pr (s .head .user .0))
-        (greatest-set (s .kept) (p .tasks) t (at (p .base) t) (kept-none t (o .unreleased)) (o .known) (omega (arith, few, S .wordsSized .kept, o .known)));
-    runs = λ t o h k. let e : wordsAfter pr p _ (wordsOf s) (Release t) ≡ _ =
+        (greatest-set (s .kept) (p .tasks) t (at (p .base) t) (kept-none t (o .unreleased)) (o .known) (omega (arith, few, S .wordsSized .kept, o .known))));
+    runs = λ t o h k. rw found (let e : afterRelease pr (p .tasks) _ (set (s .kept) t (at (p .base) t)) (at (p .base) t) (wordsOf s) ≡ _ =
         if-true (ltb (s .head .user .0) (at (p .base) t)) _ _ (lt-ltb (s .head .user .0) (at (p .base) t) h)
         ∙ newcomer-runs pr (p .tasks) t (at (p .base) t) r (s .head .user .0) _ (s .kept) few (S .wordsSized .kept) (o .known) (kept-none t (o .unreleased))
         (newcomer-other t (o .known) (o .unreleased)) kept-running idle-word h k (wordsOf s) in
-        (ap (λ (w : Words). w .running) e, ap (λ (w : Words). w .user) e, ap (λ (w : Words). w .next) e);
+        (ap (λ (w : Words). w .running) e, ap (λ (w : Words). w .user) e, ap (λ (w : Words). w .next) e));
     spares = λ a h. renewed-same (s .delay) (delayed p f r a) (p .tasks)
         (λ x l. delayed-same p f r a x (λ c. omega (arith, waiting x (c .out) (c .lower), c .lower)));
   }

@@ -14,8 +14,8 @@ use Rattle.rules.specs.Schedulers.Figures.{Figures, figuresOf, freshFigu
 use Rattle.rules.specs.Schedulers.Elect.{elected}
 use Rattle.rules.specs.Schedulers.EventRefusals.{refusalOf}
 use Rattle.rules.specs.Schedulers.FiguresAfter.{figuresAfter}
-use Rattle.rules.specs.Schedulers.Lazy.{Words, WordsSized, wordsOf, backOf, runsOn, switched, stays}
-use Rattle.rules.specs.Schedulers.Lazy.{afterRelease, afterAcquire, restored, afterUnlock, wordsAfter}
+use Rattle.rules.specs.Schedulers.Lazy.{Words, WordsSized, wordsOf, entering, runsOn, switched, stays}
+use Rattle.rules.specs.Schedulers.Lazy.{afterRelease, afterAcquire, restored, leaves, afterUnlock, wordsAfter}
 use Rattle.rules.specs.Schedulers.State.{freshOf}
 use Rattle.rules.specs.Soundness.Sound.{SoundFigures, keptOf, SoundSecond, SoundWords, Sound, SoundAndSized}
 use Rattle.rules.specs.Soundness.SoundTest.{soundTest}
@@ -54,14 +54,24 @@ restored-sized l c w Y = record {
   owner = set-length (w .owner) l 0 maxLocks (Y .owner);
 }
 
+entering-sized : (maximum : List ℕ) (w : Words) → WordsSized w → WordsSized (entering maximum w)
+unfolding entering
+entering-sized maximum w Y = record { kept = Y .kept; saved = Y .saved; owner = Y .owner }
+
+leaves-sized : (pr : Protocol) (n : ℕ) (released : List ℕ) (w : Words) → WordsSized w → WordsSized (leaves pr n released w)
+unfolding leaves
+leaves-sized pr n released w Y = switched-sized pr n released (set (w .kept) (w .running) (w .user)) w Y
+    (set-length (w .kept) (w .running) (w .user) maxTasks (Y .kept))
+
 pub words-sized : (pr : Protocol) (p : Plan) (released : List ℕ) (w : Words) (e : Event) → WordsSized w → WordsSized (wordsAfter pr p released w e)
 unfolding wordsAfter afterRelease stays afterAcquire afterUnlock
 words-sized pr p released w (Release t) Y =
     let k : length (set (w .kept) t (at (p .base) t)) ≡ maxTasks = set-length (w .kept) t (at (p .base) t) maxTasks (Y .kept) in
+    let v : Words = entering (p .maximum) w in
     either WordsSized _ _ _
-    (switched-sized pr (p .tasks) released (set (set (w .kept) t (at (p .base) t)) (w .running) (w .user)) w Y
-    (set-length (set (w .kept) t (at (p .base) t)) (w .running) (w .user) maxTasks k))
-    (record { kept = k; saved = Y .saved; owner = Y .owner })
+    (switched-sized pr (p .tasks) released (set (set (w .kept) t (at (p .base) t)) (v .running) (v .user)) v (entering-sized (p .maximum) w Y)
+    (set-length (set (w .kept) t (at (p .base) t)) (v .running) (v .user) maxTasks k))
+    (record { kept = k; saved = entering-sized (p .maximum) w Y .saved; owner = entering-sized (p .maximum) w Y .owner })
 words-sized pr p released w (Acquire l) Y = record {
   kept = Y .kept;
   saved = set-length (w .saved) (w .running) (pushed (at (w .saved) (w .running)) (w .user)) maxTasks (Y .saved);
@@ -69,13 +79,12 @@ words-sized pr p released w (Acquire l) Y = record {
 }
 words-sized pr p released w (Unlock l) Y =
     either WordsSized _ _ _
-    (switched-sized pr (p .tasks) released (set (w .kept) (w .running) (backOf w)) (restored l 1 w) (restored-sized l 1 w Y)
-    (set-length (w .kept) (w .running) (backOf w) maxTasks (Y .kept)))
+    (leaves-sized pr (p .tasks) released _ (entering-sized (p .maximum) _ (restored-sized l 1 w Y)))
     (restored-sized l 0 w Y)
 words-sized pr p released w (Work a) Y = Y
-words-sized pr p released w Finish Y = switched-sized pr (p .tasks) released (set (w .kept) (w .running) 0) w Y
+words-sized pr p released w Finish Y = switched-sized pr (p .tasks) released (set (w .kept) (w .running) 0) _ (entering-sized (p .maximum) w Y)
     (set-length (w .kept) (w .running) 0 maxTasks (Y .kept))
-words-sized pr p released w Tick Y = record { kept = Y .kept; saved = Y .saved; owner = Y .owner }
+words-sized pr p released w Tick Y = record { kept = Y .kept; saved = entering-sized (p .maximum) w Y .saved; owner = entering-sized (p .maximum) w Y .owner }
 
 pub scene : {pr : Protocol} {p : Plan} {s : State} → SoundAndSized pr p s → s .head .accepted < maxAccepted → Scene pr p (figuresOf s) (wordsOf s)
 scene S room = record {

@@ -1,7 +1,7 @@
 -- The test of soundness holds exactly where every named condition of Sound.antt does. Assumes nothing.
 use mathlib.Core.Path.{_≡_, refl, sym, _∙_, ap, subst}
 use mathlib.Core.Logic.{_≢_, ⊎-elim, _↔_}
-use mathlib.Core.Bool.{Bool, true, false, not}
+use mathlib.Core.Bool.{Bool, true, false, not, _&&_}
 use mathlib.Core.List.{List}
 use Prim.Native.Nat.{ℕ, zero, suc, _≤_, _<_, _^_}
 use native.Mathlib.Numerals.{add-one}
@@ -11,7 +11,7 @@ use borrow.Author.Tests.{eqb-true, eqb-false, leb-true, ltb-true, eq-eqb, ne-eqb
 use Rattle.rules.specs.Numbers.Capacity.{maxOpen, maxAccepted, maxDelay, nobody}
 use Rattle.rules.specs.Numbers.Place.{at, every, greatest}
 use Rattle.rules.specs.Numbers.Row.{newest, under, has, saves}
-use Rattle.rules.specs.Books.Plan.{countFault, taskFault, lockFault, ceilingFault, declares, Obeys}
+use Rattle.rules.specs.Books.Plan.{countFault, taskFault, lockFault, ceilingFault, maximumFault, aboveFault, declares, Obeys}
 use Rattle.rules.specs.Schedulers.Figures.{Figures, figuresOf, holds, rankOf}
 use Rattle.rules.specs.Schedulers.Lazy.{Words, wordsOf}
 use Rattle.rules.specs.Soundness.Sound.{distinct, SoundFigures, keptOf, savedOf, ownerOf, SoundSecond, SoundWords, Sound}
@@ -22,7 +22,7 @@ use Rattle.rules.specs.declared.protocol.Protocol.{Protocol}
 use Rattle.rules.specs.declared.protocol.Protocol.the-variants.{Second, First}
 use Rattle.rules.specs.declared.state.State.{State}
 use Rattle.rules.proofs.Numbers.Choice.{if-true, if-false, by-test, untrue, not-so, and-true, true-and, at-or, lt-or-le, Each, all-so, so-all}
-use Rattle.rules.proofs.Numbers.Place.{every-true, true-every, spare-at, at-spare}
+use Rattle.rules.proofs.Numbers.Place.{every-true, true-every, any-false, false-any, spare-at, at-spare}
 use Rattle.rules.proofs.Numbers.Row.{has-none, has-newest, has-under, has-cases, places-under, saves-none}
 use Rattle.rules.proofs.Schedulers.FiguresKept.{inside, holder-out}
 use Rattle.rules.proofs.Schedulers.WordsKept.{owner-none, owner-is}
@@ -34,46 +34,68 @@ false-not t e = ap not e
 -- ---- the plan
 
 module _ (p : Plan) where
-  task-parts : (t : ℕ) → taskObeys p t ≡ true → (not (taskFault (at (p .base) t) 0) ≡ true) × (ltb (at (p .base) t) (2 ^ 8) ≡ true)
+  abbrev Task : ℕ → Type 0
+  Task t =
+      (not (taskFault (at (p .base) t) (at (p .maximum) t)) ≡ true) × (ltb (at (p .base) t) (2 ^ 8) ≡ true) × (ltb (at (p .maximum) t) (2 ^ 8) ≡ true)
       × (ltb (at (p .uses) t) (2 ^ p .locks) ≡ true)
-  unfolding taskObeys Each
-  task-parts t e = let (a, (b, (c, _))) = all-so _ e in (a, b, c)
 
-  lock-parts : (l : ℕ) → lockObeys p l ≡ true
-      → (not (lockFault (at (p .ceiling) l) 0 (at (p .limit) l)) ≡ true) × (ltb (at (p .ceiling) l) (2 ^ 8) ≡ true) × (ltb (at (p .limit) l) (2 ^ 16) ≡ true)
-      × (not (ceilingFault p l) ≡ true)
+  task-parts : (t : ℕ) → taskObeys p t ≡ true → Task t
+  unfolding taskObeys Each
+  task-parts t e = let (a, (b, (c, (d, _)))) = all-so _ e in (a, b, c, d)
+
+  abbrev Lock : ℕ → Type 0
+  Lock l =
+      (not (lockFault (at (p .ceiling) l) 0 (at (p .limit) l)) ≡ true) × (ltb (at (p .ceiling) l) (2 ^ 8) ≡ true) × (ltb (at (p .limit) l) (2 ^ 16) ≡ true)
+      × (not (ceilingFault p l) ≡ true) × (not (aboveFault p l) ≡ true)
+
+  lock-parts : (l : ℕ) → lockObeys p l ≡ true → Lock l
   unfolding lockObeys Each
-  lock-parts l e = let (a, (b, (c, (d, _)))) = all-so _ e in (a, b, c, d)
+  lock-parts l e = let (a, (b, (c, (d, (g, _))))) = all-so _ e in (a, b, c, d, g)
+
+  -- 24 of a lock, and of each task that may take it
+  above-so : (t l : ℕ) → t < p .tasks → declares p t l ≡ true → aboveFault p l ≡ false → maximumFault (at (p .maximum) t) (at (p .ceiling) l) ≡ false
+  unfolding aboveFault
+  above-so t l h d e = not-so (maximumFault (at (p .maximum) t) (at (p .ceiling) l)) (λ q. untrue
+      (sym (true-and (declares p t l) _ d q) ∙ any-false (λ x. declares p x l && maximumFault (at (p .maximum) x) (at (p .ceiling) l)) (p .tasks) e t h))
+
+  so-above : (l : ℕ) → ((t : ℕ) → t < p .tasks → declares p t l ≡ true → maximumFault (at (p .maximum) t) (at (p .ceiling) l) ≡ false) → aboveFault p l ≡ false
+  unfolding aboveFault
+  so-above l h = false-any _ (p .tasks) (λ t k. not-so (declares p t l && maximumFault (at (p .maximum) t) (at (p .ceiling) l))
+      (λ q. let (d, e) = and-true (declares p t l) _ q in untrue (sym e ∙ h t k d)))
 
   pub obeys-so : obeys p ≡ true → Obeys p
   unfolding obeys spareObeys Each
   obeys-so e =
       let (a, (b, (tasks, (locks, (spare, _))))) = all-so _ e in
-      let (noBase, (noUses, (noCeiling, (noLimit, _)))) = all-so _ spare in
+      let (noBase, (noMaximum, (noUses, (noCeiling, (noLimit, _))))) = all-so _ spare in
       record {
         tasks = not-true (countFault 0 (p .tasks)) a;
         locks = not-true (countFault 1 (p .locks)) b;
-        bases = λ t h. not-true (taskFault (at (p .base) t) 0) (task tasks t h .0);
+        bases = λ t h. not-true (taskFault (at (p .base) t) (at (p .maximum) t)) (task tasks t h .0);
         baseBytes = λ t. ⊎-elim (λ h. ltb-true (at (p .base) t) (2 ^ 8) (task tasks t h .1)) (λ h. omega (arith, spare-at (p .tasks) (p .base) noBase t h))
             (lt-or-le t (p .tasks));
+        maximumBytes = λ t. ⊎-elim (λ h. ltb-true (at (p .maximum) t) (2 ^ 8) (task tasks t h .2))
+            (λ h. omega (arith, spare-at (p .tasks) (p .maximum) noMaximum t h)) (lt-or-le t (p .tasks));
         sections = λ l h. not-true (lockFault (at (p .ceiling) l) 0 (at (p .limit) l)) (lock locks l h .0);
         ceilingBytes = λ l. ⊎-elim (λ h. ltb-true (at (p .ceiling) l) (2 ^ 8) (lock locks l h .1))
             (λ h. omega (arith, spare-at (p .locks) (p .ceiling) noCeiling l h)) (lt-or-le l (p .locks));
         limitBytes = λ l. ⊎-elim (λ h. ltb-true (at (p .limit) l) (2 ^ 16) (lock locks l h .2)) (λ h. omega (arith, spare-at (p .locks) (p .limit) noLimit l h))
             (lt-or-le l (p .locks));
-        uses = λ t h. ltb-true (at (p .uses) t) (2 ^ p .locks) (task tasks t h .2);
+        uses = λ t h. ltb-true (at (p .uses) t) (2 ^ p .locks) (task tasks t h .3);
         ceilings = λ l h. not-true (ceilingFault p l) (lock locks l h .3);
-        noTask = λ t h. (spare-at (p .tasks) (p .base) noBase t h, spare-at (p .tasks) (p .uses) noUses t h);
+        maxima = λ t l h k d. above-so t l h d (not-true (aboveFault p l) (lock locks l k .4));
+        noTask = λ t h. (
+          spare-at (p .tasks) (p .base) noBase t h,
+          spare-at (p .tasks) (p .maximum) noMaximum t h,
+          spare-at (p .tasks) (p .uses) noUses t h,
+        );
         noLock = λ l h. (spare-at (p .locks) (p .ceiling) noCeiling l h, spare-at (p .locks) (p .limit) noLimit l h);
       }
     where
-      task : every (taskObeys p) (p .tasks) ≡ true → (t : ℕ) → t < p .tasks
-          → (not (taskFault (at (p .base) t) 0) ≡ true) × (ltb (at (p .base) t) (2 ^ 8) ≡ true) × (ltb (at (p .uses) t) (2 ^ p .locks) ≡ true)
+      task : every (taskObeys p) (p .tasks) ≡ true → (t : ℕ) → t < p .tasks → Task t
       task e t h = task-parts t (every-true (taskObeys p) (p .tasks) e t h)
 
-      lock : every (lockObeys p) (p .locks) ≡ true → (l : ℕ) → l < p .locks
-          → (not (lockFault (at (p .ceiling) l) 0 (at (p .limit) l)) ≡ true) × (ltb (at (p .ceiling) l) (2 ^ 8) ≡ true)
-          × (ltb (at (p .limit) l) (2 ^ 16) ≡ true) × (not (ceilingFault p l) ≡ true)
+      lock : every (lockObeys p) (p .locks) ≡ true → (l : ℕ) → l < p .locks → Lock l
       lock e l h = lock-parts l (every-true (lockObeys p) (p .locks) e l h)
 
   pub so-obeys : Obeys p → obeys p ≡ true
@@ -83,18 +105,27 @@ module _ (p : Plan) where
     (
       false-not _ (O .locks),
       (
-        true-every (taskObeys p) (p .tasks) (λ t h. so-all _ (false-not _ (O .bases t h), (lt-ltb _ _ (O .baseBytes t), (lt-ltb _ _ (O .uses t h), tt)))),
+        true-every (taskObeys p) (p .tasks) (λ t h. so-all _ (
+          false-not _ (O .bases t h),
+          (lt-ltb _ _ (O .baseBytes t), (lt-ltb _ _ (O .maximumBytes t), (lt-ltb _ _ (O .uses t h), tt))),
+        )),
         (
           true-every (lockObeys p) (p .locks) (λ l h. so-all _ (
             false-not _ (O .sections l h),
-            (lt-ltb _ _ (O .ceilingBytes l), (lt-ltb _ _ (O .limitBytes l), (false-not _ (O .ceilings l h), tt))),
+            (
+              lt-ltb _ _ (O .ceilingBytes l),
+              (lt-ltb _ _ (O .limitBytes l), (false-not _ (O .ceilings l h), (false-not _ (so-above l (λ t k d. O .maxima t l k h d)), tt))),
+            ),
           )),
           (
             so-all _ (
               at-spare (p .tasks) (p .base) (λ t h. O .noTask t h .0),
               (
-                at-spare (p .tasks) (p .uses) (λ t h. O .noTask t h .1),
-                (at-spare (p .locks) (p .ceiling) (λ l h. O .noLock l h .0), (at-spare (p .locks) (p .limit) (λ l h. O .noLock l h .1), tt)),
+                at-spare (p .tasks) (p .maximum) (λ t h. O .noTask t h .1),
+                (
+                  at-spare (p .tasks) (p .uses) (λ t h. O .noTask t h .2),
+                  (at-spare (p .locks) (p .ceiling) (λ l h. O .noLock l h .0), (at-spare (p .locks) (p .limit) (λ l h. O .noLock l h .1), tt)),
+                ),
               ),
             ),
             tt,

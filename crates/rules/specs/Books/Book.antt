@@ -1,4 +1,4 @@
--- RULES 4 and 5.2 to 5.8: the bytes of a book, its contents and its bodies, and refusals 1 to 9 in order. Assumes nothing.
+-- RULES 4 and 5.2 to 5.8: the bytes of a book, its contents and its bodies, and refusals 1 to 7, 24, 8 and 9 in order. Assumes nothing.
 use mathlib.Core.Bool.{Bool, not, _||_}
 use mathlib.Core.List.{List, [], _∷_, _++_}
 use Prim.Native.Nat.{ℕ, zero, suc, _+_, _*_, _/_}
@@ -122,7 +122,7 @@ eventChecks b room =
     ∷ (record { refusal = ShortRows; first = 0; count = 1; fault = λ _. ltb room (countAt b 3 * 4) })
     ∷ []
 
--- RULES 5.2: 1 to 9 in order, each at its first offender
+-- RULES 5.2: 1 to 7, 24, 8 and 9 in order, each at its first offender
 unfoldable pub checkOf : List ℕ → ℕ → Verdict
 checkOf b room = firstFault (contentsChecks b ++ (loadChecks (tasksOf b) (locksOf b) (usesOf b) ++ eventChecks b room))
 

@@ -1,4 +1,4 @@
--- RULES 6.5, 6.6: a book that is written from its records into a lent buffer: 2, 4 to 8 and 23 in order, or the book's bytes. Assumes nothing.
+-- RULES 6.5, 6.6: a book that is written from its records into a lent buffer: 2, 4 to 7, 24, 8 and 23 in order, or the book's bytes. Assumes nothing.
 use mathlib.Core.List.{List, [], _∷_, _++_}
 use Prim.Native.Nat.{ℕ}
 use lib.Dec.{eqb, ltb}
@@ -21,7 +21,7 @@ countOf n m u k e = if eqb e 0 then n else if eqb e 1 then m else if eqb e 2 the
 abbrev pub countsOf : (tasks locks uses events : List ℕ) → ℕ → ℕ
 countsOf tasks locks uses events e = countOf (length tasks) (length locks) (length uses) (length events) e
 
--- what is asked of the records of a whole book: 2 (the entry, 1 to 4), those of its plan (4 to 7), 8 (the event)
+-- what is asked of the records of a whole book: 2 (the entry, 1 to 4), those of its plan (4 to 7, 24), 8 (the event)
 unfoldable pub wholeChecks : (tasks locks uses events : List ℕ) → List Check
 wholeChecks tasks locks uses events =
     countCheck (countsOf tasks locks uses events)

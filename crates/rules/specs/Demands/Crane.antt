@@ -1,5 +1,5 @@
--- RULES 18.1, 18.2, 18.6 to 18.8: the crane plan and its runs P1 to P12, one for the calls, by both protocols, and the plan with other users, as one table
--- under one claim. Assumes nothing.
+-- RULES 18.1, 18.2, 18.6 to 18.8 and 18.10: the crane plan and its runs P1 to P12, one for the calls, by both protocols, the plan with other users and other
+-- maxima, and the kernel's cut, as one table under one claim. Assumes nothing.
 use mathlib.Core.Bool.{Bool, true, false, _&&_}
 use mathlib.Core.List.{List, [], _∷_, _++_}
 use Prim.Native.Nat.{ℕ, suc}
@@ -12,7 +12,8 @@ use Rattle.rules.specs.Numbers.Answer.{answerNumber, verdictNumber, verd
 use Rattle.rules.specs.Books.Event.{eventFault, eventOf, numberFault}
 use Rattle.rules.specs.Numbers.Mask.{hasBit, withBit}
 use Rattle.rules.specs.Books.Plan.{most, countFault, taskFault, lockFault, declares, users, usersBase, usersFault, ceilingFault}
-use Rattle.rules.specs.Books.Load.{taskFaultAt, lockFaultAt, countFaultOf, useFault, masksOf, planOf, recordChecks, loadChecks, loadedAs, loadOf}
+use Rattle.rules.specs.Books.Plan.{maximumFault, aboveFault}
+use Rattle.rules.specs.Books.Load.{taskFaultAt, lockFaultAt, countFaultOf, useFault, useAbove, masksOf, planOf, recordChecks, loadChecks, loadedAs, loadOf}
 use Rattle.rules.specs.Books.Book.{sizeOf, bodyAt, layoutFault, contentsChecks, eventChecks, checkOf}
 use Rattle.rules.specs.Books.Bytes.{wordBytes, longBytes, bookOf}
 use Rattle.rules.specs.Books.Write.{wholeChecks, writeChecks, wroteAs, writeOf}
@@ -25,7 +26,8 @@ use Rattle.rules.specs.Schedulers.EventRefusals.{acquireOrder, unlockOrd
 use Rattle.rules.specs.Schedulers.FiguresAfter.{differs, eagerCalls, charged, delayed, figuresAfter}
 use Rattle.rules.specs.Schedulers.Eager.{runningOf, settle, eagerTest, eagerStep}
 use Rattle.rules.specs.Schedulers.Protocol.{secondWord}
-use Rattle.rules.specs.Schedulers.Lazy.{callsFor, runsOn, switched, stays, afterRelease, afterAcquire, restored, afterUnlock, wordsAfter, lazyCall}
+use Rattle.rules.specs.Schedulers.Lazy.{Words, callsFor, cutTo, entering, runsOn, switched, stays, afterRelease, afterAcquire}
+use Rattle.rules.specs.Schedulers.Lazy.{restored, leaves, afterUnlock, wordsAfter, lazyCall}
 use Rattle.rules.specs.Soundness.Sound.{keptOf, savedOf, ownerOf}
 use Rattle.rules.specs.Soundness.SoundTest.{taskObeys, lockObeys, spareObeys, obeys, rowTest, ownTest, numberNew}
 use Rattle.rules.specs.Soundness.SoundTest.{numberTest, taskTest, lockTest, runsTest, secondTest, headTest, spareTest, soundTest}
@@ -43,9 +45,10 @@ use Rattle.rules.specs.declared.event.Event.the-variants.{Release, Acqui
 use Rattle.rules.specs.declared.answer.Answer.{Answer}
 use Rattle.rules.specs.declared.answer.Verdict.{Verdict}
 
--- RULES 18.1: the bases of four tasks; the limit and ceiling of two locks; the lock and task of four uses; and the events of P1: amount, id and kind
+-- RULES 18.1: the maximum and base of four tasks; the limit and ceiling of two locks; the lock and task of four uses; and the events of P1: amount, id and
+-- kind
 taskNumbers : List ℕ
-taskNumbers = 1 ∷ 3 ∷ 5 ∷ 7 ∷ []
+taskNumbers = 0x0501 ∷ 0x0503 ∷ 0x0505 ∷ 0x0707 ∷ []
 
 lockNumbers : List ℕ
 lockNumbers = 0x4_0005 ∷ 0xa_0003 ∷ []
@@ -66,7 +69,7 @@ book =
     ∷ 2 ∷ 0 ∷ 2 ∷ 0 ∷ 40 ∷ 0 ∷ 0 ∷ 0
     ∷ 3 ∷ 0 ∷ 4 ∷ 0 ∷ 48 ∷ 0 ∷ 0 ∷ 0
     ∷ 4 ∷ 0 ∷ 7 ∷ 0 ∷ 56 ∷ 0 ∷ 0 ∷ 0
-    ∷ 1 ∷ 0 ∷ 3 ∷ 0 ∷ 5 ∷ 0 ∷ 7 ∷ 0
+    ∷ 1 ∷ 5 ∷ 3 ∷ 5 ∷ 5 ∷ 5 ∷ 7 ∷ 7
     ∷ 5 ∷ 0 ∷ 4 ∷ 0 ∷ 3 ∷ 0 ∷ 10 ∷ 0
     ∷ 0 ∷ 0 ∷ 0 ∷ 1 ∷ 1 ∷ 1 ∷ 2 ∷ 0
     ∷ 1 ∷ 0 ∷ 0 ∷ 0
@@ -89,8 +92,13 @@ data Case : Type 0 where
   replay : Protocol → List ℕ → List ℕ → List ℕ → Case
   -- the plan with events as numbers, written into so many bytes of 7: the number, the place and the length, and the bytes
   write : List ℕ → ℕ → List ℕ → List ℕ → Case
-  -- the plan with these uses: the number and the place that its load, the check of its book and the writer give, and the number of a tick in a fresh state
-  withUses : List ℕ → ℕ → ℕ → ℕ → Case
+  -- the crane's locks with these tasks, uses and events: the number and the place that a load of the plan, the check of the book and the writer give, and the
+  -- number of a tick in a fresh state
+  withPlan : (tasks uses : List ℕ) → ℕ → ℕ → ℕ → Case
+  withBook : (tasks uses events : List ℕ) → ℕ → ℕ → Case
+  -- words that no rule gives, so that there is something to cut: task 0, of maximum 5, runs with this user word, second word and saved word, and task 1 waits
+  -- at 3. Who runs after an event, the user and the second word (by the first protocol the last of them), the lazy calls, and what is kept for the four tasks
+  words : (user second saved : ℕ) → Event → List ℕ → ℕ → Case
 
 -- the end: the running task, the user and the second word and the lazy calls; and the eager calls and the delays of the four tasks
 endOf : State → List ℕ
@@ -131,6 +139,30 @@ ranRight : Protocol → List Event → List (List ℕ) → List ℕ → List ℕ
 ranRight pr es rows end rest =
     sames pr (rowsOf pr freshOf es) rows && same (endOf (lazyAt pr crane es (length es))) (rowBy pr end ++ rest) && every (agree pr es) (suc (length es))
 
+-- a verdict has this number and place
+given : ℕ → ℕ → Verdict → Bool
+given number place v = same (verdictNumber v ∷ verdictPlace v ∷ []) (number ∷ place ∷ [])
+
+bookRight : (tasks uses events : List ℕ) → ℕ → ℕ → Bool
+bookRight tasks uses events number place =
+    given number place (checkOf (bookOf tasks lockNumbers uses events) 28) && given number place (writeOf tasks lockNumbers uses events (replicate 84 7) .verdict)
+
+wordsWith : (user second saved : ℕ) → Words
+wordsWith user second saved =
+    record {
+      running = 0;
+      user = user;
+      next = second;
+      lazy = 0;
+      kept = 0 ∷ 3 ∷ 0 ∷ 0 ∷ [];
+      saved = saved ∷ 0 ∷ 0 ∷ 0 ∷ [];
+      owner = 1 ∷ 0 ∷ [];
+    }
+
+wordsRight : Protocol → Words → Event → List ℕ
+wordsRight pr w e =
+    let v = wordsAfter pr crane (1 ∷ 2 ∷ 3 ∷ 3 ∷ []) w e in v .running ∷ v .user ∷ v .next ∷ v .lazy ∷ v .kept
+
 right : Case → Bool
 right (run es rows end rest) = ranRight Second es rows end rest && ranRight First es rows end rest
 right (bounds bs) = same (tabulate 4 (boundOf crane)) bs
@@ -139,11 +171,13 @@ right (replay pr b rows end) =
 right (write events room answer bytes) =
     let w = writeOf taskNumbers lockNumbers useNumbers events (replicate room 7) in
     same (verdictNumber (w .verdict) ∷ verdictPlace (w .verdict) ∷ w .length ∷ []) answer && same (w .bytes) bytes
-right (withUses uses number place tick) =
-    let given : Verdict → Bool = λ v. same (verdictNumber v ∷ verdictPlace v ∷ []) (number ∷ place ∷ []) in
-    given (loadOf taskNumbers lockNumbers uses .verdict) && given (checkOf (bookOf taskNumbers lockNumbers uses eventNumbers) 28)
-    && given (writeOf taskNumbers lockNumbers uses eventNumbers (replicate 84 7) .verdict)
-    && eqb (answerNumber (stepOf Second (planOf taskNumbers lockNumbers uses) freshOf Tick .answer)) tick
+right (withPlan tasks uses number place tick) =
+    given number place (loadOf tasks lockNumbers uses .verdict) && bookRight tasks uses eventNumbers number place
+    && eqb (answerNumber (stepOf Second (planOf tasks lockNumbers uses) freshOf Tick .answer)) tick
+right (withBook tasks uses events number place) = bookRight tasks uses events number place
+right (words user second saved e after kernelWord) =
+    same (wordsRight Second (wordsWith user second saved) e) after
+    && same (wordsRight First (wordsWith user second saved) e) (take 2 after ++ kernelWord ∷ drop 3 after)
 
 all : List Case → Bool
 all [] = true
@@ -219,25 +253,51 @@ cases =
     (255 ∷ 0 ∷ 0 ∷ 0 ∷ 0 ∷ 1 ∷ []) (2 ∷ 0 ∷ 0 ∷ 0 ∷ 0 ∷ [])
     -- RULES 18.8: two users for each lock; lock 0 without any, with task 2 alone, whose base is the ceiling, and with task 0 alone; the same of lock 1, with
     -- task 1 alone and with task 0 alone
-    ∷ withUses useNumbers 0 0 0
-    ∷ withUses (0x0100 ∷ 0x0101 ∷ []) 7 0 10
-    ∷ withUses (0x0100 ∷ 0x0101 ∷ 0x0002 ∷ []) 7 0 10
-    ∷ withUses (0x0000 ∷ 0x0100 ∷ 0x0101 ∷ []) 7 0 10
-    ∷ withUses (0x0000 ∷ 0x0002 ∷ []) 7 1 10
-    ∷ withUses (0x0000 ∷ 0x0101 ∷ 0x0002 ∷ []) 7 1 10
-    ∷ withUses (0x0000 ∷ 0x0100 ∷ 0x0002 ∷ []) 7 1 10
+    ∷ withPlan taskNumbers useNumbers 0 0 0
+    ∷ withPlan taskNumbers (0x0100 ∷ 0x0101 ∷ []) 7 0 10
+    ∷ withPlan taskNumbers (0x0100 ∷ 0x0101 ∷ 0x0002 ∷ []) 7 0 10
+    ∷ withPlan taskNumbers (0x0000 ∷ 0x0100 ∷ 0x0101 ∷ []) 7 0 10
+    ∷ withPlan taskNumbers (0x0000 ∷ 0x0002 ∷ []) 7 1 10
+    ∷ withPlan taskNumbers (0x0000 ∷ 0x0101 ∷ 0x0002 ∷ []) 7 1 10
+    ∷ withPlan taskNumbers (0x0000 ∷ 0x0100 ∷ 0x0002 ∷ []) 7 1 10
+    -- RULES 18.10: the least maxima that pass, and the greatest; task 3's one below its base. Then lock 0, of ceiling 5, above the maximum 4 of a user: of task
+    -- 0, by the first use; of task 1, which may take it too, by a middle one; and of task 3, by the last one, with other bases
+    ∷ withPlan (0x0501 ∷ 0x0303 ∷ 0x0505 ∷ 0x0707 ∷ []) useNumbers 0 0 0
+    ∷ withPlan (0xff01 ∷ 0xff03 ∷ 0xff05 ∷ 0xff07 ∷ []) useNumbers 0 0 0
+    ∷ withPlan (0x0501 ∷ 0x0503 ∷ 0x0505 ∷ 0x0607 ∷ []) useNumbers 4 3 10
+    ∷ withPlan (0x0401 ∷ 0x0503 ∷ 0x0505 ∷ 0x0707 ∷ []) useNumbers 24 0 10
+    ∷ withPlan (0x0501 ∷ 0x0403 ∷ 0x0505 ∷ 0x0707 ∷ []) (0x0000 ∷ 0x0100 ∷ 0x0001 ∷ 0x0101 ∷ 0x0002 ∷ []) 24 2 10
+    ∷ withPlan (0x0503 ∷ 0x0301 ∷ 0x0505 ∷ 0x0403 ∷ []) (0x0000 ∷ 0x0100 ∷ 0x0101 ∷ 0x0002 ∷ 0x0003 ∷ []) 24 4 10
+    -- 4 comes before it, and so does 7: lock 1 has one user; and it comes before 8: an event of no kind
+    ∷ withPlan (0x0401 ∷ 0x0203 ∷ 0x0505 ∷ 0x0707 ∷ []) useNumbers 4 1 10
+    ∷ withPlan (0x0401 ∷ 0x0503 ∷ 0x0505 ∷ 0x0707 ∷ []) (0x0000 ∷ 0x0101 ∷ 0x0002 ∷ []) 7 1 10
+    ∷ withBook (0x0401 ∷ 0x0503 ∷ 0x0505 ∷ 0x0707 ∷ []) useNumbers (0x0007 ∷ []) 24 0
+    -- RULES 9.11: a tick cuts 9 to 5, and leaves 5; a newcomer of base 5 does not switch, and one of base 7 does, so that 5 is kept; a finish switches as ever;
+    -- an unlock that calls with 8 keeps 5, so that task 0 runs on with it
+    ∷ words 9 3 1 Tick (0 ∷ 5 ∷ 3 ∷ 0 ∷ 0 ∷ 3 ∷ 0 ∷ 0 ∷ []) 5
+    ∷ words 5 3 1 Tick (0 ∷ 5 ∷ 3 ∷ 0 ∷ 0 ∷ 3 ∷ 0 ∷ 0 ∷ []) 5
+    ∷ words 9 3 1 (Release 2) (0 ∷ 5 ∷ 5 ∷ 0 ∷ 0 ∷ 3 ∷ 5 ∷ 0 ∷ []) 5
+    ∷ words 9 3 1 (Release 3) (3 ∷ 7 ∷ 5 ∷ 0 ∷ 5 ∷ 3 ∷ 0 ∷ 0 ∷ []) 7
+    ∷ words 9 3 1 Finish (1 ∷ 3 ∷ 0 ∷ 0 ∷ 0 ∷ 0 ∷ 0 ∷ 0 ∷ []) 3
+    ∷ words 5 9 8 (Unlock 0) (0 ∷ 5 ∷ 3 ∷ 1 ∷ 0 ∷ 3 ∷ 0 ∷ 0 ∷ []) 5
+    -- an unlock that does not call is no entry and cuts nothing, nor do an acquire and work
+    ∷ words 5 8 8 (Unlock 0) (0 ∷ 8 ∷ 8 ∷ 0 ∷ 0 ∷ 3 ∷ 0 ∷ 0 ∷ []) 8
+    ∷ words 9 3 1 (Acquire 1) (0 ∷ 9 ∷ 3 ∷ 0 ∷ 0 ∷ 3 ∷ 0 ∷ 0 ∷ []) 3
+    ∷ words 9 3 1 (Work 1) (0 ∷ 9 ∷ 3 ∷ 0 ∷ 0 ∷ 3 ∷ 0 ∷ 0 ∷ []) 3
     ∷ []
 
 table : T (all cases)
-unfolding taskNumbers lockNumbers useNumbers eventNumbers crane book endOf rowBy rowOf rowsOf same sames agree ranRight right all cases
+unfolding taskNumbers lockNumbers useNumbers eventNumbers crane book endOf rowBy rowOf rowsOf same sames agree ranRight given bookRight wordsWith wordsRight
+    right all cases
     if_then_else_ allTrue every any count greatest firstFrom from renewed zeros numberOf firstTrue found firstFault answerNumber verdictNumber verdictPlace
     eventFault eventOf numberFault hasBit withBit
-    most countFault taskFault lockFault declares users usersBase usersFault ceilingFault taskFaultAt lockFaultAt countFaultOf useFault masksOf planOf
+    most countFault taskFault lockFault declares users usersBase usersFault ceilingFault maximumFault aboveFault taskFaultAt lockFaultAt countFaultOf
+    useFault useAbove masksOf planOf
     recordChecks loadChecks loadedAs loadOf sizeOf bodyAt layoutFault contentsChecks eventChecks checkOf
     wordBytes longBytes bookOf wholeChecks writeChecks wroteAs writeOf
     has priority saves holds priorityOf rankOf earlier earliest elected elsewhere notNewest pastLimit testsOf releaseOrder acquireOrder unlockOrder workOrder
     finishOrder refusalOf differs eagerCalls charged delayed figuresAfter runningOf settle eagerTest eagerStep
-    secondWord callsFor runsOn switched stays afterRelease afterAcquire restored afterUnlock wordsAfter lazyCall keptOf savedOf ownerOf
+    secondWord callsFor cutTo entering runsOn switched stays afterRelease afterAcquire restored leaves afterUnlock wordsAfter lazyCall keptOf savedOf ownerOf
     taskObeys lockObeys spareObeys obeys rowTest ownTest numberNew numberTest taskTest lockTest runsTest secondTest headTest spareTest soundTest
     afterOf answered actOf stepOf withRow onward runFrom replayAs replayOf eagerAt lazyAt lowerAt lowerUser mayBlock limitIf longestLimit
 table = tt

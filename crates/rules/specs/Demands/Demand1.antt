@@ -50,7 +50,7 @@ pub record StepRefuses (pr : Protocol) (p : Plan) (s : State) (e : Event) (r : S
   pub same : 0 < answerNumber (r .answer) → r .state ≡ s
   pub quiet : 0 < answerNumber (r .answer) → answerCalls (r .answer) ≡ 0
 
--- ---- 1 to 9, of records and of books
+-- ---- 1 to 9 and 24, of records and of books
 
 -- a number and a place are given exactly where the check of that number finds its first offender there and those before it find none; and 0 exactly where
 -- no check finds one
@@ -59,18 +59,18 @@ pub record Judged (checks : List Check) (verdict : Verdict) : Type 0 where
       → ((verdictNumber verdict ≡ numberOf why) × (verdictPlace verdict ≡ place)) ↔ Offended why place checks
   pub passes : (verdictNumber verdict ≡ 0) ↔ ((why : Refusal) (place : ℕ) → Offended why place checks → ⊥)
 
--- 2 and 4 to 7: the load of a plan's records
+-- 2, 4 to 7 and 24: the load of a plan's records
 pub record LoadRefuses (tasks locks uses : List ℕ) (r : Loaded) : Type 0 where
   pub judged : Judged (loadChecks tasks locks uses) (r .verdict)
   -- a plan that is loaded obeys the rules, and beside a refusal there is a blank one
   pub obeys : verdictNumber (r .verdict) ≡ 0 → Obeys (r .plan)
   pub blank : 0 < verdictNumber (r .verdict) → r .plan ≡ blankPlan
 
--- a check for each of 1 to 9; the contents have the counts already, so the records' own check of them is left out
+-- a check for each of 1 to 9 and 24; the contents have the counts already, so the records' own check of them is left out
 abbrev pub bookChecks : List ℕ → ℕ → List Check
 bookChecks b room = contentsChecks b ++ drop 1 (loadChecks (tasksOf b) (locksOf b) (usesOf b) ++ eventChecks b room)
 
--- 1 to 9: the check of a book that is to be replayed with so much row space
+-- 1 to 9 and 24: the check of a book that is to be replayed with so much row space
 pub record BookRefuses (b : List ℕ) (room : ℕ) (r : Checked) : Type 0 where
   pub judged : Judged (bookChecks b room) (r .verdict)
   pub obeys : verdictNumber (r .verdict) ≡ 0 → Obeys (r .plan)
@@ -86,7 +86,7 @@ pub record Untouched (rows : List ℕ) (verdict : Verdict) (ran : Ran) : Type 0 
 abbrev pub ReplayRefuses : List ℕ → List ℕ → Ran → Type 0
 ReplayRefuses b rows ran = 0 < verdictNumber (checkOf b (length rows)) → Untouched rows (checkOf b (length rows)) ran
 
--- ---- 2, 4 to 8 and 23, of a book that is to be written
+-- ---- 2, 4 to 7, 24, 8 and 23, of a book that is to be written
 
 -- a check for each of them; the counts are checked with the events', so the plan's own check of them is left out
 abbrev pub writerChecks : (tasks locks uses events : List ℕ) → ℕ → List Check

@@ -1,4 +1,4 @@
--- RULES 14.2, 14.3 and 14.6, said of what the replay of a book returns: its rows, its verdict and its state. Assumes nothing.
+-- RULES 14.2, 14.3, 14.6 and 14.7, said of what the replay of a book returns: its rows, its verdict and its state. Assumes nothing.
 use mathlib.Core.Path.{_≡_}
 use mathlib.Core.Logic.{_≢_, _↔_}
 use mathlib.Core.Bool.{true}
@@ -32,8 +32,10 @@ pub record RowAt (pr : Protocol) (p : Plan) (es : List Event) (k : ℕ) (task us
   pub runs : task ≡ runnerAt p es (suc k)
   pub foremost : task ≢ nobody → Foremost p (eagerAt p es (suc k)) task
   pub idle : task ≡ nobody → (x : ℕ) → at (eagerAt p es (suc k) .released) x ≡ 0
-  -- the user word is its priority, 0 with nobody; the second word is at least that of every other released task, and at most the user word
+  -- the user word is its priority, 0 with nobody, and at most its maximum; the second word is at least that of every other released task, and at most the user
+  -- word
   pub own : user ≡ rankOf p (eagerAt p es (suc k)) (runnerAt p es (suc k))
+  pub below : user ≤ at (p .maximum) task
   pub covers : Covers p (eagerAt p es (suc k)) (runnerAt p es (suc k)) next
   pub atMost : next ≤ user
   pub word : OwnWord pr p es (suc k) next
@@ -94,7 +96,7 @@ pub record BookReaches (pr : Protocol) (b : List ℕ) (t : ℕ) : Type 0 where
 
 -- what is promised of the replay of a book b with row space `rows`
 pub record Promised (pr : Protocol) (b rows : List ℕ) : Type 0 where
-  -- where none of 1 to 9 refuses it (demand 1), its events run; the state says how many were accepted
+  -- where none of 1 to 9 and 24 refuses it (demand 1), its events run; the state says how many were accepted
   pub ran : verdictNumber (checkOf b (length rows)) ≡ 0
       → RanUpTo pr (planIn b) (eventsOf b) rows (replayOf pr b rows) (replayOf pr b rows .state .head .accepted)
   -- and the bound of every task of its plan is reached

@@ -17,7 +17,7 @@ numberOf Refusal.ShortBook = 1
 numberOf Refusal.WrongCount = 2
 -- an entry's kind or offset, or the place where the last body ends, is another than it should be
 numberOf Refusal.WrongLayout = 3
--- a task's base is 0, or its byte 1 is not
+-- a task's base is 0, or its maximum is below its base
 numberOf Refusal.WrongTask = 4
 -- a lock's ceiling or limit is 0, or its byte 1 is not
 numberOf Refusal.WrongLock = 5
@@ -57,6 +57,8 @@ numberOf Refusal.PastLimit = 21
 numberOf Refusal.StillOpen = 22
 -- the lent buffer is shorter than the book that is to be written
 numberOf Refusal.ShortBuffer = 23
+-- a task may take a lock whose ceiling is above the task's maximum
+numberOf Refusal.AboveMaximum = 24
 
 -- tests in order, each with its refusal: the first that holds refuses
 unfoldable pub firstTrue : List (Bool × Refusal) → Tested

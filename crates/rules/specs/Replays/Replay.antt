@@ -1,4 +1,4 @@
--- RULES 12.2, 12.3: the replay of a book: 1 to 9 first, and then its events from a fresh start. Assumes nothing.
+-- RULES 12.2, 12.3: the replay of a book: 1 to 9 and 24 first, and then its events from a fresh start. Assumes nothing.
 use mathlib.Core.List.{List}
 use Prim.Native.Nat.{ℕ}
 use lib.ListN.{length}
@@ -11,7 +11,7 @@ use Rattle.rules.specs.declared.event.Event.{Event}
 use Rattle.rules.specs.declared.answer.Verdict.{Verdict}
 use Rattle.rules.specs.declared.answer.Replayed.{Replayed}
 
--- RULES 5.8: beside a refusal of 1 to 9 there is no state but the fresh one, and the rows are as they were
+-- RULES 5.8: beside a refusal of 1 to 9 or 24 there is no state but the fresh one, and the rows are as they were
 unfoldable pub replayAs : Protocol → Verdict → Plan → List Event → List ℕ → Ran
 replayAs pr Verdict.Passed p es rows = runFrom pr p es 0 freshOf rows
 replayAs pr (Verdict.Refused why place) p es rows = record { verdict = Verdict.Refused why place; state = freshOf; rows = rows }

@@ -1,5 +1,5 @@
--- RULES 9.4 to 9.10 and 10.1: the words of the lazy scheduler, its kept and saved priorities, its switch and its calls. The protocols differ in what an
--- entry to the kernel leaves in the second word (`secondWord`), and in nothing else. Assumes nothing.
+-- RULES 9.4 to 9.11 and 10.1: the words of the lazy scheduler, its kept and saved priorities, its switch, its calls and its cut. The protocols differ in what
+-- an entry to the kernel leaves in the second word (`secondWord`), and in nothing else. Assumes nothing.
 use mathlib.Core.Path.{_≡_}
 use mathlib.Core.Bool.{Bool, true, false}
 use mathlib.Core.List.{List}
@@ -73,6 +73,23 @@ stateOf f w =
 unfoldable pub callsFor : ℕ → ℕ → Bool
 callsFor back next = ltb back next
 
+-- RULES 9.11: what the kernel makes of a user word, by the maximum of the task that runs: a word above it is cut back to it
+unfoldable pub cutTo : (maximum user : ℕ) → ℕ
+cutTo maximum user = if ltb maximum user then maximum else user
+
+-- an entry to the kernel starts so, before anything else
+unfoldable pub entering : (maximum : List ℕ) → Words → Words
+entering maximum w =
+    record {
+      running = w .running;
+      user = cutTo (at maximum (w .running)) (w .user);
+      next = w .next;
+      lazy = w .lazy;
+      kept = w .kept;
+      saved = w .saved;
+      owner = w .owner;
+    }
+
 -- the greatest priority that the kernel keeps for any of n tasks
 abbrev pub bestKept : List ℕ → ℕ → ℕ
 bestKept kept n = greatest (at kept) n
@@ -141,21 +158,27 @@ restored l calls w =
       owner = set (w .owner) l 0;
     }
 
--- RULES 9.6: lock l is given back, with one lazy call and a switch where the call's rule says so, and with neither elsewhere
-unfoldable pub afterUnlock : Protocol → ℕ → List ℕ → ℕ → Words → Words
-afterUnlock pr n released l w = if callsFor (backOf w) (w .next) then switched pr n released (set (w .kept) (w .running) (backOf w))
-    (restored l 1 w) else restored l 0 w
+-- the running task leaves with its word, and a switch follows
+unfoldable pub leaves : Protocol → ℕ → List ℕ → Words → Words
+leaves pr n released w = switched pr n released (set (w .kept) (w .running) (w .user)) w
 
--- the words after an accepted event; `released` are the release numbers after it
+-- RULES 9.6: lock l is given back, with one lazy call and a switch where the call's rule says so, and with neither elsewhere. The call is an entry, and finds
+-- the word that is put back
+unfoldable pub afterUnlock : Protocol → ℕ → (maximum released : List ℕ) → ℕ → Words → Words
+afterUnlock pr n maximum released l w =
+    if callsFor (backOf w) (w .next) then leaves pr n released (entering maximum (restored l 1 w)) else restored l 0 w
+
+-- the words after an accepted event; `released` are the release numbers after it. A release, a finish and a tick are entries
 unfoldable pub wordsAfter : Protocol → Plan → List ℕ → Words → Event → Words
-wordsAfter pr p released w (Release t) = afterRelease pr (p .tasks) released (set (w .kept) t (at (p .base) t)) (at (p .base) t) w
+wordsAfter pr p released w (Release t) =
+    afterRelease pr (p .tasks) released (set (w .kept) t (at (p .base) t)) (at (p .base) t) (entering (p .maximum) w)
 wordsAfter pr p released w (Acquire l) = afterAcquire l (at (p .ceiling) l) w
-wordsAfter pr p released w (Unlock l) = afterUnlock pr (p .tasks) released l w
+wordsAfter pr p released w (Unlock l) = afterUnlock pr (p .tasks) (p .maximum) released l w
 wordsAfter pr p released w (Work a) = w
 -- RULES 9.8: a finish switches, and nothing is kept for the task that is done
-wordsAfter pr p released w Finish = switched pr (p .tasks) released (set (w .kept) (w .running) 0) w
+wordsAfter pr p released w Finish = switched pr (p .tasks) released (set (w .kept) (w .running) 0) (entering (p .maximum) w)
 -- RULES 9.9: a tick is an entry and no more; in a sound state of the second protocol the next word is what it was
-wordsAfter pr p released w Tick = stays pr (p .tasks) (w .kept) w
+wordsAfter pr p released w Tick = stays pr (p .tasks) (w .kept) (entering (p .maximum) w)
 
 -- RULES 10.3: whether an accepted event enters the kernel. An unlock does where it calls
 unfoldable pub enters : (call : Bool) → Event → Bool

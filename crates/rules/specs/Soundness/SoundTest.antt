@@ -10,7 +10,7 @@ use Rattle.rules.specs.Numbers.Choice.{if_then_else_, allTrue}
 use Rattle.rules.specs.Numbers.Place.{at, every, greatest, zeros}
 use Rattle.rules.specs.Numbers.Row.{newest, under, has}
 use Rattle.rules.specs.Numbers.Mask.{hasBit}
-use Rattle.rules.specs.Books.Plan.{countFault, taskFault, lockFault, ceilingFault}
+use Rattle.rules.specs.Books.Plan.{countFault, taskFault, lockFault, ceilingFault, aboveFault}
 use Rattle.rules.specs.Schedulers.Figures.{Figures, figuresOf, rankOf}
 use Rattle.rules.specs.Schedulers.Lazy.{Words, wordsOf}
 use Rattle.rules.specs.Soundness.Sound.{keptOf, savedOf, ownerOf}
@@ -22,7 +22,13 @@ use Rattle.rules.specs.declared.state.State.{State}
 -- ---- the plan
 
 unfoldable pub taskObeys : Plan → ℕ → Bool
-taskObeys p t = allTrue (not (taskFault (at (p .base) t) 0) ∷ ltb (at (p .base) t) (2 ^ 8) ∷ ltb (at (p .uses) t) (2 ^ p .locks) ∷ [])
+taskObeys p t =
+    allTrue
+    (not (taskFault (at (p .base) t) (at (p .maximum) t))
+    ∷ ltb (at (p .base) t) (2 ^ 8)
+    ∷ ltb (at (p .maximum) t) (2 ^ 8)
+    ∷ ltb (at (p .uses) t) (2 ^ p .locks)
+    ∷ [])
 
 unfoldable pub lockObeys : Plan → ℕ → Bool
 lockObeys p l =
@@ -31,6 +37,7 @@ lockObeys p l =
     ∷ ltb (at (p .ceiling) l) (2 ^ 8)
     ∷ ltb (at (p .limit) l) (2 ^ 16)
     ∷ not (ceilingFault p l)
+    ∷ not (aboveFault p l)
     ∷ [])
 
 -- places past the last task and the last lock hold 0
@@ -38,6 +45,7 @@ unfoldable pub spareObeys : Plan → Bool
 spareObeys p =
     allTrue
     (zeros (drop (p .tasks) (p .base))
+    ∷ zeros (drop (p .tasks) (p .maximum))
     ∷ zeros (drop (p .tasks) (p .uses))
     ∷ zeros (drop (p .locks) (p .ceiling))
     ∷ zeros (drop (p .locks) (p .limit))

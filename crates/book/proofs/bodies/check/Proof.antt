@@ -1,4 +1,4 @@
--- `book::bodies::check` meets its contract. 4 to 7, then the events. Assumes nothing.
+-- `book::bodies::check` meets its contract. 4 to 7 and 24, then the events. Assumes nothing.
 use Rattle.book.proofs.Order.{refused-plan, passed-plan, plan-read}
 use borrow.Author.Needs.{needs}
 use Rattle.book.proofs.bodies.check.Statement.{statement}

@@ -167,18 +167,18 @@ module _ {M : Type 1} (𝓤 : URA M) (H : Heap 𝓤) (A : Atoms 𝓤) (W : Given
 
   -- ---- the call of `keep`, at the numbers n with the machine value u and the record t
   abbrev to-keep : Numbers → Val → TaskRecord → Keep 𝓤 H A mem run .Ghost
-  to-keep n u t = ((tt, tt, tt, (n, (t .base, (t .second, tt))), (u ∷ [], (vint w8 (t .base) ∷ [], (vint w8 (t .second) ∷ [], tt)))), tt)
+  to-keep n u t = ((tt, tt, tt, (n, (t .base, (t .maximum, tt))), (u ∷ [], (vint w8 (t .base) ∷ [], (vint w8 (t .maximum) ∷ [], tt)))), tt)
 
-  goes-keep : (n : Numbers) (u : Val) (t : TaskRecord) → Is N.the-row n (u ∷ []) → t .base < 2 ^ 8 → t .second < 2 ^ 8
+  goes-keep : (n : Numbers) (u : Val) (t : TaskRecord) → Is N.the-row n (u ∷ []) → t .base < 2 ^ 8 → t .maximum < 2 ^ 8
       → ent 𝓤 (emp 𝓤) (Keep 𝓤 H A mem run .pre (to-keep n u t))
   goes-keep n u t is gb gz =
-      qed W [] ∵ nothing ! $ owned ! u8 (Is u8) (uint-makes 𝓤 H A W w8) (t .second) _ (refl, gz) $ fjoin ! $
+      qed W [] ∵ nothing ! $ owned ! u8 (Is u8) (uint-makes 𝓤 H A W w8) (t .maximum) _ (refl, gz) $ fjoin ! $
       owned ! u8 (Is u8) (uint-makes 𝓤 H A W w8) (t .base) _ (refl, gb) $ fjoin ! $
       owned ! N.the-row (Is N.the-row) (LL.makes N.the-type N′.the-plain 𝓤 H A) n (u ∷ []) is $ fjoin ! $ nothing ! $ join ! $ frame ! $ done !
 
   keep-said : (n : Numbers) (t : TaskRecord) (r : Numbers) → ent 𝓤 (ensured 𝓤 H A keeps.ended (keeps.clauses 𝓤 H A mem run) tt
-      (n, (t .base, (t .second, tt))) tt r) (fact 𝓤 (r ≡ kept n (t .base) (t .second)))
-  keep-said n t r = exE 𝓤 _ (λ ws. snd∗ 𝓤 (sem 𝓤 H A (lasts keeps.ended tt (n, (t .base, (t .second, tt))) ws)) (fact 𝓤 (r ≡ kept n (t .base) (t .second))))
+      (n, (t .base, (t .maximum, tt))) tt r) (fact 𝓤 (r ≡ kept n (t .base) (t .maximum)))
+  keep-said n t r = exE 𝓤 _ (λ ws. snd∗ 𝓤 (sem 𝓤 H A (lasts keeps.ended tt (n, (t .base, (t .maximum, tt))) ws)) (fact 𝓤 (r ≡ kept n (t .base) (t .maximum))))
 
   module _ (𝓣 : Tables 𝓤 H) (known-none : Triple 𝓤 (𝓣 .C #device·numbers·none) (None 𝓤 H A mem run))
       (known-keep : Triple 𝓤 (𝓣 .C #device·numbers·keep) (Keep 𝓤 H A mem run)) (room : Room T.the-row (length ys)) where
@@ -241,9 +241,9 @@ module _ {M : Type 1} (𝓤 : URA M) (H : Heap 𝓤) (A : Atoms 𝓤) (W : Given
           (and-then ! (load ! (from ! (stop !)) (look ! 15 refl)) (and-then ! (load ! (from ! (fld ! refl (stop !))) (look-in ! 11 (sub ! 0 refl (whole !))))
           (and-then ! (load ! (from ! (fld ! refl (stop !))) (look-in ! 11 (sub ! 1 refl (whole !)))) (no-more !)))) (λ u′.
           use1 W (later (some (λ (r : Numbers). (‵ ftrue ⊛ ‵ (N.the-row .own r (u′ ∷ []))) ⊛ raw
-          (ensured 𝓤 H A keeps.ended (keeps.clauses 𝓤 H A mem run) tt (t .n, (e .base, (e .second, tt))) tt r)))) (id⊢ 𝓤 _) $ await ! tt $ pick ! (λ r.
-          split ! $ move ! (1 ∷ []) $ use1 W (raw (fact 𝓤 (r ≡ kept (t .n) (e .base) (e .second)))) (keep-said (t .n) e r) $
-          heard ! (r ≡ kept (t .n) (e .base) (e .second)) (λ is-kept. split ! $ Kit.drop ! $
+          (ensured 𝓤 H A keeps.ended (keeps.clauses 𝓤 H A mem run) tt (t .n, (e .base, (e .maximum, tt))) tt r)))) (id⊢ 𝓤 _) $ await ! tt $ pick ! (λ r.
+          split ! $ move ! (1 ∷ []) $ use1 W (raw (fact 𝓤 (r ≡ kept (t .n) (e .base) (e .maximum)))) (keep-said (t .n) e r) $
+          heard ! (r ≡ kept (t .n) (e .base) (e .maximum)) (λ is-kept. split ! $ Kit.drop ! $
           facts ! N.the-row (Is N.the-row) (shows 𝓤 H A N.the-row) r (u′ ∷ []) (λ is.
           land ! (from ! (stop !)) (store ! 14 refl (typed r u′ is)) $
           assigns-last ! (bin ! (load ! (from ! (stop !)) (look ! 12 refl)) (lit ! tt) (record { fits = fits1 })) (from ! (stop !))

@@ -8,10 +8,10 @@ use Rattle.plan.proofs.obey.locks_obey.Statement.{statement}
 use Rattle.plan.proofs.obey.locks_obey.Tie as tie
 
 abbrev Inv-loop : tie.InvT-loop
-Inv-loop n m base ceiling limit uses shared l₀ l = AllSoFar (lockBy n base ceiling limit uses) m l
+Inv-loop n m base maximum ceiling limit uses shared l₀ l = AllSoFar (lockBy n base maximum ceiling limit uses) m l
 
 abbrev μ-loop : tie.MeasureT-loop
-μ-loop n m base ceiling limit uses shared l₀ l = m - l
+μ-loop n m base maximum ceiling limit uses shared l₀ l = m - l
 
 pub locks-obey-spec : {M : Type 1} → statement M
 locks-obey-spec =

@@ -10,14 +10,14 @@ use Rattle.scheduler.proofs.run.turns.Statement.{statement}
 use Rattle.scheduler.proofs.run.turns.Tie as tie
 
 abbrev Inv-loop : tie.InvT-loop
-Inv-loop protocol n m base ceiling limit uses released₀ kept₀ delay₀ depth₀ takes₀ saved₀ units₀ owner₀ first body rows₀ c tree₀ ended₀ k₀
+Inv-loop protocol n m base maximum ceiling limit uses released₀ kept₀ delay₀ depth₀ takes₀ saved₀ units₀ owner₀ first body rows₀ c tree₀ ended₀ k₀
     released kept delay depth takes saved units owner rows tree ended k =
-    (Going protocol (planWith n m base ceiling limit uses) (eventOn first body) c
+    (Going protocol (planWith n m base maximum ceiling limit uses) (eventOn first body) c
     (stateWith (ended₀ .head) released₀ kept₀ delay₀ depth₀ takes₀ saved₀ units₀ owner₀) rows₀ k
     (endedAs ended released kept delay depth takes saved units owner rows)) × (tree ≡ tournamentOf n released kept)
 
 abbrev μ-loop : tie.MeasureT-loop
-μ-loop protocol n m base ceiling limit uses released₀ kept₀ delay₀ depth₀ takes₀ saved₀ units₀ owner₀ first body rows₀ c tree₀ ended₀ k₀
+μ-loop protocol n m base maximum ceiling limit uses released₀ kept₀ delay₀ depth₀ takes₀ saved₀ units₀ owner₀ first body rows₀ c tree₀ ended₀ k₀
     released kept delay depth takes saved units owner rows tree ended k = c - k
 
 -- the place where the turn begins, before its arguments and the tournament are lent: an array more is one step more

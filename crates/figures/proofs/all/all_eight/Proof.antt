@@ -1,13 +1,14 @@
--- `sound::all::all_six` meets its contract. Each test in its turn. Assumes nothing.
+-- `figures::all::all_eight` meets its contract. Each test in its turn. Assumes nothing.
 use borrow.Author.Tests.{not-true, not-false}
 use Rattle.rules.proofs.Numbers.Choice.{alls}
-use Rattle.sound.proofs.all.all_six.Statement.{statement}
-use Rattle.sound.proofs.all.all_six.Tie as tie
+use Rattle.figures.proofs.all.all_eight.Statement.{statement}
+use Rattle.figures.proofs.all.all_eight.Tie as tie
 
-pub all-six-spec : {M : Type 1} → statement M
-all-six-spec =
+pub all-eight-spec : {M : Type 1} → statement M
+all-eight-spec =
     tie.close
     (tie.spec
+    (λ c. search (alls, not-true, not-false) depth 12) (λ c. search (alls, not-true, not-false) depth 12)
     (λ c. search (alls, not-true, not-false) depth 12) (λ c. search (alls, not-true, not-false) depth 12)
     (λ c. search (alls, not-true, not-false) depth 12) (λ c. search (alls, not-true, not-false) depth 12)
     (λ c. search (alls, not-true, not-false) depth 12) (λ c. search (alls, not-true, not-false) depth 12))

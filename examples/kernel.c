@@ -13,7 +13,7 @@ struct event {
 };
 
 int main(void) {
-    const struct recorder_task tasks[] = {{1, 0}, {3, 0}, {5, 0}, {7, 0}};
+    const struct recorder_task tasks[] = {{1, 5}, {3, 5}, {5, 5}, {7, 7}}; /* base, maximum */
     const uint32_t locks[] = {5 + 4 * 65536, 3 + 10 * 65536};
     const uint16_t uses[] = {0 + 0 * 256, 0 + 1 * 256, 1 + 1 * 256, 2 + 0 * 256};
     struct recorder_load load = recorder_load_table(tasks, COUNT(tasks), locks, COUNT(locks), uses, COUNT(uses));

@@ -8,11 +8,12 @@
 #define COUNT(list) (sizeof(list) / sizeof(list)[0])
 
 /* A record is one number, its low byte first in the book. */
+#define TASK(base, maximum) ((uint16_t)((base) + (maximum) * 256))
 #define LOCK(ceiling, limit) ((uint32_t)(ceiling) + (uint32_t)(limit) * 65536)
 #define USE(task, lock) ((uint16_t)((task) + (lock) * 256))
 #define EVENT(kind, id, amount) ((uint32_t)(kind) + (uint32_t)(id) * 256 + (uint32_t)(amount) * 65536)
 
-static const uint16_t tasks[] = {1, 3, 5, 7}; /* their bases */
+static const uint16_t tasks[] = {TASK(1, 5), TASK(3, 5), TASK(5, 5), TASK(7, 7)};
 static const uint32_t locks[] = {LOCK(5, 4), LOCK(3, 10)};
 static const uint16_t uses[] = {USE(0, 0), USE(0, 1), USE(1, 1), USE(2, 0)};
 static const uint32_t events[] = {

@@ -3,8 +3,8 @@
  * A slice is passed as its address and its length in elements. An address is never null, also where the length is 0;
  * the library keeps none of them after it returns. Rows and a buffer overlap nothing else that is passed.
  * A plan and a state are passed and returned by value: the library keeps nothing between two calls.
- * No function fails otherwise than by the number that it returns, whatever it is handed. docs/RULES.md has the numbers
- * in its section 5, and what each function takes and answers in its section 16. */
+ * No function fails otherwise than by the number that it returns, whatever it is handed. docs/RULES.md has the numbers,
+ * 1 to 24, in its section 5, and what each function takes and answers in its section 16. */
 #ifndef RECORDER_H
 #define RECORDER_H
 
@@ -34,11 +34,14 @@ extern "C" {
 #define RECORDER_FIRST 1  /* kernel word: the user word at the latest entry to the kernel */
 
 /* A plan. A task or a lock is its place, from 0. Places past the last one hold 0. A lock has two users or more, and the
- * highest of their bases as its ceiling; otherwise it is refused by 7, and by 10 where the plan comes with a state. */
+ * highest of their bases as its ceiling; otherwise it is refused by 7. A task's maximum is at least its base, otherwise it
+ * is refused by 4, and at least the ceiling of each lock that it may take, otherwise that use is refused by 24. Where the
+ * plan comes with a state, all these are refused by 10. */
 struct recorder_plan {
     size_t tasks;
     size_t locks;
     uint8_t base[RECORDER_MAX_TASKS];    /* each task's base */
+    uint8_t maximum[RECORDER_MAX_TASKS]; /* the highest priority that it may have */
     uint8_t ceiling[RECORDER_MAX_LOCKS]; /* each lock's ceiling */
     uint16_t limit[RECORDER_MAX_LOCKS];  /* each lock's section limit */
     uint32_t uses[RECORDER_MAX_TASKS];   /* bit l of a task's: it may take lock l */
@@ -64,7 +67,7 @@ struct recorder_state {
 
 /* What a check answers. */
 struct recorder_check {
-    uint8_t number;            /* the refusal, 1 to 9; 0 where nothing is refused */
+    uint8_t number;            /* the refusal, 1 to 9 or 24; 0 where nothing is refused */
     size_t place;              /* the place of its first offender */
     struct recorder_plan plan; /* the book's; every figure is 0 beside a refusal */
     size_t events;             /* where the event body starts in the book; 0 beside a refusal */
@@ -72,28 +75,28 @@ struct recorder_check {
 
 /* What a replay answers. */
 struct recorder_replay {
-    uint8_t number;              /* the refusal, 1 to 22; 0 where nothing is refused */
-    size_t place;                /* its place: of an event, from 0; of 1 to 9, as a check gives it */
+    uint8_t number;              /* the refusal, 1 to 22 or 24; 0 where nothing is refused */
+    size_t place;                /* its place: of an event, from 0; of 1 to 9 and 24, as a check gives it */
     struct recorder_plan plan;   /* the book's; every figure is 0 where the book is refused */
     struct recorder_state state; /* where the replay stopped; a fresh one where the book is refused */
 };
 
 /* A record of the device's table of tasks. */
 struct recorder_task {
-    uint8_t base;   /* 1 to 255 */
-    uint8_t second; /* 0 */
+    uint8_t base;    /* 1 to 255 */
+    uint8_t maximum; /* base to 255 */
 };
 
 /* What a load answers. */
 struct recorder_load {
-    uint8_t number;            /* the refusal, 2 or 4 to 7; 0 where nothing is refused */
+    uint8_t number;            /* the refusal: 2, 4 to 7 or 24; 0 where nothing is refused */
     size_t place;              /* the place of its first offender */
     struct recorder_plan plan; /* every figure is 0 beside a refusal */
 };
 
 /* What a write answers. */
 struct recorder_write {
-    uint8_t number; /* the refusal: 2, 4 to 8 or 23; 0 where nothing is refused */
+    uint8_t number; /* the refusal: 2, 4 to 8, 23 or 24; 0 where nothing is refused */
     size_t place;   /* the place of its first offender */
     size_t length;  /* the book's; 0 beside a refusal */
 };
@@ -113,7 +116,7 @@ struct recorder_step {
     struct recorder_state state; /* after the event; the state that was given where it is refused */
 };
 
-/* Checks a book, 1 to 9, for a replay with `room` bytes of row space. */
+/* Checks a book, 1 to 9 and 24, for a replay with `room` bytes of row space. 24 comes after 7 and before 8. */
 struct recorder_check recorder_check(const uint8_t *book, size_t length, size_t room);
 
 /* Loads a plan from a table of tasks: one number for a lock, ceiling + limit * 65536, and one for a use,
@@ -121,10 +124,10 @@ struct recorder_check recorder_check(const uint8_t *book, size_t length, size_t 
 struct recorder_load recorder_load_table(const struct recorder_task *tasks, size_t task_count, const uint32_t *locks,
                                          size_t lock_count, const uint16_t *uses, size_t use_count);
 
-/* Writes a book into a buffer of `room` bytes, from its records, one number for each: a task's base; a lock's ceiling +
- * limit * 65536; a use's task + lock * 256; an event's kind + id * 256 + amount * 65536. Where something is refused no byte
- * of the buffer changes, else none after the book. RECORDER_MAX_BOOK bytes are always enough; with fewer than the book
- * has it is refused by 23. */
+/* Writes a book into a buffer of `room` bytes, from its records, one number for each: a task's base + maximum * 256; a
+ * lock's ceiling + limit * 65536; a use's task + lock * 256; an event's kind + id * 256 + amount * 65536. Where something
+ * is refused no byte of the buffer changes, else none after the book. RECORDER_MAX_BOOK bytes are always enough; with
+ * fewer than the book has it is refused by 23. */
 struct recorder_write recorder_write(const uint16_t *tasks, size_t task_count, const uint32_t *locks, size_t lock_count,
                                      const uint16_t *uses, size_t use_count, const uint32_t *events, size_t event_count,
                                      uint8_t *buffer, size_t room);

@@ -45,6 +45,8 @@ pub struct Plan {
     pub tasks: usize,
     pub locks: usize,
     pub base: [u8; MOST_TASKS],
+    /// The highest priority that the task may have.
+    pub maximum: [u8; MOST_TASKS],
     pub ceiling: [u8; MOST_LOCKS],
     pub limit: [u16; MOST_LOCKS],
     /// Bit l: the task may take lock l.
@@ -58,6 +60,7 @@ impl Plan {
             tasks: 0,
             locks: 0,
             base: [0; MOST_TASKS],
+            maximum: [0; MOST_TASKS],
             ceiling: [0; MOST_LOCKS],
             limit: [0; MOST_LOCKS],
             uses: [0; MOST_TASKS],
@@ -65,7 +68,7 @@ impl Plan {
     }
 }
 
-/// A book that passed 1 to 9.
+/// A book that passed 1 to 9 and 24.
 pub struct Checked<'b> {
     pub plan: Plan,
     pub events: &'b [u8],
@@ -85,7 +88,7 @@ pub fn is_miscounted(entry: usize, count: usize) -> bool {
     count < LEAST[entry] || count > MOST[entry]
 }
 
-/// 1 to 9, each over the whole book before the next.
+/// 1 to 7, 24, 8 and 9, each over the whole book before the next.
 pub fn check(book: &[u8], room: usize) -> Result<Checked<'_>, Refused> {
     if book.len() < 32 {
         return Err(Refused(1, 0));
@@ -139,7 +142,7 @@ fn twos(body: &[u8]) -> impl ExactSizeIterator<Item = [u8; 2]> + '_ {
     body.chunks_exact(2).map(|record| [record[0], record[1]])
 }
 
-/// 4 to 7, of records whose counts are right.
+/// 4 to 7 and 24, of records whose counts are right.
 pub fn load(
     tasks: impl ExactSizeIterator<Item = [u8; 2]>,
     locks: impl ExactSizeIterator<Item = [u8; 4]>,
@@ -151,10 +154,12 @@ pub fn load(
         ..Plan::blank()
     };
     for (task, record) in tasks.enumerate() {
-        if record[0] == 0 || record[1] != 0 {
+        let [base, maximum] = record;
+        if base == 0 || maximum < base {
             return Err(Refused(4, task));
         }
-        plan.base[task] = record[0];
+        plan.base[task] = base;
+        plan.maximum[task] = maximum;
     }
     for (lock, record) in locks.enumerate() {
         let limit = u16::from_le_bytes([record[2], record[3]]);
@@ -167,6 +172,8 @@ pub fn load(
     let mut before = None;
     let mut users = [0u8; MOST_LOCKS];
     let mut greatest = [0; MOST_LOCKS];
+    // The first use of a lock above its task's maximum: it is refused after 7.
+    let mut above = None;
     for (place, record) in uses.enumerate() {
         let (task, lock) = (usize::from(record[0]), usize::from(record[1]));
         if task >= plan.tasks || lock >= plan.locks || before >= Some((task, lock)) {
@@ -176,9 +183,16 @@ pub fn load(
         plan.uses[task] |= 1 << lock;
         users[lock] += 1;
         greatest[lock] = plan.base[task].max(greatest[lock]);
+        if plan.ceiling[lock] > plan.maximum[task] {
+            above.get_or_insert(place);
+        }
     }
-    match (0..plan.locks).find(|&lock| users[lock] < 2 || plan.ceiling[lock] != greatest[lock]) {
-        Some(lock) => Err(Refused(7, lock)),
+    let is_misused = |&lock: &usize| users[lock] < 2 || plan.ceiling[lock] != greatest[lock];
+    if let Some(lock) = (0..plan.locks).find(is_misused) {
+        return Err(Refused(7, lock));
+    }
+    match above {
+        Some(place) => Err(Refused(24, place)),
         None => Ok(plan),
     }
 }
@@ -238,7 +252,7 @@ impl State {
             3 => self.unlock(protocol, plan, usize::from(record[1])),
             4 => self.work(plan, u16::from_le_bytes([record[2], record[3]])),
             5 => self.finish(protocol, plan),
-            _ => self.tick(protocol),
+            _ => self.tick(protocol, plan),
         }?;
         self.accepted += 1;
         Ok(call)
@@ -253,6 +267,14 @@ impl State {
         }
     }
 
+    /// What the kernel does first wherever it is entered: a word above the running
+    /// task's maximum is cut back to it. In a sound state there is none.
+    pub fn cut(&mut self, plan: &Plan) {
+        if let Some(&maximum) = plan.maximum.get(usize::from(self.running)) {
+            self.user = self.user.min(maximum);
+        }
+    }
+
     fn release(&mut self, protocol: Protocol, plan: &Plan, task: usize) -> Result<bool, u8> {
         if task >= plan.tasks {
             return Err(13);
@@ -260,6 +282,7 @@ impl State {
         if self.released[task] != 0 {
             return Err(14);
         }
+        self.cut(plan);
         self.released[task] = self.accepted + 1;
         self.delay[task] = 0;
         self.kept[task] = plan.base[task];
@@ -322,6 +345,7 @@ impl State {
         let call = self.user < self.next;
         if call {
             self.lazy += 1;
+            self.cut(plan);
             self.leave();
             self.switch(protocol, plan.tasks);
         }
@@ -364,6 +388,7 @@ impl State {
         if self.held[task] != 0 {
             return Err(22);
         }
+        self.cut(plan);
         self.released[task] = 0;
         self.kept[task] = 0;
         self.switch(protocol, plan.tasks);
@@ -371,7 +396,8 @@ impl State {
     }
 
     /// The next word is the greatest kept priority as it stands.
-    fn tick(&mut self, protocol: Protocol) -> Result<bool, u8> {
+    fn tick(&mut self, protocol: Protocol, plan: &Plan) -> Result<bool, u8> {
+        self.cut(plan);
         if protocol == Protocol::First {
             self.next = self.user;
         }

@@ -54,21 +54,28 @@ pub fn is_sound(protocol: Protocol, plan: &Plan, state: &State) -> bool {
         && rest_is_0(plan, state)
 }
 
-/// 2 and 4 to 7, and nothing past the last task and the last lock.
+/// 2, 4 to 7 and 24, and nothing past the last task and the last lock.
 fn plan_is_right(plan: &Plan) -> bool {
     let (tasks, locks) = (plan.tasks, plan.locks);
     if tasks == 0 || tasks > MOST_TASKS || locks > MOST_LOCKS {
         return false;
     }
     let base = &plan.base[..tasks];
+    let maximum = &plan.maximum[..tasks];
     let uses = &plan.uses[..tasks];
     // How many users each lock has, and the greatest base among them; 0 without any.
     let mut users = [0u8; MOST_LOCKS];
     let mut greatest = [0; MOST_LOCKS];
-    for (&base, &uses) in base.iter().zip(uses) {
+    for ((&base, &maximum), &uses) in base.iter().zip(maximum).zip(uses) {
+        if maximum < base {
+            return false;
+        }
         let mut left = uses;
         while left != 0 {
             let lock = left.trailing_zeros() as usize;
+            if plan.ceiling[lock] > maximum {
+                return false;
+            }
             users[lock] += 1;
             greatest[lock] = base.max(greatest[lock]);
             left &= left - 1;
@@ -81,6 +88,7 @@ fn plan_is_right(plan: &Plan) -> bool {
         && users[..locks].iter().all(|&count| count >= 2)
         && plan.ceiling == greatest
         && all_0(&plan.base[tasks..])
+        && all_0(&plan.maximum[tasks..])
         && all_0(&plan.uses[tasks..])
         && all_0(&plan.ceiling[locks..])
         && all_0(&plan.limit[locks..])

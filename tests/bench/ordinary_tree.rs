@@ -48,7 +48,7 @@ impl Quick {
             3 => self.unlock(protocol, plan, usize::from(record[1])),
             4 => self.work(plan, u16::from_le_bytes([record[2], record[3]])),
             5 => self.finish(protocol, plan),
-            _ => self.tick(protocol),
+            _ => self.tick(protocol, plan),
         }?;
         self.state.accepted += 1;
         Ok(call)
@@ -78,6 +78,7 @@ impl Quick {
         if state.released[task] != 0 {
             return Err(14);
         }
+        state.cut(plan);
         state.released[task] = state.accepted + 1;
         state.delay[task] = 0;
         let base = plan.base[task];
@@ -116,6 +117,7 @@ impl Quick {
         let call = state.user < state.next;
         if call {
             state.lazy += 1;
+            state.cut(plan);
             self.leave(protocol, plan.tasks);
         }
         Ok(call)
@@ -162,12 +164,14 @@ impl Quick {
         if self.state.held[task] != 0 {
             return Err(22);
         }
+        self.state.cut(plan);
         self.state.released[task] = 0;
         self.switch(protocol, plan.tasks);
         Ok(false)
     }
 
-    fn tick(&mut self, protocol: Protocol) -> Result<bool, u8> {
+    fn tick(&mut self, protocol: Protocol, plan: &Plan) -> Result<bool, u8> {
+        self.state.cut(plan);
         self.enter(protocol, self.state.running, self.state.user, self.most());
         Ok(false)
     }

@@ -32,8 +32,8 @@ impl Records {
     }
 }
 
-/// 2, 4 to 8 and 23, each over all records before the next; then the book, and its
-/// length.
+/// 2, 4 to 7, 24, 8 and 23, each over all records before the next; then the book,
+/// and its length.
 pub fn write(records: &Records, buffer: &mut [u8]) -> Result<usize, Refused> {
     let Records {
         tasks,

@@ -114,6 +114,9 @@ fn full_plan(tasks: usize) -> Plan {
                 plan.limit[lock] = 2000 + lock as u16;
             }
         }
+        // The last task of the block has its highest base, the ceiling of its locks.
+        let highest = plan.base[block * size + size - 1];
+        plan.maximum[block * size..][..size].fill(highest);
         first += locks;
     }
     plan

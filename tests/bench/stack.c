@@ -68,7 +68,7 @@ static uint8_t book[RECORDER_MAX_BOOK];
 static size_t length;
 static uint8_t rows[RECORDER_MAX_EVENTS * RECORDER_ROW_BYTES];
 static struct recorder_task tasks[RECORDER_MAX_TASKS];
-static uint16_t bases[RECORDER_MAX_TASKS];
+static uint16_t task_numbers[RECORDER_MAX_TASKS];
 static uint32_t locks[RECORDER_MAX_LOCKS];
 static uint16_t uses[RECORDER_MAX_USES];
 static uint32_t events[RECORDER_MAX_EVENTS];
@@ -100,9 +100,13 @@ static uint32_t event_at(size_t k) {
     return number(parts[p].kind, parts[p].first + k * (size_t)parts[p].by, parts[p].amount);
 }
 
-/* As many tasks, locks, uses and events as there can be, in a table and in a book: every task may take every lock. */
+/* As many tasks, locks, uses and events as there can be, in a table and in a book: every task may take every lock, so all
+ * have the one ceiling, the highest base, as their maximum. */
 static void fill(void) {
-    for (size_t t = 0; t < COUNT(tasks); t++) tasks[t].base = (uint8_t)(bases[t] = (uint16_t)(t + 1));
+    for (size_t t = 0; t < COUNT(tasks); t++) {
+        tasks[t] = (struct recorder_task){(uint8_t)(t + 1), RECORDER_MAX_TASKS};
+        task_numbers[t] = (uint16_t)(t + 1 + RECORDER_MAX_TASKS * 256);
+    }
     for (size_t l = 0; l < COUNT(locks); l++) locks[l] = RECORDER_MAX_TASKS + 65535u * 65536u;
     for (size_t u = 0; u < COUNT(uses); u++) uses[u] = (uint16_t)(u / COUNT(locks) + u % COUNT(locks) * 256);
     for (size_t k = 0; k < COUNT(events); k++) events[k] = event_at(k);
@@ -132,7 +136,8 @@ static void call_load(void) {
 }
 
 static struct recorder_write write_book(__typeof__(&recorder_write) f) {
-    return f(bases, COUNT(bases), locks, COUNT(locks), uses, COUNT(uses), events, COUNT(events), book, sizeof book);
+    return f(task_numbers, COUNT(task_numbers), locks, COUNT(locks), uses, COUNT(uses), events, COUNT(events), book,
+             sizeof book);
 }
 
 static void call_write(void) {

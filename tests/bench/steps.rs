@@ -203,6 +203,7 @@ fn damage(
     change!(state.eager);
     for task in 0..MOST_TASKS {
         change!(plan.base[task]);
+        change!(plan.maximum[task]);
         change!(plan.uses[task]);
         change!(state.released[task]);
         change!(state.kept[task]);

@@ -38,10 +38,20 @@ type Change = fn(&mut Records);
 
 const CHANGES: &[(u8, Change)] = &[
     (2, |records| records.tasks.clear()),
-    (4, |records| records.tasks[0] |= 256),
+    (4, |records| records.tasks[0] &= 0xff),
     (5, |records| records.locks[0] &= 0xffff),
     (6, |records| records.uses[0] |= 255),
     (7, |records| records.locks[0] ^= 128),
+    // All tasks and locks have the one priority 2, but the last user 1, which no lock
+    // may raise.
+    (24, |records| {
+        records.tasks.fill(0x0202);
+        for lock in &mut records.locks {
+            *lock = *lock & 0xffff_0000 | 2;
+        }
+        let [last, _] = records.uses.last().unwrap().to_le_bytes();
+        records.tasks[usize::from(last)] = 0x0101;
+    }),
     (8, |records| *records.events.last_mut().unwrap() = 7),
 ];
 

@@ -10,14 +10,12 @@ use crate::plan::{Lock, Plan, MOST_LOCKS, MOST_TASKS, MOST_UNITS};
 /// share a lock.
 pub fn plan(tasks: usize) -> Plan {
     let last = (tasks - 1) as u8;
-    Plan {
-        bases: (1..=tasks as u8).collect(),
-        locks: vec![Lock {
-            ceiling: tasks as u8,
-            limit: MOST_UNITS,
-        }],
-        uses: vec![(0, 0), (last - 1, 0), (last, 0)],
-    }
+    let lock = Lock {
+        ceiling: tasks as u8,
+        limit: MOST_UNITS,
+    };
+    let uses = vec![(0, 0), (last - 1, 0), (last, 0)];
+    Plan::with_least_maxima((1..=tasks as u8).collect(), vec![lock], uses)
 }
 
 /// So many events for this plan; nothing for another kind. Each kind starts with
@@ -49,17 +47,15 @@ pub fn events(kind: &str, tasks: usize, length: usize) -> Option<Vec<Event>> {
 /// As many tasks, locks and uses as can be, and the last task has the least base.
 pub fn largest_plan() -> Plan {
     let every_lock = |task| (0..MOST_LOCKS).map(move |lock| (task as u8, lock as u8));
-    Plan {
-        bases: (0..MOST_TASKS).map(|task| u8::MAX - task as u8).collect(),
-        locks: vec![
-            Lock {
-                ceiling: u8::MAX,
-                limit: MOST_UNITS,
-            };
-            MOST_LOCKS
-        ],
-        uses: (0..MOST_TASKS).flat_map(every_lock).collect(),
-    }
+    let lock = Lock {
+        ceiling: u8::MAX,
+        limit: MOST_UNITS,
+    };
+    Plan::with_least_maxima(
+        (0..MOST_TASKS).map(|task| u8::MAX - task as u8).collect(),
+        vec![lock; MOST_LOCKS],
+        (0..MOST_TASKS).flat_map(every_lock).collect(),
+    )
 }
 
 /// All others wait behind a section of the last task, for as long as it can be.

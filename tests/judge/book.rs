@@ -1,6 +1,6 @@
-//! The reader of books: refusals 1 to 9 one after another, each naming the first
-//! record that breaks it. A test goes over the whole book before the next one
-//! starts, so each is a function of its own. The writer has 2 and 4 to 8 from
+//! The reader of books: refusals 1 to 7, then 24, then 8 and 9, each naming the
+//! first record that breaks it. A test goes over the whole book before the next one
+//! starts, so each is a function of its own. The writer has 2, 4 to 7, 24 and 8 from
 //! here too.
 
 use crate::draft::Draft;
@@ -14,7 +14,7 @@ pub struct Refusal {
     pub place: u32,
 }
 
-/// A book that passed 1 to 9.
+/// A book that passed 1 to 9 and 24.
 pub struct Book {
     pub plan: Plan,
     pub events: Vec<Event>,
@@ -47,6 +47,9 @@ pub fn read_by(bytes: &[u8], row_space: usize, wrong: Wrong) -> Result<Book, Ref
     let records = test_3_contents(bytes)?;
     let plan = test_plan(&records, wrong)?;
     let events = test_8_events(&records.events)?;
+    if wrong == Wrong::AboveMaximumAfter8 {
+        test_24_maxima(&plan, wrong)?;
+    }
     test_9_row_space(row_space, events.len())?;
     let events_at = starts(records.counts())[3];
     Ok(Book {
@@ -153,26 +156,39 @@ fn records<const BYTES: usize>(body: &[u8]) -> Vec<[u8; BYTES]> {
     body.chunks(BYTES).map(whole).collect()
 }
 
-/// 4 to 7: the plan that the records make.
+/// 4 to 7 and 24: the plan that the records make.
 pub fn test_plan(records: &Draft, wrong: Wrong) -> Result<Plan, Refusal> {
-    let bases = test_4_tasks(&records.tasks)?;
+    let (bases, maxima) = test_4_tasks(&records.tasks, wrong)?;
     let locks = test_5_locks(&records.locks)?;
     let uses = test_6_uses(&records.uses, bases.len(), locks.len())?;
-    let plan = Plan { bases, locks, uses };
+    let plan = Plan {
+        bases,
+        maxima,
+        locks,
+        uses,
+    };
+    if wrong == Wrong::AboveMaximumBefore7 {
+        test_24_maxima(&plan, wrong)?;
+    }
     test_7_ceilings(&plan, wrong)?;
+    if wrong != Wrong::AboveMaximumAfter8 {
+        test_24_maxima(&plan, wrong)?;
+    }
     Ok(plan)
 }
 
-/// 4: a task's first byte is its base, which isn't 0; the second one is 0.
-pub fn test_4_tasks(records: &[[u8; 2]]) -> Result<Vec<u8>, Refusal> {
-    let mut bases = Vec::new();
-    for (place, record) in records.iter().enumerate() {
-        if record[0] == 0 || record[1] != 0 {
+/// 4: a task's first byte is its base, which isn't 0; the second one is its maximum,
+/// which isn't below the base. The bases come back, and the maxima.
+pub fn test_4_tasks(records: &[[u8; 2]], wrong: Wrong) -> Result<(Vec<u8>, Vec<u8>), Refusal> {
+    for (place, [base, maximum]) in records.iter().enumerate() {
+        if *base == 0 || *maximum < wrong.least_maximum(*base) {
             return refuse(4, place);
         }
-        bases.push(record[0]);
     }
-    Ok(bases)
+    Ok(records
+        .iter()
+        .map(|[base, maximum]| (*base, *maximum))
+        .unzip())
 }
 
 /// 5: a lock's ceiling, a byte that is 0, and its limit in two bytes; neither
@@ -224,6 +240,24 @@ pub fn test_7_ceilings(plan: &Plan, wrong: Wrong) -> Result<(), Refusal> {
         let is_shared = bases.len() >= wrong.least_users();
         if !is_shared || bases.iter().max() != Some(&lock.ceiling) {
             return refuse(7, place);
+        }
+    }
+    Ok(())
+}
+
+/// 24: no task may take a lock whose ceiling is above its maximum; at it is right.
+/// The use is named.
+pub fn test_24_maxima(plan: &Plan, wrong: Wrong) -> Result<(), Refusal> {
+    for (place, (task, lock)) in plan.uses.iter().enumerate() {
+        let (task, lock) = (usize::from(*task), usize::from(*lock));
+        let (ceiling, maximum) = (plan.locks[lock].ceiling, plan.maxima[task]);
+        let is_above = match wrong {
+            Wrong::AtMaximum => ceiling >= maximum,
+            _ => ceiling > maximum,
+        };
+        if is_above {
+            let is_lock_named = wrong == Wrong::AboveMaximumNamesLock;
+            return refuse(24, if is_lock_named { lock } else { place });
         }
     }
     Ok(())

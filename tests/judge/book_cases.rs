@@ -115,9 +115,9 @@ pub fn put(book: &mut [u8], item: &str) -> Result<(), String> {
 }
 
 /// Records that are right but for their counts, where these are not: task t has
-/// base t + 1, limits are 1, use k is by task k / locks of lock k % locks, and
-/// all events are ticks. So each lock has two users from twice as many uses as
-/// locks on.
+/// base t + 1, maxima are the greatest, limits are 1, use k is by task k / locks of
+/// lock k % locks, and all events are ticks. So each lock has two users from twice
+/// as many uses as locks on.
 pub fn counted(counts: &[u64]) -> Result<Draft, String> {
     let [tasks, locks, uses, events] = counts[..] else {
         return Err("a book has four counts".to_string());
@@ -125,7 +125,7 @@ pub fn counted(counts: &[u64]) -> Result<Draft, String> {
     let base = |task: u64| (task % u64::from(u8::MAX)) as u8 + 1;
     let pair = |place: u64| [(place / locks) as u8, (place % locks) as u8];
     let mut draft = Draft {
-        tasks: (0..tasks).map(|task| [base(task), 0]).collect(),
+        tasks: (0..tasks).map(|task| [base(task), u8::MAX]).collect(),
         locks: vec![[1, 0, 1, 0]; locks as usize],
         uses: (0..uses).map(pair).collect(),
         events: vec![Event::Tick.record(); events as usize],

@@ -38,7 +38,7 @@ impl Shelf {
 }
 
 /// Tasks of base 1 to 3 in turn; every lock used by every task. Where there are
-/// locks, there are two tasks or more.
+/// locks, there are two tasks or more. The maxima are the least.
 fn full_plan(tasks: usize, locks: usize) -> Plan {
     let bases: Vec<u8> = (0..tasks).map(|task| (task % 3) as u8 + 1).collect();
     let ceiling = bases.iter().copied().max().unwrap_or(1);
@@ -48,7 +48,7 @@ fn full_plan(tasks: usize, locks: usize) -> Plan {
             uses.push((task as u8, lock as u8));
         }
     }
-    Plan { bases, locks: vec![Lock { ceiling, limit: MOST_UNITS }; locks], uses }
+    Plan::with_least_maxima(bases, vec![Lock { ceiling, limit: MOST_UNITS }; locks], uses)
 }
 
 /// As many tasks, locks and uses as can be.
@@ -70,6 +70,7 @@ pub fn set_pieces() -> Vec<SetPiece> {
     sizes(&mut shelf);
     contents(&mut shelf);
     records(&mut shelf);
+    maxima(&mut shelf);
     event_records_and_row_space(&mut shelf);
     steps(&mut shelf);
     nests(&mut shelf);
@@ -159,7 +160,8 @@ fn records(shelf: &mut Shelf) {
         shelf.draft(name, &draft, number, place);
     };
     damaged("base 0", &|draft| draft.tasks[3][0] = 0, 4, 3);
-    damaged("second byte of a task", &|draft| draft.tasks[1][1] = 1, 4, 1);
+    damaged("maximum one below the base", &|draft| draft.tasks[3][1] = 6, 4, 3);
+    damaged("maximum 0", &|draft| draft.tasks[1][1] = 0, 4, 1);
     damaged("ceiling 0", &|draft| draft.locks[0][0] = 0, 5, 0);
     damaged("second byte of a lock", &|draft| draft.locks[1][1] = u8::MAX, 5, 1);
     damaged("limit 0", &|draft| draft.locks[1][2] = 0, 5, 1);
@@ -196,6 +198,60 @@ fn records(shelf: &mut Shelf) {
         &|draft| (draft.locks[1][0], draft.events[0]) = (5, [0; 4]),
         7, 1,
     );
+}
+
+/// 24: the use is named, after 7 and before 8. In the crane plan uses 0 and 1 are
+/// task 0's, of ceilings 5 and 3; uses 2 and 3 are of ceilings that raise nobody.
+fn maxima(shelf: &mut Shelf) {
+    let right = Draft::of(&crane::plan(), crane::RUNS[0].1);
+    let mut damaged = |name: &str, damage: &dyn Fn(&mut Draft), number: u8, place: u32| {
+        let mut draft = right.clone();
+        damage(&mut draft);
+        shelf.draft(name, &draft, number, place);
+    };
+    damaged("greatest maxima", &|draft| draft.tasks.iter_mut().for_each(|task| task[1] = u8::MAX), 0, 0);
+    damaged("maximum at the base", &|draft| draft.tasks[1][1] = 3, 0, 0);
+    damaged("ceiling one above the maximum", &|draft| draft.tasks[0][1] = 4, 24, 0);
+    damaged("both ceilings above the maximum", &|draft| draft.tasks[0][1] = 1, 24, 0);
+    damaged(
+        "4 at task 3 before 24 at use 0",
+        &|draft| (draft.tasks[0][1], draft.tasks[3][1]) = (4, 6),
+        4, 3,
+    );
+    damaged(
+        "7 at lock 1 before 24 at use 0",
+        &|draft| (draft.tasks[0][1], draft.locks[1][0]) = (4, 4),
+        7, 1,
+    );
+    damaged(
+        "24 before 8",
+        &|draft| (draft.tasks[0][1], draft.events[0]) = (4, [0; 4]),
+        24, 0,
+    );
+    let mut low = right.clone();
+    low.tasks[0][1] = 4;
+    shelf.bytes("24 before 9", low.bytes(), 0, 24, 0);
+
+    // All ceilings and all maxima are 3, and then one maximum is 2. That is below the
+    // base of task 2, and else the first use of the task is named: the last has base 2.
+    let last = usize::from(LAST_TASK);
+    let full = Draft::of(&greatest_plan(), &[Tick]);
+    for (task, number, place) in [
+        (0, 24, 0),
+        (1, 24, MOST_LOCKS),
+        (2, 4, 2),
+        (last, 24, MOST_LOCKS * last),
+    ] {
+        let mut draft = full.clone();
+        draft.tasks[task][1] = 2;
+        shelf.draft(&format!("maximum of task {task} too low"), &draft, number, place as u32);
+    }
+    // The last task keeps its last use alone.
+    let mut draft = full;
+    let last_use = MOST_LOCKS * last;
+    draft.uses.drain(last_use..MOST_USES - 1);
+    draft.tasks[last][1] = 2;
+    shelf.draft("24 at the last use", &draft, 24, last_use as u32);
 }
 
 /// 8 before 9 before any event's own refusal.

@@ -11,8 +11,8 @@ use crate::random::Random;
 use crate::sound;
 use crate::states::{self, push, refit};
 use crate::whole::{
-    slot, Field, Per, Whole, ACCEPTED, BASE, CEILING, FIELDS, LIMIT, LOCKS, OPEN, OWNER, RELEASED,
-    RUNNING, SECOND, TASKS, UNITS, USER, USES,
+    slot, Field, Per, Whole, ACCEPTED, BASE, CEILING, FIELDS, LIMIT, LOCKS, MAXIMUM, OPEN, OWNER,
+    RELEASED, RUNNING, SECOND, TASKS, UNITS, USER, USES,
 };
 
 /// Gives a figure another value.
@@ -66,7 +66,7 @@ fn used_slots(whole: &Whole) -> Vec<usize> {
 type Change = fn(&mut Random, &mut Whole) -> bool;
 
 #[rustfmt::skip] // a line each
-const CHANGES: [(&str, Change); 19] = [
+const CHANGES: [(&str, Change); 22] = [
     ("nobody runs", nobody_runs),
     ("an unreleased task runs", unreleased_runs),
     ("a lock open for two tasks", open_for_two),
@@ -83,6 +83,9 @@ const CHANGES: [(&str, Change); 19] = [
     ("a lock without users", without_users),
     ("a lock with one user", with_one_user),
     ("a use of an unknown lock", unknown_use),
+    ("a maximum below its base", below_base),
+    ("a maximum below a ceiling", below_ceiling),
+    ("a maximum past the last task", past_tasks),
     ("more tasks than places", more_tasks),
     ("more locks than places", more_locks),
     ("no tasks", no_tasks),
@@ -352,6 +355,51 @@ fn unknown_use(random: &mut Random, whole: &mut Whole) -> bool {
     let lock = random.between(first, MOST_LOCKS - 1);
     let uses = whole.get(USES, task) | 1 << lock;
     whole.set(USES, task, uses);
+    true
+}
+
+/// Of a task without locks, if there is one: of another the ceilings are then above
+/// the maximum too.
+fn below_base(random: &mut Random, whole: &mut Whole) -> bool {
+    let uses_none = |whole: &Whole, task| whole.get(USES, task) == 0;
+    let without_locks = some_task(random, whole, uses_none);
+    let task = without_locks.unwrap_or_else(|| random.below(whole.get(TASKS, 0) as usize));
+    let base = whole.get(BASE, task);
+    let any = random.below(base as usize) as u64;
+    let maximum = random.pick(&[base - 1, base - 1, 0, any]);
+    whole.set(MAXIMUM, task, maximum);
+    true
+}
+
+/// The base stays at most the maximum, so that all else is right: who has the lock
+/// open has the priority that the rules give, though it is above that maximum.
+fn below_ceiling(random: &mut Random, whole: &mut Whole) -> bool {
+    let raises = |whole: &Whole, task, lock| {
+        whole.uses(task, lock) && whole.get(CEILING, lock) > whole.get(BASE, task)
+    };
+    let locks = 0..whole.get(LOCKS, 0) as usize;
+    let is_raised = |whole: &Whole, task| locks.clone().any(|lock| raises(whole, task, lock));
+    let Some(task) = some_task(random, whole, is_raised) else {
+        return false;
+    };
+    let lock = some_lock(random, whole, |whole, lock| raises(whole, task, lock));
+    let lock = lock.expect("a lock raises the task");
+    let (base, below) = (whole.get(BASE, task), whole.get(CEILING, lock) - 1);
+    let any = random.between(base as usize, below as usize) as u64;
+    let maximum = random.pick(&[below, below, base, any]);
+    whole.set(MAXIMUM, task, maximum);
+    true
+}
+
+fn past_tasks(random: &mut Random, whole: &mut Whole) -> bool {
+    let first = whole.get(TASKS, 0) as usize;
+    if first == MOST_TASKS {
+        return false;
+    }
+    let any = random.between(first, MOST_TASKS - 1);
+    let place = random.pick(&[first, any, MOST_TASKS - 1]);
+    let maximum = random.pick(&[1, MAXIMUM.greatest()]);
+    whole.set(MAXIMUM, place, maximum);
     true
 }
 

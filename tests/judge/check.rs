@@ -1,5 +1,5 @@
-//! The check of a book without its replay: the reader's tests 1 to 9, where the
-//! event body starts, and the plan figure by figure.
+//! The check of a book without its replay: the reader's tests 1 to 9 and 24, where
+//! the event body starts, and the plan figure by figure.
 
 use crate::book;
 use crate::whole::Whole;

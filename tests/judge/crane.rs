@@ -14,10 +14,11 @@ use crate::report;
 use crate::wrong::Wrong;
 
 /// Four tasks and two locks: task 0 shares lock 0 with task 2 and lock 1 with
-/// task 1; task 3 uses none.
+/// task 1; task 3 uses none. Lock 0 raises task 0 to its maximum.
 pub fn plan() -> Plan {
     Plan {
         bases: vec![1, 3, 5, 7],
+        maxima: vec![5, 5, 5, 7],
         locks: vec![
             Lock {
                 ceiling: 5,
@@ -160,7 +161,13 @@ pub fn test() -> (usize, Vec<String>) {
 
 fn runs_p1_to_p4(tests: &mut Tests) {
     let p1 = run("P1");
-    tests.expect("P1: length of the book", book(RUNS[0].1).len(), 84);
+    let bytes = book(RUNS[0].1);
+    tests.expect("P1: length of the book", bytes.len(), 84);
+    tests.expect(
+        "P1: the tasks, each its base and its maximum",
+        bytes[32..40].to_vec(),
+        vec![1, 5, 3, 5, 5, 5, 7, 7],
+    );
     tests.expect("P1: nothing refused", (p1.number, p1.place), (0, 0));
     tests.expect(
         "P1: the whole report",

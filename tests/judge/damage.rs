@@ -1,5 +1,5 @@
-//! Damaged books: for each of the refusals 1 to 9 the ways in which a record, a
-//! contents entry, the length or the row space can be wrong, at several places
+//! Damaged books: for each of the refusals 1 to 9 and 24 the ways in which a record,
+//! a contents entry, the length or the row space can be wrong, at several places
 //! and also several at once, so that the order of the tests matters.
 
 use crate::book::{entry_at, CONTENTS_BYTES, ENTRY_BYTES};
@@ -7,6 +7,9 @@ use crate::draft::Draft;
 use crate::plan::{MOST_EVENTS, MOST_LOCKS, MOST_TASKS, MOST_USES};
 use crate::random::Random;
 use crate::wire::MOST_BYTES;
+
+/// The numbers that a book can be damaged for, in the order of their tests.
+pub const NUMBERS: [u8; 10] = [1, 2, 3, 4, 5, 6, 7, 24, 8, 9];
 
 /// Applies the damages of these refusal numbers to a book that would be
 /// accepted. The answer need not be the least of them: one damage can hide or
@@ -56,6 +59,7 @@ pub fn damage_records(random: &mut Random, draft: &mut Draft, number: u8) {
         5 => damage_lock(random, draft),
         6 => damage_use(random, draft),
         7 => damage_ceiling(random, draft),
+        24 => damage_maximum(random, draft),
         8 => damage_event(random, draft),
         _ => {}
     }
@@ -102,7 +106,7 @@ fn grow_a_body(random: &mut Random, draft: &mut Draft) {
         0..=2 => draft.tasks.clear(),
         3..=6 => {
             let count = random.pick(&[tasks, tasks, byte.max(tasks), byte + 1]);
-            draft.tasks.resize(count, [1, 0]);
+            draft.tasks.resize(count, [1, 1]);
         }
         7..=10 => {
             let count = random.pick(&[locks, locks, byte + 1]);
@@ -171,15 +175,16 @@ fn damage_contents(random: &mut Random, bytes: &mut Vec<u8>) {
     }
 }
 
-/// 4: no base, or something in the second byte.
+/// 4: no base, or a maximum below it, often by one.
 fn damage_task(random: &mut Random, draft: &mut Draft) {
     let place = some_place(random, draft.tasks.len());
-    if let Some(task) = draft.tasks.get_mut(place) {
-        if random.one_in(2) {
-            task[0] = 0;
-        } else {
-            task[1] = random.some_byte();
-        }
+    let Some([base, maximum]) = draft.tasks.get_mut(place) else {
+        return;
+    };
+    match random.below(6) {
+        0..=2 => *base = 0,
+        3 | 4 => *maximum = base.saturating_sub(1),
+        _ => *maximum = random.below(usize::from(*base).max(1)) as u8,
     }
 }
 
@@ -237,10 +242,11 @@ fn damage_ceiling(random: &mut Random, draft: &mut Draft) {
         3 => draft.locks[place][0] = random.some_byte(),
         4 | 5 => leave_one_user(random, draft, place),
         _ => {
-            // A base rises above the ceilings of its locks.
+            // A base rises above the ceilings of its locks, and its maximum with it.
             let task = some_place(random, draft.tasks.len());
-            if let Some(record) = draft.tasks.get_mut(task) {
-                record[0] = record[0].saturating_add(1);
+            if let Some([base, maximum]) = draft.tasks.get_mut(task) {
+                *base = base.saturating_add(1);
+                *maximum = (*maximum).max(*base);
             }
         }
     }
@@ -268,6 +274,49 @@ fn leave_one_user(random: &mut Random, draft: &mut Draft, lock: usize) {
     draft
         .uses
         .retain(|pair| usize::from(pair[1]) != lock || pair[0] == stays);
+}
+
+/// 24: the maximum of a user sinks under the ceiling of its lock, often by one, and
+/// not under its base. Other uses of the same task can then be at fault too.
+fn damage_maximum(random: &mut Random, draft: &mut Draft) {
+    let raised: Vec<[u8; 2]> = draft
+        .uses
+        .iter()
+        .filter(|pair| raises(draft, **pair))
+        .copied()
+        .collect();
+    let Some([task, lock]) = raised.get(some_place(random, raised.len())) else {
+        add_raised_user(draft);
+        return;
+    };
+    let ceiling = usize::from(draft.locks[usize::from(*lock)][0]);
+    let [base, maximum] = &mut draft.tasks[usize::from(*task)];
+    *maximum = match random.below(4) {
+        0 | 1 => ceiling as u8 - 1,
+        2 => *base,
+        _ => random.between(usize::from(*base), ceiling - 1) as u8,
+    };
+}
+
+/// Whether the lock of a use has a ceiling above the base of its task.
+fn raises(draft: &Draft, [task, lock]: [u8; 2]) -> bool {
+    let base = draft.tasks.get(usize::from(task)).map(|task| task[0]);
+    let ceiling = draft.locks.get(usize::from(lock)).map(|lock| lock[0]);
+    base.is_some() && base < ceiling
+}
+
+/// 24, where no lock raises anybody: two tasks and a lock of theirs come last, if
+/// there is place, and the maximum of the one is its base.
+fn add_raised_user(draft: &mut Draft) {
+    let (task, lock) = (draft.tasks.len(), draft.locks.len());
+    if task + 2 > MOST_TASKS || lock >= MOST_LOCKS {
+        return;
+    }
+    draft.tasks.extend([[1, 1], [2, 2]]);
+    draft.locks.push([2, 0, 1, 0]);
+    draft
+        .uses
+        .extend([task, task + 1].map(|task| [task as u8, lock as u8]));
 }
 
 /// 8: no such kind, something in a field without use, or a work of 0.
@@ -339,9 +388,9 @@ pub fn random_bodies(random: &mut Random) -> Draft {
     let mut draft = Draft::default();
     let mends = random.one_in(2);
     for _ in 0..random.between(1, 3) {
-        draft
-            .tasks
-            .push([random.between(usize::from(mends), 3) as u8, 0]);
+        let base = random.between(usize::from(mends), 3);
+        let maximum = random.between(if mends { base } else { 0 }, 4);
+        draft.tasks.push([base as u8, maximum as u8]);
     }
     for _ in 0..random.below(3) {
         let base = random.between(1, 3) as u8;

@@ -1,9 +1,10 @@
 //! What the judge demands of its own three schedulers while it judges: after
 //! every event all refuse or accept it alike and run the same task, the words are
 //! as defined, no lock has two holders, every section is within its limit and
-//! every delay within its bound; the second protocol calls only where the first
-//! does, and that one only where the eager scheduler does; and at the end the
-//! counts equal the counts over the history.
+//! every delay within its bound; no priority is above its task's maximum, and no
+//! kernel entry finds anything to cut; the second protocol calls only where the first
+//! does, and that one only where the eager scheduler does; and at the end the counts
+//! equal the counts over the history.
 
 use crate::book::Book;
 use crate::eager::Eager;
@@ -42,11 +43,13 @@ pub fn after_event(
     if numbers[0] == 17 {
         return Err("17 occurred from a fresh start".to_string());
     }
+    nothing_is_cut([second, first])?;
     if numbers[0] != 0 {
         return Ok(());
     }
     same_figures(bounds, eager, second)?;
     same_kept_and_saved(second, first)?;
+    within_maxima(&second.plan.maxima, eager)?;
     let next = eager.greatest_other_priority();
     if second.second_word.0 != next {
         let word = second.second_word.0;
@@ -126,6 +129,31 @@ fn same_kept_and_saved(second: &Lazy, first: &Lazy) -> Result<(), String> {
     let mut locks = second.sections.iter().zip(&first.sections);
     if let Some(lock) = locks.position(|(second, first)| second != first) {
         return Err(format!("the figures of lock {lock} differ by protocol"));
+    }
+    Ok(())
+}
+
+/// No event up to here has cut a user word.
+fn nothing_is_cut(lazies: [&Lazy; 2]) -> Result<(), String> {
+    match lazies.iter().find(|lazy| lazy.cuts > 0) {
+        Some(lazy) => {
+            let protocol = lazy.protocol.name();
+            Err(format!("the {protocol} protocol has cut a user word"))
+        }
+        None => Ok(()),
+    }
+}
+
+/// No released task, be it the running one or not, has a priority above its maximum.
+/// So no entry that may come next has anything to cut.
+fn within_maxima(maxima: &[u8], eager: &Eager) -> Result<(), String> {
+    for (task, maximum) in maxima.iter().enumerate() {
+        let priority = eager.priority(task);
+        if eager.is_released(task) && priority > *maximum {
+            return Err(format!(
+                "task {task} has priority {priority}, above its maximum {maximum}"
+            ));
+        }
     }
     Ok(())
 }

@@ -16,7 +16,12 @@ pub struct Draft {
 impl Draft {
     pub fn of(plan: &Plan, events: &[Event]) -> Draft {
         Draft {
-            tasks: plan.bases.iter().map(|base| [*base, 0]).collect(),
+            tasks: plan
+                .bases
+                .iter()
+                .zip(&plan.maxima)
+                .map(|(base, maximum)| [*base, *maximum])
+                .collect(),
             locks: plan
                 .locks
                 .iter()
@@ -57,6 +62,7 @@ impl Draft {
             |(task, lock): &(u8, u8)| usize::from(*task) < tasks && usize::from(*lock) < locks;
         Plan {
             bases: self.tasks.iter().map(|[base, _]| *base).collect(),
+            maxima: self.tasks.iter().map(|[_, maximum]| *maximum).collect(),
             locks: self
                 .locks
                 .iter()

@@ -53,7 +53,7 @@ pub fn short(seed: u64, number: u64) -> Case {
             ("walk", Draft::of(&plan, &events).bytes(), row_space)
         }
         55..=74 => {
-            let number = random.between(1, 9) as u8;
+            let number = random.pick(&damage::NUMBERS);
             let twice = random.one_in(3);
             let (plan, events) = short_run(random);
             let draft = Draft::of(&plan, &events);
@@ -67,9 +67,11 @@ pub fn short(seed: u64, number: u64) -> Case {
         }
         75..=84 => {
             let count = random.between(2, 5);
-            // 1 hides all others, so it is drawn less often than they are.
-            let least = if random.one_in(6) { 1 } else { 2 };
-            let numbers: Vec<u8> = (0..count).map(|_| random.between(least, 9) as u8).collect();
+            // 1 hides all others, so it is drawn less often than they are. The tests
+            // of the plan and those after them have a third of these books.
+            let from = random.pick(&[0, 1, 1, 1, 3, 5]);
+            let drawn = &damage::NUMBERS[from..];
+            let numbers: Vec<u8> = (0..count).map(|_| random.pick(drawn)).collect();
             let (plan, events) = short_run(random);
             let (book, row_space) = damage::damaged(random, Draft::of(&plan, &events), &numbers);
             ("several damages", book, row_space)

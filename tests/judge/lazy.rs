@@ -5,7 +5,8 @@
 //!
 //! The protocols part in one place, `set_second_word`. Every kernel entry ends
 //! there: a release, a finish, a tick and an unlock that calls. Nothing else sets
-//! the second word.
+//! the second word. Every entry starts with `cut`, by both protocols, and nothing
+//! else cuts.
 
 use crate::event::Event;
 use crate::plan::{Plan, MOST_ACCEPTED, MOST_OPEN, MOST_UNITS, NOBODY};
@@ -62,6 +63,9 @@ pub struct Lazy<'p> {
     /// How often the eager scheduler would have called: an accepted acquire or
     /// unlock counts where the word of the task that does it changes.
     pub eager_calls: u32,
+    /// How often a kernel entry has cut the user word. It is no figure of a state:
+    /// from a sound one it stays 0.
+    pub cuts: u32,
 }
 
 impl<'p> Lazy<'p> {
@@ -89,6 +93,7 @@ impl<'p> Lazy<'p> {
             sections: vec![closed; plan.locks.len()],
             calls: 0,
             eager_calls: 0,
+            cuts: 0,
         }
     }
 
@@ -142,6 +147,7 @@ impl<'p> Lazy<'p> {
         if self.tasks[task].release_number != 0 {
             return Err(14);
         }
+        self.cut();
         let base = self.plan.bases[task];
         let figures = &mut self.tasks[task];
         figures.release_number = self.accepted + 1;
@@ -242,6 +248,8 @@ impl<'p> Lazy<'p> {
         let word_before = self.second_word;
         if lazy_call {
             self.calls += 1;
+            // What the kernel finds is the word that was just put back.
+            self.cut();
             self.switch();
         }
         match self.wrong {
@@ -310,6 +318,7 @@ impl<'p> Lazy<'p> {
         if !self.tasks[task].open.is_empty() {
             return Err(22);
         }
+        self.cut();
         // It always switches, but nothing is kept for the task that leaves: all
         // its figures are 0 now, except its delay.
         let last_word = self.user_word;
@@ -326,10 +335,24 @@ impl<'p> Lazy<'p> {
     /// Tick: never refused. It is a kernel entry and no more. The next word of a
     /// sound state is what it was before.
     fn tick(&mut self) -> bool {
+        self.cut();
         if self.wrong != Wrong::TickLeavesKernelWord {
             self.set_second_word();
         }
         false
+    }
+
+    /// What every kernel entry does before all else: a user word above the maximum of
+    /// the running task becomes that maximum. With nobody running there is none.
+    fn cut(&mut self) {
+        let Some(task) = self.running else {
+            return;
+        };
+        let maximum = Word(self.plan.maxima[task]);
+        if self.user_word > maximum {
+            self.user_word = maximum;
+            self.cuts += 1;
+        }
     }
 
     /// The user word is kept as the priority of the task that leaves. Whoever of

@@ -5,6 +5,7 @@
 use crate::by_hand::{self, tell, ByHand};
 use crate::compare;
 use crate::crane;
+use crate::cuts;
 use crate::generate::Case;
 use crate::judging::Ending;
 use crate::protocol::{ByProtocol, Protocol};
@@ -27,6 +28,7 @@ pub fn judge_self(options: &Options) -> Ending {
         return Ending::Failed;
     };
     let mut right = tell("runs of the crane plan and single steps", crane::test());
+    right &= tell("events on words above a maximum", cuts::test());
     right &= tell("figures that are told apart", compare::test());
     right &= by_hand.test();
     let mut own = Own::new();

@@ -26,6 +26,8 @@ pub struct Lock {
 pub struct Plan {
     /// The base priority of each task; of two, the greater one is more urgent.
     pub bases: Vec<u8>,
+    /// The maximum of each task: the highest priority that it may ever have.
+    pub maxima: Vec<u8>,
     pub locks: Vec<Lock>,
     /// Pairs of task and lock: the task may take the lock. They rise by task,
     /// and by lock for the same task.
@@ -33,6 +35,22 @@ pub struct Plan {
 }
 
 impl Plan {
+    /// The plan with the least maxima that the rules allow: the base of each task, or
+    /// the greatest ceiling of the locks that it may take, where that is greater.
+    pub fn with_least_maxima(bases: Vec<u8>, locks: Vec<Lock>, uses: Vec<(u8, u8)>) -> Plan {
+        let mut maxima = bases.clone();
+        for (user, used) in &uses {
+            let maximum = &mut maxima[usize::from(*user)];
+            *maximum = locks[usize::from(*used)].ceiling.max(*maximum);
+        }
+        Plan {
+            bases,
+            maxima,
+            locks,
+            uses,
+        }
+    }
+
     /// Whether the task is a user of the lock.
     pub fn declares(&self, task: usize, lock: usize) -> bool {
         self.uses.binary_search(&(task as u8, lock as u8)).is_ok()

@@ -1,5 +1,6 @@
 //! Random valid plans of all sizes. There are few distinct bases, so that ties
-//! are common, and most locks are contended. Every lock has at least two users.
+//! are common, and most locks are contended. Every lock has at least two users, and
+//! many a task has the least maximum that it can have.
 
 use crate::plan::{Lock, Plan, MOST_LOCKS, MOST_OPEN, MOST_TASKS, MOST_UNITS};
 use crate::random::Random;
@@ -50,7 +51,8 @@ pub fn any(random: &mut Random) -> Plan {
             greatest_limit: random.pick(&[1, greatest]),
         },
     };
-    build(random, &shape)
+    let plan = build(random, &shape);
+    with_maxima(random, plan)
 }
 
 /// A plan whose tasks may want more locks than they can have open.
@@ -62,7 +64,28 @@ pub fn deep(random: &mut Random) -> Plan {
         one_user_in: 1,
         greatest_limit: random.pick(&[6, 40, usize::from(MOST_UNITS)]),
     };
-    build(random, &shape)
+    let plan = build(random, &shape);
+    with_maxima(random, plan)
+}
+
+/// Gives some tasks of a plan greater maxima than the least that they can have.
+fn with_maxima(random: &mut Random, mut plan: Plan) -> Plan {
+    let greatest = usize::from(u8::MAX);
+    let style = random.below(4);
+    for maximum in &mut plan.maxima {
+        let least = usize::from(*maximum);
+        let drawn = match (style, random.below(8)) {
+            // All tasks have the least, or all have the greatest.
+            (0, _) => least,
+            (1, _) => greatest,
+            (_, 0..=3) => least,
+            (_, 4) => greatest,
+            (_, 5) => (least + 1).min(greatest),
+            _ => random.between(least, greatest),
+        };
+        *maximum = drawn as u8;
+    }
+    plan
 }
 
 /// The most bases that a contended plan has, and the first ceiling of a lock there.
@@ -71,12 +94,13 @@ const FIRST_CEILING: usize = 3;
 
 /// As many tasks and locks as can be, contended.
 pub fn contended(random: &mut Random) -> Plan {
-    contended_of(random, MOST_TASKS)
+    let plan = contended_of(random, MOST_TASKS);
+    with_maxima(random, plan)
 }
 
 /// So many tasks, three or more, and as many locks as can be: tasks of each base
 /// in turn, and each lock shared by about a third of the tasks up to its ceiling,
-/// which is never one of the lowest.
+/// which is never one of the lowest. The maxima are the least.
 pub fn contended_of(random: &mut Random, tasks: usize) -> Plan {
     let levels = LEVELS.min(tasks);
     let bases: Vec<u8> = (0..tasks).map(|task| (task % levels) as u8 + 1).collect();
@@ -100,17 +124,18 @@ pub fn contended_of(random: &mut Random, tasks: usize) -> Plan {
         }
     }
     uses.sort_unstable();
-    Plan { bases, locks, uses }
+    Plan::with_least_maxima(bases, locks, uses)
 }
 
 /// As many tasks and locks as can be, plain.
 pub fn plain(random: &mut Random) -> Plan {
-    plain_of(random, MOST_TASKS)
+    let plan = plain_of(random, MOST_TASKS);
+    with_maxima(random, plan)
 }
 
 /// So many tasks, as many locks as can be with two tasks for each, and each lock
 /// with two users of equal base: its ceiling raises nobody, and no lock is ever
-/// waited for.
+/// waited for. The maxima are the least.
 pub fn plain_of(random: &mut Random, tasks: usize) -> Plan {
     let mut bases: Vec<u8> = (0..tasks).map(|_| random.between(1, 24) as u8).collect();
     let count = MOST_LOCKS.min(tasks / 2);
@@ -126,9 +151,10 @@ pub fn plain_of(random: &mut Random, tasks: usize) -> Plan {
         uses.push((user as u8, lock as u8));
         uses.push((user as u8 + 1, lock as u8));
     }
-    Plan { bases, locks, uses }
+    Plan::with_least_maxima(bases, locks, uses)
 }
 
+/// The maxima are the least.
 fn build(random: &mut Random, shape: &Shape) -> Plan {
     let levels = levels(random, shape.levels);
     let bases: Vec<u8> = (0..shape.tasks).map(|_| random.pick(&levels)).collect();
@@ -144,7 +170,7 @@ fn build(random: &mut Random, shape: &Shape) -> Plan {
         uses.extend(users.iter().map(|task| (*task as u8, lock as u8)));
     }
     uses.sort_unstable();
-    Plan { bases, locks, uses }
+    Plan::with_least_maxima(bases, locks, uses)
 }
 
 /// Two users or more, from the bases up to a top one, so that ceilings vary.

@@ -2,12 +2,12 @@
 //! and a writing can be answered with.
 
 /// `WORDS[n]` says when number n is given; 0 stands for no refusal.
-pub const WORDS: [&str; 24] = [
+pub const WORDS: [&str; 25] = [
     "nothing refused",
     "the book is shorter than its contents",
     "a count is out of its range",
     "an entry's kind or offset, or the end of the book, is wrong",
-    "a task without a base or with a stray second byte",
+    "a task without a base, or with a maximum below it",
     "a lock without a ceiling or a limit, or with a stray second byte",
     "a use of something unknown, or not after the use before it",
     "a lock with fewer than two users, or another ceiling than they give",
@@ -27,21 +27,22 @@ pub const WORDS: [&str; 24] = [
     "a work past the limit of an open section",
     "a finish before all locks are closed",
     "the buffer is shorter than the book",
+    "a use of a lock whose ceiling is above the task's maximum",
 ];
 
 /// The answers that whole books can get. The others cannot come up there: a
 /// fresh start leads to neither 10 nor 17, 11 needs more events than a book
 /// holds, a book that works nothing is refused with 8, so that 20 is left to the
 /// single step, and 23 is the writer's.
-pub const FROM_BOOKS: [u8; 19] = [
-    0, 1, 2, 3, 4, 5, 6, 7, 8, 9, 12, 13, 14, 15, 16, 18, 19, 21, 22,
+pub const FROM_BOOKS: [u8; 20] = [
+    0, 1, 2, 3, 4, 5, 6, 7, 24, 8, 9, 12, 13, 14, 15, 16, 18, 19, 21, 22,
 ];
 
 /// The answers that single steps can get.
 pub const FROM_STEPS: [u8; 14] = [0, 10, 11, 12, 13, 14, 15, 16, 17, 18, 19, 20, 21, 22];
 
 /// The answers that writings can get, in the order of their tests.
-pub const FROM_WRITINGS: [u8; 8] = [0, 2, 4, 5, 6, 7, 8, 23];
+pub const FROM_WRITINGS: [u8; 9] = [0, 2, 4, 5, 6, 7, 24, 8, 23];
 
 /// A number with its words.
 pub fn named(number: u8) -> String {

@@ -1,5 +1,5 @@
-//! The replay of a book by both protocols: the reader's tests 1 to 9, then event
-//! after event until one is refused. The eager scheduler and both lazy ones take
+//! The replay of a book by both protocols: the reader's tests 1 to 9 and 24, then
+//! event after event until one is refused. The eager scheduler and both lazy ones take
 //! each event side by side.
 
 use crate::book::{self, Book};
@@ -23,7 +23,7 @@ pub struct Answer {
     pub place: u32,
     pub lazy_calls: u32,
     pub eager_calls: u32,
-    /// Of each task of the plan; none where 1 to 9 refused.
+    /// Of each task of the plan; none where 1 to 9 or 24 refused.
     pub delays: Vec<u16>,
     pub bounds: Vec<u16>,
     /// The whole row space.
@@ -36,6 +36,9 @@ pub struct Outcome {
     /// unlocks; by both protocols as many, unless the judge goes wrong.
     pub accepted: ByProtocol<usize>,
     pub lock_acts: usize,
+    /// After how many of them the running task was raised to its maximum: one more
+    /// would have to be cut.
+    pub at_maximum: usize,
     /// The first of the judge's own demands that did not hold, in words.
     pub violation: Option<String>,
 }
@@ -56,6 +59,7 @@ pub fn replay(bytes: &[u8], row_space: usize, wrong: Wrong) -> Outcome {
             }),
             accepted: ByProtocol::default(),
             lock_acts: 0,
+            at_maximum: 0,
             violation: None,
         },
     }
@@ -136,6 +140,7 @@ fn run(book: &Book, row_space: usize, wrong: Wrong) -> Outcome {
         Run::new(lazy, &bounds, row_space)
     });
     let mut violation = None;
+    let mut at_maximum = 0;
     for (at, event) in book.events.iter().enumerate() {
         let (eager_calls, kernel_word) = (eager.calls(), runs.first.lazy.second_word);
         let by_eager = eager.step(*event).err().unwrap_or(0);
@@ -143,6 +148,8 @@ fn run(book: &Book, row_space: usize, wrong: Wrong) -> Outcome {
             second: runs.second.take(*event, &eager, by_eager),
             first: runs.first.take(*event, &eager, by_eager),
         };
+        let is_accepted = by_lazy.second.0 == 0;
+        at_maximum += usize::from(is_accepted && is_at_maximum(&runs.second.lazy));
         if wrong == Wrong::Nothing && violation.is_none() {
             let happened = Happened {
                 event: *event,
@@ -176,6 +183,7 @@ fn run(book: &Book, row_space: usize, wrong: Wrong) -> Outcome {
     Outcome {
         answers,
         lock_acts: history.iter().filter(is_lock_act).count(),
+        at_maximum,
         accepted,
         violation,
     }
@@ -183,6 +191,14 @@ fn run(book: &Book, row_space: usize, wrong: Wrong) -> Outcome {
 
 fn is_lock_act(event: &&Event) -> bool {
     matches!(event, Event::Acquire(_) | Event::Unlock(_))
+}
+
+/// Whether a lock has raised the running task, and to its maximum.
+fn is_at_maximum(lazy: &Lazy) -> bool {
+    lazy.running.is_some_and(|task| {
+        let (base, maximum) = (lazy.plan.bases[task], lazy.plan.maxima[task]);
+        lazy.user_word.0 == maximum && base < maximum
+    })
 }
 
 /// A state that is reached from a fresh start is sound.

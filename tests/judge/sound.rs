@@ -14,8 +14,8 @@
 use crate::plan::{MOST_ACCEPTED, MOST_LOCKS, MOST_OPEN, MOST_TASKS, MOST_USES, NOBODY};
 use crate::protocol::Protocol;
 use crate::whole::{
-    slot, Field, Whole, ACCEPTED, BASE, CEILING, DELAY, EAGER, KEPT, LAZY, LIMIT, LOCKS, OPEN,
-    OWNER, RELEASED, ROW, RUNNING, SAVED, SECOND, TASKS, UNITS, USER, USES,
+    slot, Field, Whole, ACCEPTED, BASE, CEILING, DELAY, EAGER, KEPT, LAZY, LIMIT, LOCKS, MAXIMUM,
+    OPEN, OWNER, RELEASED, ROW, RUNNING, SAVED, SECOND, TASKS, UNITS, USER, USES,
 };
 use crate::wrong::Wrong;
 
@@ -37,16 +37,20 @@ const fn of_one(of: Protocol, name: &'static str, holds: fn(&Whole) -> bool) -> 
 }
 
 const TWO_USERS: &str = "each lock has two users or more";
+const NOT_BELOW_BASE: &str = "no maximum is below its base";
+const WITHIN_MAXIMUM: &str = "no ceiling is above a user's maximum";
 
 #[rustfmt::skip] // a line each
-pub const CONDITIONS: [Condition; 31] = [
-    // Of the plan: 2, 4, 5, 6 and 7, and nothing past its tasks and locks.
+pub const CONDITIONS: [Condition; 33] = [
+    // Of the plan: 2, 4, 5, 6, 7 and 24, and nothing past its tasks and locks.
     condition("counts of the plan in range", counts_in_range),
     condition("no base is 0", bases),
+    condition(NOT_BELOW_BASE, maxima),
     condition("no ceiling or limit is 0", locks_have_figures),
     condition("uses are of locks of the plan", uses_are_known),
     condition("ceilings are as the users give them", ceilings),
     condition(TWO_USERS, two_users),
+    condition(WITHIN_MAXIMUM, within_maxima),
     condition("unused places of the plan are 0", plan_rest),
     // Who runs, and the priorities that follow from it.
     condition("somebody runs if a task is released, and only then", nobody),
@@ -90,6 +94,8 @@ impl Condition {
             Wrong::KernelWordUnbounded if is_bound => false,
             Wrong::KernelWordAsNext if !is_bound => true,
             Wrong::OneUser | Wrong::OneUserInState if self.name == TWO_USERS => false,
+            Wrong::AboveMaximumInState if self.name == WITHIN_MAXIMUM => false,
+            Wrong::BelowBaseInState if self.name == NOT_BELOW_BASE => false,
             _ => self.is_asked(protocol),
         }
     }
@@ -215,6 +221,10 @@ fn bases(whole: &Whole) -> bool {
     tasks(whole).all(|task| whole.get(BASE, task) != 0)
 }
 
+pub fn maxima(whole: &Whole) -> bool {
+    tasks(whole).all(|task| whole.get(MAXIMUM, task) >= whole.get(BASE, task))
+}
+
 fn locks_have_figures(whole: &Whole) -> bool {
     locks(whole).all(|lock| whole.get(CEILING, lock) != 0 && whole.get(LIMIT, lock) != 0)
 }
@@ -235,8 +245,15 @@ fn two_users(whole: &Whole) -> bool {
     locks(whole).all(|lock| users(whole, lock).count() >= 2)
 }
 
+/// A ceiling at the maximum of a user is right.
+pub fn within_maxima(whole: &Whole) -> bool {
+    locks(whole).all(|lock| {
+        users(whole, lock).all(|task| whole.get(CEILING, lock) <= whole.get(MAXIMUM, task))
+    })
+}
+
 fn plan_rest(whole: &Whole) -> bool {
-    past_tasks_is_0(whole, &[BASE, USES]) && past_locks_is_0(whole, &[CEILING, LIMIT])
+    past_tasks_is_0(whole, &[BASE, MAXIMUM, USES]) && past_locks_is_0(whole, &[CEILING, LIMIT])
 }
 
 fn nobody(whole: &Whole) -> bool {

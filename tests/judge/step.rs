@@ -43,6 +43,7 @@ pub fn step(given: &Whole, event: Event, protocol: Protocol, wrong: Wrong) -> Ou
     let after = figures(&lazy);
     let violation = match answer {
         _ if wrong != Wrong::Nothing => None,
+        Ok(_) if lazy.cuts > 0 => Some("the user word of a sound state was cut".to_string()),
         Ok(call) => unsound(&after, protocol)
             .or_else(|| miscounted(given, event, &after))
             .or_else(|| misplaced(given, event, protocol, call, &after)),

@@ -177,11 +177,12 @@ fn after(whole: &Whole, event: Event, protocol: Protocol) -> Result<Whole, Strin
     }
 }
 
-/// `bases B ..` and `lock CEILING LIMIT of TASK ..`, parted by commas; either
-/// may end with `times N`.
+/// `bases B ..`, `maxima M ..` and `lock CEILING LIMIT of TASK ..`, parted by
+/// commas; each may end with `times N`. Without maxima all are the greatest.
 fn plan(text: &str) -> Result<Plan, String> {
     let mut plan = Plan {
         bases: Vec::new(),
+        maxima: Vec::new(),
         locks: Vec::new(),
         uses: Vec::new(),
     };
@@ -195,15 +196,26 @@ fn plan(text: &str) -> Result<Plan, String> {
             add_to_plan(&mut plan, item)?;
         }
     }
+    if plan.maxima.is_empty() {
+        plan.maxima = vec![u8::MAX; plan.bases.len()];
+    }
+    if plan.maxima.len() != plan.bases.len() {
+        return Err("not as many maxima as bases".to_string());
+    }
     plan.uses.sort_unstable();
     Ok(plan)
 }
 
 fn add_to_plan(plan: &mut Plan, item: &str) -> Result<(), String> {
     let (kind, rest) = split_word(item);
-    if kind == "bases" {
-        for base in rest.split_whitespace() {
-            plan.bases.push(narrow(base)?);
+    let of_tasks = match kind {
+        "bases" => Some(&mut plan.bases),
+        "maxima" => Some(&mut plan.maxima),
+        _ => None,
+    };
+    if let Some(figures) = of_tasks {
+        for figure in rest.split_whitespace() {
+            figures.push(narrow(figure)?);
         }
         return Ok(());
     }

@@ -1,9 +1,12 @@
 //! The rules that are easy to miss, each with what makes a generated step an
 //! example of it. Those of the kernel word, and what the protocols allow of each
-//! other's word, are in `word_rules.rs`.
+//! other's word, are in `word_rules.rs`, those of the maxima in `maximum_rules.rs`.
 
 use crate::aims::{self, Scene};
 use crate::event::Event;
+use crate::maximum_rules::{
+    above_open, at_maximum, maximum_past_tasks, one_above_maximum, one_below_base,
+};
 use crate::plan::MOST_UNITS;
 use crate::protocol::{Protocol, PROTOCOLS};
 use crate::sound::{next_by_rule, priority};
@@ -26,7 +29,7 @@ const SECOND_ALONE: &[Protocol] = &[Protocol::Second];
 const FIRST_ALONE: &[Protocol] = &[Protocol::First];
 
 #[rustfmt::skip] // a line each
-pub const RULES: [(&str, &[Protocol], IsMet); 37] = [
+pub const RULES: [(&str, &[Protocol], IsMet); 42] = [
     ("accepted with a lazy call", BOTH, accepted_with_call),
     ("accepted without a lazy call", BOTH, accepted_without_call),
     ("an acquire that is an eager call", BOTH, raising),
@@ -39,6 +42,11 @@ pub const RULES: [(&str, &[Protocol], IsMet); 37] = [
     ("19 for an older open lock", BOTH, older_lock),
     ("21 for an older section alone", BOTH, older_section),
     ("a changed figure that leaves the state sound", BOTH, still_sound),
+    ("an accepted event while the running task is raised to its maximum", BOTH, at_maximum),
+    ("10 for a ceiling one above a maximum alone", BOTH, one_above_maximum),
+    ("10 for a ceiling above a maximum alone, of an open lock", BOTH, above_open),
+    ("10 for a maximum one below its base alone", BOTH, one_below_base),
+    ("10 for a maximum past the last task alone", BOTH, maximum_past_tasks),
 
     ("an unlock that calls with the priority unchanged", SECOND_ALONE, call_of_equal),
     ("a newcomer above both words", SECOND_ALONE, above_both),

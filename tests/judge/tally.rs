@@ -16,6 +16,8 @@ pub struct Tally {
     eager_calls: u64,
     /// Calls of the first protocol after which the same task goes on.
     same_again: usize,
+    /// Accepted events after which a lock has raised the running task to its maximum.
+    at_maximum: usize,
     answers: [usize; WORDS.len()],
     /// The least and the greatest place of each number.
     places: [Option<(u32, u32)>; WORDS.len()],
@@ -35,6 +37,7 @@ impl Tally {
         self.lazy_calls.first += u64::from(outcome.answers.first.lazy_calls);
         self.same_again += same_again(&outcome.answers.first.rows, outcome.accepted.first);
         self.eager_calls += u64::from(answer.eager_calls);
+        self.at_maximum += outcome.at_maximum;
         let number = usize::from(answer.number);
         self.answers[number] += 1;
         let (least, most) = self.places[number].unwrap_or((answer.place, answer.place));
@@ -71,6 +74,10 @@ impl Tally {
                 "an acquire or unlock that is no eager call",
                 self.lock_acts as u64 > self.eager_calls,
             ),
+            (
+                "a task that a lock raises to its maximum",
+                self.at_maximum > 0,
+            ),
             ("a delay", self.delayed > 0),
             ("a delay that reaches its bound", self.at_bound > 0),
         ];
@@ -101,7 +108,7 @@ impl Tally {
         format!(
             "{} generated books, {} events accepted, {} acquires and unlocks, {} lazy calls by the \
              second and {} by the first protocol ({} elect the same task again), {} eager calls, \
-             {} delays ({} at their bound)",
+             {} rows at a raised task's maximum, {} delays ({} at their bound)",
             self.books,
             self.accepted_events,
             self.lock_acts,
@@ -109,6 +116,7 @@ impl Tally {
             self.lazy_calls.first,
             self.same_again,
             self.eager_calls,
+            self.at_maximum,
             self.delayed,
             self.at_bound,
         )

@@ -77,7 +77,8 @@ pub const TASKS: Field = Field {
 };
 pub const LOCKS: Field = TASKS.then("locks", Per::One, 8);
 pub const BASE: Field = LOCKS.then("base", Per::Task, 1);
-pub const CEILING: Field = BASE.then("ceiling", Per::Lock, 1);
+pub const MAXIMUM: Field = BASE.then("maximum", Per::Task, 1);
+pub const CEILING: Field = MAXIMUM.then("ceiling", Per::Lock, 1);
 pub const LIMIT: Field = CEILING.then("limit", Per::Lock, 2);
 /// Bit l of a task's uses: it may take lock l.
 pub const USES: Field = LIMIT.then("uses", Per::Task, 4);
@@ -103,9 +104,9 @@ pub const UNITS: Field = SAVED.then("units", Per::Lock, 2);
 /// The task that has the lock open, plus one; 0 for a closed lock.
 pub const OWNER: Field = UNITS.then("owner", Per::Lock, 1);
 
-pub const FIELDS: [Field; 20] = [
-    TASKS, LOCKS, BASE, CEILING, LIMIT, USES, ACCEPTED, RUNNING, USER, SECOND, LAZY, EAGER,
-    RELEASED, KEPT, DELAY, OPEN, ROW, SAVED, UNITS, OWNER,
+pub const FIELDS: [Field; 21] = [
+    TASKS, LOCKS, BASE, MAXIMUM, CEILING, LIMIT, USES, ACCEPTED, RUNNING, USER, SECOND, LAZY,
+    EAGER, RELEASED, KEPT, DELAY, OPEN, ROW, SAVED, UNITS, OWNER,
 ];
 
 pub const PLAN_BYTES: usize = USES.end();
@@ -168,6 +169,9 @@ impl Whole {
         for (task, base) in plan.bases.iter().enumerate() {
             whole.set(BASE, task, u64::from(*base));
         }
+        for (task, maximum) in plan.maxima.iter().enumerate() {
+            whole.set(MAXIMUM, task, u64::from(*maximum));
+        }
         for (lock, figures) in plan.locks.iter().enumerate() {
             whole.set(CEILING, lock, u64::from(figures.ceiling));
             whole.set(LIMIT, lock, u64::from(figures.limit));
@@ -217,6 +221,9 @@ impl Whole {
         let uses_of = |task| (0..locks).filter(move |lock| self.uses(task, *lock));
         Plan {
             bases: (0..tasks).map(|task| self.get(BASE, task) as u8).collect(),
+            maxima: (0..tasks)
+                .map(|task| self.get(MAXIMUM, task) as u8)
+                .collect(),
             locks: (0..locks)
                 .map(|lock| Lock {
                     ceiling: self.get(CEILING, lock) as u8,

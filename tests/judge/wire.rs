@@ -8,9 +8,9 @@
 //!
 //! 1, replay by the protocol: the payload is a book, the room its row space in
 //! bytes. The reply is u8 number, u32 place, u32 lazy calls, u32 eager calls, u8
-//! tasks of the plan (0 where 1 to 9 refused), u16 delay of each task, u16 bound
-//! of each task, then the whole row space, which the program fills with the byte
-//! 0xEE before the replay.
+//! tasks of the plan (0 where 1 to 9 or 24 refused), u16 delay of each task, u16
+//! bound of each task, then the whole row space, which the program fills with the
+//! byte 0xEE before the replay.
 //!
 //! 2, check: the payload and the room are as for 1. The reply is u8 number, u32
 //! place, u32 place of the event body in the book, then the plan, figure by

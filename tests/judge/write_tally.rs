@@ -20,7 +20,7 @@ const PLACES: [&str; 3] = ["at the first record", "in between", "at the last"];
 type IsMet = fn(&Writing, &Outcome) -> bool;
 
 #[rustfmt::skip] // a line each
-const RULES: [(&str, IsMet); 21] = [
+const RULES: [(&str, IsMet); 30] = [
     ("written to a buffer that is exactly long enough", |w, o| is_written(o) && spare(w) == Some(0)),
     ("written to one that has a byte more", |w, o| is_written(o) && spare(w) == Some(1)),
     ("written to the largest", |w, o| is_written(o) && w.room == MOST_BYTES),
@@ -42,6 +42,15 @@ const RULES: [(&str, IsMet); 21] = [
     ("7 for one user, whose base is the ceiling", |w, o| by(o, 7, |lock| is_lone(w, lock))),
     ("7 for one user, whose base is another", |w, o| by(o, 7, |lock| users(w, lock) == 1 && !is_lone(w, lock))),
     ("8 by a release with an amount", |w, o| by(o, 8, |at| w.records.events[at][0] == 1)),
+    ("4 for a maximum one below the base", |w, o| by(o, 4, |at| is_one_below(w.records.tasks[at]))),
+    ("4 for a maximum of 0 and a base of 2 or more", |w, o| by(o, 4, |at| is_far_below(w.records.tasks[at]))),
+    ("written with a maximum at the base", |w, o| is_written(o) && has_task(w, |base, most| most == base)),
+    ("written with the greatest maximum", |w, o| is_written(o) && has_task(w, |_, most| most == u8::MAX)),
+    ("written with a ceiling at the maximum of a user", |w, o| is_written(o) && has_use_at_maximum(w)),
+    ("24 for a ceiling one above the maximum", |w, o| by(o, 24, |at| above(w, at) == 1)),
+    ("24 for a ceiling far above it", |w, o| by(o, 24, |at| above(w, at) > 1)),
+    ("24 at a use whose lock has another place", |w, o| by(o, 24, |at| usize::from(w.records.uses[at][1]) != at)),
+    ("24 with a later use at fault too", |w, o| by(o, 24, |at| has_fault_after(w, at))),
 ];
 
 #[derive(Default)]
@@ -68,7 +77,8 @@ impl WriteTally {
         self.bytes += u64::from(outcome.written.length);
         self.answers[number] += 1;
         self.short[number] += usize::from(spare(writing).is_none());
-        if let Some(records) = records_of(writing, outcome.written.number) {
+        if let Some(body) = records_of_number(outcome.written.number) {
+            let records = writing.records.counts()[body];
             let place = match outcome.written.place as usize {
                 0 => 0,
                 place if place + 1 < records => 1,
@@ -110,7 +120,7 @@ impl WriteTally {
                 );
                 ask(format!("{number} before {next}"), next_too, LEAST_MET);
             }
-            if (4..=8).contains(&number) {
+            if records_of_number(number).is_some() {
                 for (place, times) in PLACES.iter().zip(self.places[at]) {
                     ask(format!("{number} {place}"), times, LEAST_MET);
                 }
@@ -153,14 +163,13 @@ fn next_test(number: u8) -> Option<u8> {
     FROM_WRITINGS[1..].get(at).copied().filter(|_| number != 0)
 }
 
-/// How many records there are of those that a refusal names one of.
-fn records_of(writing: &Writing, number: u8) -> Option<usize> {
-    let [tasks, locks, uses, events] = writing.records.counts();
+/// The body, from 0, that has the records of which a refusal names one.
+fn records_of_number(number: u8) -> Option<usize> {
     match number {
-        4 => Some(tasks),
-        5 | 7 => Some(locks),
-        6 => Some(uses),
-        8 => Some(events),
+        4 => Some(0),
+        5 | 7 => Some(1),
+        6 | 24 => Some(2),
+        8 => Some(3),
         _ => None,
     }
 }
@@ -189,6 +198,36 @@ fn by(outcome: &Outcome, number: u8, is_asked: impl Fn(usize) -> bool) -> bool {
 
 fn is_high(task: [u8; 2]) -> bool {
     task[0] == 0 && task[1] != 0
+}
+
+fn is_one_below([base, maximum]: [u8; 2]) -> bool {
+    maximum.checked_add(1) == Some(base)
+}
+
+fn is_far_below([base, maximum]: [u8; 2]) -> bool {
+    maximum == 0 && base > 1
+}
+
+/// Whether some task has such a base and such a maximum.
+fn has_task(writing: &Writing, is_such: impl Fn(u8, u8) -> bool) -> bool {
+    let mut tasks = writing.records.tasks.iter();
+    tasks.any(|[base, maximum]| is_such(*base, *maximum))
+}
+
+/// How far the ceiling of a use is above the maximum of its task. Both are there.
+fn above(writing: &Writing, at: usize) -> i32 {
+    let [task, lock] = writing.records.uses[at];
+    let maximum = writing.records.tasks[usize::from(task)][1];
+    let ceiling = writing.records.locks[usize::from(lock)][0];
+    i32::from(ceiling) - i32::from(maximum)
+}
+
+fn has_use_at_maximum(writing: &Writing) -> bool {
+    (0..writing.records.uses.len()).any(|at| above(writing, at) == 0)
+}
+
+fn has_fault_after(writing: &Writing, at: usize) -> bool {
+    (at + 1..writing.records.uses.len()).any(|later| above(writing, later) > 0)
 }
 
 /// How many users a lock has.

@@ -1,9 +1,9 @@
 //! The writer of books: from records to the bytes of their book in a lent
-//! buffer. What the reader refuses with 2 and 4 to 8 is refused here too, each
+//! buffer. What the reader refuses with 2, 4 to 7, 24 and 8 is refused here too, each
 //! with its place, and then 23: the buffer is shorter than the book.
 
 use crate::book::{entry_at, refuse, test_2_counts, test_4_tasks, test_5_locks, test_6_uses};
-use crate::book::{test_7_ceilings, test_8_events, test_plan, Refusal};
+use crate::book::{test_24_maxima, test_7_ceilings, test_8_events, test_plan, Refusal};
 use crate::draft::Draft;
 use crate::replay::FILL;
 use crate::wrong::Wrong;
@@ -42,11 +42,14 @@ pub fn write(records: &Draft, room: usize, wrong: Wrong) -> Written {
 fn book(records: &Draft, room: usize, wrong: Wrong) -> Result<Vec<u8>, Refusal> {
     let book = records.bytes();
     test_2_counts(records.counts(), wrong)?;
-    test_plan(records, wrong)?;
+    let plan = test_plan(records, wrong)?;
     if wrong == Wrong::RoomBefore8 {
         test_23_room(room, &book)?;
     }
     test_8_events(&records.events)?;
+    if wrong == Wrong::AboveMaximumAfter8 {
+        test_24_maxima(&plan, wrong)?;
+    }
     test_23_room(room, &book)?;
     Ok(book)
 }
@@ -66,10 +69,11 @@ pub fn faults(records: &Draft, room: usize) -> Vec<u8> {
     let [tasks, locks, ..] = records.counts();
     let is_refused = [
         (2, test_2_counts(records.counts(), Wrong::Nothing).is_err()),
-        (4, test_4_tasks(&records.tasks).is_err()),
+        (4, test_4_tasks(&records.tasks, Wrong::Nothing).is_err()),
         (5, test_5_locks(&records.locks).is_err()),
         (6, test_6_uses(&records.uses, tasks, locks).is_err()),
         (7, test_7_ceilings(&plan, Wrong::Nothing).is_err()),
+        (24, test_24_maxima(&plan, Wrong::Nothing).is_err()),
         (8, test_8_events(&records.events).is_err()),
         (23, room < records.size()),
     ];

@@ -15,10 +15,11 @@ use crate::writing::Writing;
 /// The faults that the writings have in turn: the numbers that their records and
 /// their buffer are made for.
 #[rustfmt::skip]
-const FAULTS: [&[u8]; 20] = [
-    &[], &[23], &[], &[2], &[4], &[5], &[6], &[7], &[8], &[],
+const FAULTS: [&[u8]; 26] = [
+    &[], &[23], &[], &[2], &[4], &[5], &[6], &[7], &[24], &[8], &[],
     &[2, 2], &[2, 4], &[4, 4], &[4, 5], &[5, 6], &[6, 7], &[7, 8], &[8, 23],
-    &[4, 5, 6, 7, 8], &[2, 4, 23],
+    &[4, 24], &[7, 24], &[24, 24], &[24, 8], &[24, 23],
+    &[4, 5, 6, 7, 24, 8], &[2, 4, 23],
 ];
 
 /// Of so many writings two are of great books, one has a count of about 65,536,
@@ -105,7 +106,7 @@ fn far_count(random: &mut Random, turn: usize) -> Draft {
         _ => MOST_RECORDS.min(cut + records.counts()[body]),
     };
     match body {
-        0 => records.tasks.resize(count, [1, 0]),
+        0 => records.tasks.resize(count, [1, 1]),
         1 => records.locks.resize(count, [1, 0, 1, 0]),
         2 => records.uses.resize(count, [0, 0]),
         _ => records.events.resize(count, Event::Tick.record()),

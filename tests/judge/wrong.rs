@@ -1,9 +1,13 @@
 //! Ways to go wrong on purpose: the four mistakes of RULES 18.4 and one close to
 //! them, others that only single steps can show, some of the count of eager calls,
 //! some of the kernel word, which is the first protocol's, some of the writer of
-//! books, some of a lock with one user, and some of the sizes. The judge can follow
-//! one of them; a right program must then differ from it, which shows that the judge
-//! is able to fail a program.
+//! books, some of a lock with one user, some of the maximum of a task, and some of
+//! the sizes. The judge can follow one of them; a right program must then differ from
+//! it, which shows that the judge is able to fail a program.
+//!
+//! A kernel that cuts wrongly is none of them: in a sound state there is nothing to
+//! cut, and any other is refused, so no program can show it. What the judge's own
+//! scheduler cuts is tested in `cuts.rs`.
 
 use crate::event::Event;
 use crate::plan::{MOST_EVENTS, MOST_LOCKS, MOST_TASKS, MOST_USES};
@@ -82,6 +86,20 @@ pub enum Wrong {
     OneUserInState,
     /// A lock wants three users.
     ThreeUsers,
+    /// 24 is tested before 7.
+    AboveMaximumBefore7,
+    /// 24 is tested after 8.
+    AboveMaximumAfter8,
+    /// 24 is given also for a ceiling at the maximum.
+    AtMaximum,
+    /// 24 names the lock, and not the use.
+    AboveMaximumNamesLock,
+    /// 4 lets a maximum pass that is one below the base.
+    MaximumOneBelow,
+    /// A state is sound also with a plan that breaks 24.
+    AboveMaximumInState,
+    /// A state is sound also with a maximum below its base.
+    BelowBaseInState,
     /// A plan has 96 tasks at most.
     FewerTasks,
     /// A plan has 3,072 uses at most.
@@ -93,7 +111,7 @@ pub enum Wrong {
 }
 
 /// The wrong ways under the names of the command line.
-pub const WRONG_WAYS: [(&str, Wrong); 37] = [
+pub const WRONG_WAYS: [(&str, Wrong); 44] = [
     ("tail", Wrong::Tail),
     ("at-or-above", Wrong::AtOrAbove),
     ("gives-way", Wrong::GivesWay),
@@ -127,6 +145,13 @@ pub const WRONG_WAYS: [(&str, Wrong); 37] = [
     ("one-user", Wrong::OneUser),
     ("one-user-in-state", Wrong::OneUserInState),
     ("three-users", Wrong::ThreeUsers),
+    ("above-maximum-before-7", Wrong::AboveMaximumBefore7),
+    ("above-maximum-after-8", Wrong::AboveMaximumAfter8),
+    ("at-maximum", Wrong::AtMaximum),
+    ("above-maximum-names-lock", Wrong::AboveMaximumNamesLock),
+    ("maximum-one-below", Wrong::MaximumOneBelow),
+    ("above-maximum-in-state", Wrong::AboveMaximumInState),
+    ("below-base-in-state", Wrong::BelowBaseInState),
     ("fewer-tasks", Wrong::FewerTasks),
     ("fewer-uses", Wrong::FewerUses),
     ("one-more-task", Wrong::OneMoreTask),
@@ -181,6 +206,14 @@ impl Wrong {
             Wrong::OneUser => 1,
             Wrong::ThreeUsers => 3,
             _ => 2,
+        }
+    }
+
+    /// The least maximum of a task of this base in a book.
+    pub fn least_maximum(self, base: u8) -> u8 {
+        match self {
+            Wrong::MaximumOneBelow => base.saturating_sub(1),
+            _ => base,
         }
     }
 

@@ -151,7 +151,7 @@ fn contents(shelf: &mut Shelf) {
     shelf.bytes("offset 0 for an empty body", empty, 4, 3, 2);
 }
 
-/// 4 to 7: their order, and the first offender of each.
+/// 4 to 7 and 24: their order, and the first offender of each.
 fn records(shelf: &mut Shelf) {
     let right = Draft::of(&crane::plan(), crane::RUNS[0].1);
     let mut damaged = |name: &str, damage: &dyn Fn(&mut Draft), number: u8, place: u32| {

@@ -41,46 +41,30 @@ pub fn loaded(plan: Plan) -> Loaded
     }
 }
 
-fn fill_bases(tasks: &[u16], base: &mut [u8; MAX_TASKS])
+fn fill_tasks(tasks: &[u16], base: &mut [u8; MAX_TASKS], maximum: &mut [u8; MAX_TASKS])
     requires { ⌜ length (now tasks) ≤ maxTasks ⌝ }
-    ensures { λ _. ⌜ now (base .exit) ≡ renewed (now (base .entry)) (λ t. taskBase (at (now (tasks .entry)) t)) (length (now (tasks .entry))) ⌝ }
+    ensures { λ _. ⌜ (now (base .exit) ≡ renewed (now (base .entry)) (λ t. taskBase (at (now (tasks .entry)) t)) (length (now (tasks .entry))))
+        × (now (maximum .exit) ≡ renewed (now (maximum .entry)) (λ t. taskMaximum (at (now (tasks .entry)) t)) (length (now (tasks .entry)))) ⌝ }
 {
     let mut t: usize = 0;
     while t < tasks.len() {
-        base[t] = task_base(tasks[t]);
+        let w = tasks[t];
+        base[t] = task_base(w);
+        maximum[t] = task_maximum(w);
         t += 1;
     }
 }
 
-fn fill_maxima(tasks: &[u16], maximum: &mut [u8; MAX_TASKS])
-    requires { ⌜ length (now tasks) ≤ maxTasks ⌝ }
-    ensures { λ _. ⌜ now (maximum .exit) ≡ renewed (now (maximum .entry)) (λ t. taskMaximum (at (now (tasks .entry)) t)) (length (now (tasks .entry))) ⌝ }
-{
-    let mut t: usize = 0;
-    while t < tasks.len() {
-        maximum[t] = task_maximum(tasks[t]);
-        t += 1;
-    }
-}
-
-fn fill_ceilings(locks: &[u32], ceiling: &mut [u8; MAX_LOCKS])
+fn fill_locks(locks: &[u32], ceiling: &mut [u8; MAX_LOCKS], limit: &mut [u16; MAX_LOCKS])
     requires { ⌜ length (now locks) ≤ maxLocks ⌝ }
-    ensures { λ _. ⌜ now (ceiling .exit) ≡ renewed (now (ceiling .entry)) (λ l. lockCeiling (at (now (locks .entry)) l)) (length (now (locks .entry))) ⌝ }
+    ensures { λ _. ⌜ (now (ceiling .exit) ≡ renewed (now (ceiling .entry)) (λ l. lockCeiling (at (now (locks .entry)) l)) (length (now (locks .entry))))
+        × (now (limit .exit) ≡ renewed (now (limit .entry)) (λ l. lockLimit (at (now (locks .entry)) l)) (length (now (locks .entry)))) ⌝ }
 {
     let mut l: usize = 0;
     while l < locks.len() {
-        ceiling[l] = lock_ceiling(locks[l]);
-        l += 1;
-    }
-}
-
-fn fill_limits(locks: &[u32], limit: &mut [u16; MAX_LOCKS])
-    requires { ⌜ length (now locks) ≤ maxLocks ⌝ }
-    ensures { λ _. ⌜ now (limit .exit) ≡ renewed (now (limit .entry)) (λ l. lockLimit (at (now (locks .entry)) l)) (length (now (locks .entry))) ⌝ }
-{
-    let mut l: usize = 0;
-    while l < locks.len() {
-        limit[l] = lock_limit(locks[l]);
+        let w = locks[l];
+        ceiling[l] = lock_ceiling(w);
+        limit[l] = lock_limit(w);
         l += 1;
     }
 }
@@ -107,13 +91,11 @@ pub fn built(tasks: &[u16], locks: &[u32], uses: &[u16]) -> Plan
     ensures { λ r. ⌜ r ≡ planOf (now (tasks .entry)) (now (locks .entry)) (now (uses .entry)) ⌝ }
 {
     let mut base = [0u8; MAX_TASKS];
-    fill_bases(tasks, &mut base);
     let mut maximum = [0u8; MAX_TASKS];
-    fill_maxima(tasks, &mut maximum);
+    fill_tasks(tasks, &mut base, &mut maximum);
     let mut ceiling = [0u8; MAX_LOCKS];
-    fill_ceilings(locks, &mut ceiling);
     let mut limit = [0u16; MAX_LOCKS];
-    fill_limits(locks, &mut limit);
+    fill_locks(locks, &mut ceiling, &mut limit);
     let mut masks = [0u32; MAX_TASKS];
     fill_masks(uses, &mut masks);
     Plan {

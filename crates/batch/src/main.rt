@@ -5,22 +5,22 @@
 //   2  check a book for so much row space (check.rt)
 //   3  a single step: a plan, a state and an event (step.rt)
 //   4  write a book from its records, to a buffer of so many bytes (write.rt)
+//   5  compose a book from a text, 6 show a book, 7 explain its replay (office_replies.rt)
 // The input's end, or a command that is none of these, too long or with counts that do not fit it, ends
 // the program.
 mod check;
 mod figures;
+mod office_replies;
 mod replay;
 mod step;
 mod wire;
 mod write;
 
+use office::space::text_room;
 use rules::protocol::Protocol;
 use rules::protocol::named;
 use wire::read8;
 use wire::read32;
-
-// More bytes than a plan and a state have, and than records that two bytes cannot count.
-const INPUT: usize = 524288;
 
 // More bytes than the largest book and its rows have.
 const ROOM: usize = 65536;
@@ -45,6 +45,18 @@ fn answer(command: u32, protocol: Protocol, input: &mut [u8], rows: &mut [u8]) -
     }
     if command == 4 {
         return write::reply(input, rows);
+    }
+    if command == 5 {
+        office_replies::compose_reply(input);
+        return true;
+    }
+    if command == 6 {
+        office_replies::show_reply(input);
+        return true;
+    }
+    if command == 7 {
+        office_replies::explain_reply(protocol, input);
+        return true;
     }
     false
 }
@@ -79,8 +91,9 @@ fn serve(input: &mut [u8], rows: &mut [u8]) {
     }
 }
 
+// The input has room for one byte more than a text may have; a plan and a state have fewer, and so have the records of a writing.
 fn main() {
-    let mut input = [0u8; INPUT];
+    let mut input = text_room();
     let mut rows = [0u8; ROOM];
     serve(&mut input, &mut rows);
 }

@@ -9,3 +9,4 @@ pub mod Accepted
 pub mod EventWalk
 mod Laying
 mod WriteOrder
+pub mod Looks

@@ -11,7 +11,7 @@ use Rattle.rules.specs.Numbers.Capacity.{maxTasks, maxLocks, maxUses, maxEvents
 use Rattle.rules.specs.Numbers.Choice.{if_then_else_}
 use Rattle.rules.specs.Numbers.Place.{at, any, firstFrom}
 use Rattle.rules.specs.Numbers.Refusal.{numberOf, firstFault, checkFor}
-use Rattle.rules.specs.Books.Event.{eventFault, recordKind, recordId, recordAmount, numberFault}
+use Rattle.rules.specs.Books.Event.{eventFault, recordKind, recordId, recordAmount, numberFault, eventOf, numberEvent}
 use Rattle.rules.specs.Books.Plan.{most, countFault}
 use Rattle.rules.specs.Books.Load.{loadChecks, loadOf}
 use Rattle.rules.specs.Books.Book.{contents}
@@ -27,6 +27,7 @@ use Rattle.rules.proofs.Numbers.Checks.{clean-for, check-left, check-right, che
 use Rattle.rules.proofs.Books.Loaded.{load-refused, load-passed}
 use Rattle.rules.proofs.Books.ReadBack.{book-size}
 use Rattle.book.proofs.LastTests.{wrong-one, no-room, both-pass}
+use Rattle.rules.specs.declared.event.Event.{Event}
 use Rattle.book.specs.Room.{Few, Room, lastChecks}
 
 -- an event's record, by the parts that the code takes out of it
@@ -34,6 +35,11 @@ pub parts-fault : (w kind id amount : ℕ) (r : Bool) → kind ≡ recordKind w 
     → r ≡ numberFault w
 unfolding numberFault
 parts-fault w kind id amount r a b c h = h ∙ rw (a, b, c)
+
+pub parts-event : (w kind id amount : ℕ) (r : Event) → kind ≡ recordKind w → id ≡ recordId w → amount ≡ recordAmount w → r ≡ eventOf kind id amount
+    → r ≡ numberEvent w
+unfolding numberEvent
+parts-event w kind id amount r a b c h = h ∙ rw (a, b, c)
 
 -- a count, as the code has it
 pub count-told : (n m u k e c : ℕ) (r : Bool) → c ≡ countOf n m u k e → r ≡ countFault e c → r ≡ countFault e (countOf n m u k e)

@@ -2,3 +2,4 @@
 pub mod Laid
 pub mod Room
 pub mod Reader
+pub mod Look

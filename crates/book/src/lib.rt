@@ -6,6 +6,7 @@ pub mod cursor;
 mod entry;
 mod events;
 mod lay;
+pub mod look;
 mod number;
 pub mod reader;
 pub mod record;

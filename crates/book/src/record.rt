@@ -1,7 +1,7 @@
 // An event's record: kind, id, amount.
 use rules::event::Event;
 ghost use mathlib.Core.Path.{_≡_};
-ghost use Rattle.rules.specs.Books.Event.{eventFault, eventOf};
+ghost use Rattle.rules.specs.Books.Event.{eventFault, eventOf, numberFault, numberEvent};
 
 // 8: no event's kind, something in a field without use, or work of no units. All is asked of every
 // record, without a branch, since kinds come in no order that a processor could foresee.
@@ -35,4 +35,17 @@ pub fn event_of(kind: u8, id: u8, amount: u16) -> Event
         return Event::Finish;
     }
     Event::Tick
+}
+
+// The same of a record as one number, low byte first.
+pub fn number_fault(w: u32) -> bool
+    ensures { λ r. ⌜ r ≡ numberFault w ⌝ }
+{
+    event_fault((w % 256) as u8, (w / 256 % 256) as u8, (w / 65536) as u16)
+}
+
+pub fn number_event(w: u32) -> Event
+    ensures { λ r. ⌜ r ≡ numberEvent w ⌝ }
+{
+    event_of((w % 256) as u8, (w / 256 % 256) as u8, (w / 65536) as u16)
 }

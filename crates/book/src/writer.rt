@@ -2,7 +2,7 @@
 // and 23.
 use crate::entry::CONTENTS;
 use crate::lay::lay;
-use crate::record::event_fault;
+use crate::record::number_fault;
 use plan::count::count_fault;
 use rules::answer::Verdict;
 use rules::answer::Written;
@@ -47,13 +47,6 @@ fn first_count(n: usize, m: usize, u: usize, k: usize) -> usize
         e += 1;
     }
     e
-}
-
-// Whether 8 refuses an event's record.
-fn number_fault(w: u32) -> bool
-    ensures { λ r. ⌜ r ≡ numberFault w ⌝ }
-{
-    event_fault((w % 256) as u8, (w / 256 % 256) as u8, (w / 65536) as u16)
 }
 
 // Whether 8 refuses one of the events. The loop has no other end, so that several are asked at a time.

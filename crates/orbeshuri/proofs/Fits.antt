@@ -29,7 +29,8 @@ use Rattle.rules.proofs.Books.Passes.{passed-contents, passed-obeys}
 use Rattle.rules.proofs.Demands.Replayed.{replayed}
 use Rattle.rules.proofs.Demands.Sizes.{place-few, few-events, row-small, lazy-few, eager-few, bound-word}
 use Rattle.report.specs.Report.{reportOf}
-use Rattle.orbeshuri.specs.Text.{rowSpace, reportSpace, ranOf, textOf}
+use Rattle.office.specs.Ran.{rowSpace, ranOf}
+use Rattle.orbeshuri.specs.Text.{reportSpace, textOf}
 use Rattle.orbeshuri.proofs.Written.{rows-room, reported, text-is, refused-text}
 use Rattle.orbeshuri.proofs.Length.{SmallAt, passed-long, stopped-long}
 

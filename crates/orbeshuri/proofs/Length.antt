@@ -1,42 +1,26 @@
 -- How long the report of a replay can be. Assumes nothing.
 use mathlib.Core.Path.{_≡_, refl, _∙_}
-use mathlib.Core.Logic.{_≢_, ⊎-elim}
+use mathlib.Core.Logic.{_≢_}
 use mathlib.Core.List.{List, [], _∷_, _++_, map}
-use Prim.Native.Nat.{ℕ, zero, suc, _+_, _*_, _/_, _^_, _≤_, _<_}
+use Prim.Native.Nat.{ℕ, zero, suc, _+_, _*_, _^_, _≤_, _<_}
 use native.Mathlib.Omega.{arith}
-use lib.Dec.{eqb, ltb}
+use lib.Dec.{eqb}
 use lib.ListN.{length, length-append}
-use borrow.Author.Tests.{lt-ltb, le-ltb, eqb-false}
+use borrow.Author.Tests.{eqb-false}
 use Rattle.rules.specs.Numbers.Capacity.{maxTasks, nobody}
 use Rattle.rules.specs.Numbers.Place.{at}
 use Rattle.rules.specs.Numbers.Refusal.{numberOf}
 use Rattle.rules.specs.declared.refusal.Refusal.{Refusal}
 use Rattle.rules.specs.declared.answer.Verdict.{Verdict}
-use Rattle.rules.proofs.Numbers.Choice.{if-true, if-false, by-test, lt-or-le}
+use Rattle.rules.proofs.Numbers.Choice.{if-true, if-false, by-test}
 use Rattle.rules.proofs.Numbers.Refusals.{numbered}
 use Rattle.rules.proofs.Demands.Sizes.{SmallRow}
-use Rattle.report.specs.Report.{newline, dash, delayed, digitsIn, digits, spaced, line, header, runner}
+use Rattle.page.specs.Decimal.{digits}
+use Rattle.page.proofs.Numbers.{digits-few}
+use Rattle.report.specs.Report.{newline, dash, delayed, spaced, line, header, runner}
 use Rattle.report.specs.Report.{rowWords, rowLine, rowLines, callsLine, delayedLine, refusedLine, reportOf}
 
 -- ---- a number
-
--- a digit more than a tenth of it has
-one-longer : (k n m : ℕ) → (10 ≤ n → length (digitsIn k (n / 10)) ≤ m) → length (digitsIn (suc k) n) ≤ suc m
-unfolding digitsIn
-one-longer k n m h = ⊎-elim
-    (λ (l : n < 10). rw (if-true (ltb n 10) [] (digitsIn k (n / 10)) (lt-ltb n 10 l)) (omega arith))
-    (λ (l : 10 ≤ n). rw (if-false (ltb n 10) [] (digitsIn k (n / 10)) (le-ltb n 10 l), length-append) (omega (arith, h l)))
-    (lt-or-le n 10)
-
-in-few : (k d n : ℕ) → n < 10 ^ suc d → length (digitsIn k n) ≤ suc d
-unfolding digitsIn
-in-few zero d n h = omega arith
-in-few (suc k) zero n h = one-longer k n 0 (λ l. absurd (omega arith))
-in-few (suc k) (suc d) n h = one-longer k n (suc d) (λ l. in-few k d (n / 10) (omega arith))
-
-digits-few : (d n : ℕ) → n < 10 ^ suc d → length (digits n) ≤ suc d
-unfolding digits
-digits-few d n h = in-few (suc n) d n h
 
 -- a task, or `-`
 runner-few : (t : ℕ) → (t ≢ nobody → t < maxTasks) → length (runner t) ≤ 3

@@ -21,7 +21,8 @@ use Rattle.rules.proofs.Books.Cut.{cut-same, long-refused}
 use Rattle.rules.proofs.Books.Obeyed.{few-tasks}
 use Rattle.rules.proofs.Books.Passes.{passed-obeys}
 use Rattle.report.specs.Report.{reportOf}
-use Rattle.orbeshuri.specs.Text.{rowSpace, inputSpace, ranOf, textOf}
+use Rattle.office.specs.Ran.{rowSpace, ranOf}
+use Rattle.orbeshuri.specs.Text.{inputSpace, textOf}
 -- the laws rest on this file, so the texts of P1 and P5 are computed before them all: a wrong text that they show is refused there first
 use Rattle.orbeshuri.specs.Printed
 

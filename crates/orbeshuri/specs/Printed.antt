@@ -27,7 +27,8 @@ use Rattle.rules.specs.Replays.Run.{withRow, onward, runFrom}
 use Rattle.rules.specs.Replays.Replay.{replayAs, replayOf}
 use Rattle.rules.specs.Demands.Crane.{book}
 use Rattle.rules.specs.declared.protocol.Protocol.the-variants.{Second, First}
-use Rattle.report.specs.Report.{digitsIn, digits, spaced, line, header, runner, rowWords, rowLine, rowLines, callsLine, delayedLine, refusedLine, reportOf}
+use Rattle.page.specs.Decimal.{digitsIn, digits}
+use Rattle.report.specs.Report.{spaced, line, header, runner, rowWords, rowLine, rowLines, callsLine, delayedLine, refusedLine, reportOf}
 use Rattle.report.specs.Shown.{block, blockByFirst, blockOfRefused}
 use Rattle.orbeshuri.specs.Text.{textOf}
 

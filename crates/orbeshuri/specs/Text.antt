@@ -1,18 +1,12 @@
 -- RULES 15.1: what the program writes for the bytes on its standard input: the report of the replay of that book, by the protocol that is asked for.
 -- Assumes nothing.
 use mathlib.Core.List.{List}
-use Prim.Native.Nat.{ℕ, _*_}
-use lib.ListN.{take, replicate}
+use Prim.Native.Nat.{ℕ}
+use lib.ListN.{take}
 use Rattle.rules.specs.Books.Book.{checkedOf}
-use Rattle.rules.specs.Numbers.Capacity.{maxEvents}
-use Rattle.rules.specs.Replays.Replay.{replayOf}
-use Rattle.rules.specs.Replays.Run.{Ran}
 use Rattle.rules.specs.declared.protocol.Protocol.{Protocol}
 use Rattle.report.specs.Report.{reportOf}
-
--- four row bytes for each event that a book may have, so 9 is never given
-abbrev pub rowSpace : ℕ
-rowSpace = maxEvents * 4
+use Rattle.office.specs.Ran.{rowSpace, ranOf}
 
 -- RULES 15.7: as much of an input as the program reads: its buffer, `io::large_buffer`
 abbrev pub inputSpace : ℕ
@@ -21,9 +15,6 @@ inputSpace = 65_536
 -- room for every text
 abbrev pub reportSpace : ℕ
 reportSpace = 262_144
-
-abbrev pub ranOf : Protocol → List ℕ → Ran
-ranOf pr b = replayOf pr b (replicate rowSpace 0)
 
 abbrev pub textOf : Protocol → List ℕ → List ℕ
 textOf pr b =

@@ -1,7 +1,9 @@
-// RULES 15: the replay of a book, which is on standard input, and its report, on standard output. The word
-// `first` asks for the first protocol.
+// RULES 15, 19.9: the replay of a book, which is on standard input, and its report, on standard output. The word
+// `first` asks for the first protocol, and `explain` for what the calls and the refusal were about, in words.
 mod words;
 
+use office::explain::explain;
+use office::space::text_room;
 use report::report;
 use rules::answer::Verdict;
 use rules::capacity::MAX_EVENTS;
@@ -18,6 +20,7 @@ ghost use Rattle.rules.specs.Numbers.Capacity.{maxTasks};
 ghost use Rattle.rules.specs.Numbers.Place.{stored};
 ghost use Rattle.report.specs.Report.{reportOf};
 ghost use Rattle.io.specs.Counts.{Counts};
+ghost use Rattle.office.specs.Explain.{explainedOf};
 ghost use Rattle.orbeshuri.specs.Text.{reportSpace, textOf};
 
 // Four row bytes for each event that a book may have, so 9 is never given.
@@ -70,24 +73,48 @@ fn text(protocol: Protocol, book: &[u8], out: &mut [u8]) -> usize
     report_state(out, verdict, &rows, head, delay, tasks)
 }
 
+// The words for a book at the front of `out`, and how many bytes they have.
+fn words_of(protocol: Protocol, book: &[u8], out: &mut [u8]) -> usize
+    ensures { λ _. ⌜ now (out .exit) ≡ stored (now (out .entry)) 0 (explainedOf protocol (now (book .entry))) ⌝ }
+    ensures { λ r. ⌜ Counts r (now (out .exit)) ⌝ }
+{
+    explain(protocol, book, out, 0)
+}
+
+fn write_report(protocol: Protocol, book: &[u8]) {
+    let mut out = [0u8; REPORT_SPACE];
+    let size = text(protocol, book, &mut out);
+    io::write_all(1, &out[..size]);
+}
+
+fn write_words(protocol: Protocol, book: &[u8]) {
+    let mut out = text_room();
+    let size = words_of(protocol, book, &mut out);
+    io::write_all(1, &out[..size]);
+}
+
 // RULES 15.7: the buffer is larger than the largest book. What is read of a longer input has the
 // report of all of it.
-fn report_input(protocol: Protocol) {
+fn report_input(protocol: Protocol, explained: bool) {
     let mut book = io::large_buffer();
     let n = io::read_full(0, &mut book);
-    let mut out = [0u8; REPORT_SPACE];
-    let size = text(protocol, &book[..n], &mut out);
-    io::write_all(1, &out[..size]);
+    write_report(protocol, &book[..n]);
+    if explained {
+        write_words(protocol, &book[..n]);
+    }
 }
 
 // Words that ask for nothing are told to standard error, and nothing is replayed.
 fn main() {
-    let mut word = [0u8; 8];
-    let n = os::arg(1, &mut word);
-    match asked_by(os::arg_count(), &word[..n]) {
-        Asked::By(protocol) => report_input(protocol),
+    let mut one = [0u8; 8];
+    let n = os::arg(1, &mut one);
+    let mut two = [0u8; 8];
+    let m = os::arg(2, &mut two);
+    match asked_by(os::arg_count(), &one[..n], &two[..m]) {
+        Asked::By(protocol) => report_input(protocol, false),
+        Asked::Explain(protocol) => report_input(protocol, true),
         Asked::Unknown => {
-            io::write_all(2, b"usage: orbeshuri [first] <BOOK\n");
+            io::write_all(2, b"usage: orbeshuri [first] [explain] <BOOK\n");
         }
     }
 }

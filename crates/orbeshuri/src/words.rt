@@ -1,57 +1,53 @@
-// The words that the program is started with: none for the second protocol, or `first`.
+// The words that the program is started with: none for the second protocol, `first` for the first, and after that `explain`
+// where the replay is to be explained.
 use rules::protocol::Protocol;
+use texts::word::same;
 ghost use mathlib.Core.Path.{_≡_};
-ghost use lib.Dec.{eqb};
-ghost use lib.ListN.{length};
-ghost use Rattle.rules.specs.Numbers.Place.{at, every};
-ghost use Rattle.orbeshuri.specs.Words.{askedBy, firstWord, isFirst};
+ghost use Rattle.orbeshuri.specs.Words.{byOne, byTwo, askedBy};
 
-// The protocol that is asked for, or words that ask for nothing.
+// A report by the protocol, a report with its words, or words that ask for nothing.
 pub enum Asked {
     By(Protocol),
+    Explain(Protocol),
     Unknown,
 }
 
-const FIRST: [u8; 5] = [b'f', b'i', b'r', b's', b't'];
-
-// Whether five bytes are the word `first`.
-fn spells_first(word: &[u8]) -> bool
-    requires { ⌜ length (now word) ≡ 5 ⌝ }
-    ensures { λ r. ⌜ r ≡ every (λ i. eqb (at (now (word .entry)) i) (at firstWord i)) 5 ⌝ }
+fn by_one(word: &[u8]) -> Asked
+    ensures { λ r. ⌜ r ≡ byOne (now (word .entry)) ⌝ }
 {
-    let first = FIRST;
-    let mut i: usize = 0;
-    while i < 5 {
-        if word[i] != first[i] {
-            return false;
+    if same(word, b"first") {
+        return Asked::By(Protocol::First);
+    }
+    if same(word, b"explain") {
+        return Asked::Explain(Protocol::Second);
+    }
+    Asked::Unknown
+}
+
+fn by_two(one: &[u8], two: &[u8]) -> Asked
+    ensures { λ r. ⌜ r ≡ byTwo (now (one .entry)) (now (two .entry)) ⌝ }
+{
+    if same(one, b"first") {
+        if same(two, b"explain") {
+            return Asked::Explain(Protocol::First);
         }
-        i += 1;
+        return Asked::Unknown;
     }
-    true
+    Asked::Unknown
 }
 
-// Whether a word is `first`.
-fn is_first(word: &[u8]) -> bool
-    ensures { λ r. ⌜ r ≡ isFirst (now (word .entry)) ⌝ }
-{
-    if word.len() != 5 {
-        return false;
-    }
-    spells_first(word)
-}
-
-// By how many words there are, the program's own name among them, and the first after that name.
-pub fn asked_by(count: usize, word: &[u8]) -> Asked
-    ensures { λ r. ⌜ r ≡ askedBy count (now (word .entry)) ⌝ }
+// By how many words there are, the program's own name among them, and the first two after that name.
+pub fn asked_by(count: usize, one: &[u8], two: &[u8]) -> Asked
+    ensures { λ r. ⌜ r ≡ askedBy count (now (one .entry)) (now (two .entry)) ⌝ }
 {
     if count <= 1 {
         return Asked::By(Protocol::Second);
     }
-    if count != 2 {
-        return Asked::Unknown;
+    if count == 2 {
+        return by_one(one);
     }
-    if is_first(word) {
-        return Asked::By(Protocol::First);
+    if count == 3 {
+        return by_two(one, two);
     }
     Asked::Unknown
 }

@@ -7,7 +7,7 @@ ghost use mathlib.Core.Path.{_≡_};
 ghost use Rattle.rules.specs.Books.Plan.{most, countFault};
 
 // The most records that entry e may have.
-fn most_of(e: usize) -> usize
+pub fn most_of(e: usize) -> usize
     ensures { λ r. ⌜ r ≡ most e ⌝ }
 {
     if e == 0 {

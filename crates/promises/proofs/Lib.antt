@@ -1,5 +1,6 @@
 -- The promises, said of the code.
 pub mod OneResult
+pub mod OneText
 pub mod Unread
 pub mod Passed
 pub mod Obeying
@@ -9,3 +10,9 @@ pub mod Replays
 pub mod Reading
 pub mod Device
 pub mod Writing
+mod Digits
+mod LinesRead
+mod ShownLines
+pub mod ReadAgain
+mod ShownLength
+pub mod Again

@@ -4,7 +4,7 @@ use mathlib.Core.List.{List}
 use Prim.Native.Nat.{ℕ}
 use lib.ListN.{drop}
 use Rattle.rules.specs.Numbers.Answer.{verdictNumber}
-use Rattle.rules.specs.Books.Book.{bodyAt, planIn, eventBody, checkOf, checkedAs, checkedOf}
+use Rattle.rules.specs.Books.Book.{planIn, eventBody, checkOf, checkedAs, checkedOf}
 use Rattle.rules.specs.declared.answer.Checked.{Checked}
 use Rattle.rules.specs.declared.answer.Verdict.{Verdict}
 use Rattle.rules.proofs.Books.Passes.{verdict-held, check-passes}

@@ -15,10 +15,13 @@ use Rattle.rules.specs.Numbers.Refusal.{numberOf}
 use Rattle.rules.specs.declared.refusal.Refusal.{Refusal}
 use Rattle.rules.specs.declared.answer.Verdict.{Verdict}
 use Rattle.rules.proofs.Numbers.Choice.{if-true, if-false}
-use Rattle.report.specs.Page.{Page, typed}
-use Rattle.report.specs.Report.{newline, space, dash, calls, delayed, refused, digits, spaced, line, header}
+use Rattle.page.specs.Decimal.{digits}
+use Rattle.page.specs.Page.{Page, typed}
+use Rattle.page.proofs.Typed.{typed-on, typed-two, typed-cons}
+-- every proof rests on this file, so the block of P1 is checked before them all: a wrong text that it shows is refused there first
+use Rattle.report.specs.Shown
+use Rattle.report.specs.Report.{newline, space, dash, calls, delayed, refused, spaced, line, header}
 use Rattle.report.specs.Report.{runner, rowWords, rowLine, rowLines, callsLine, delayedLine, refusedLine, reportOf}
-use Rattle.report.proofs.Typed.{typed-on, typed-two, typed-cons}
 
 -- ---- any line: its first word, one more word, none more, the newline
 
@@ -53,6 +56,10 @@ byte-far rows k j l = sym (List·getD-eq-default rows 0 (omega arith))
 pub byte-past : (rows : List ℕ) (i : ℕ) → length rows ≤ i → 0 ≡ at rows i
 byte-past rows i l = sym (List·getD-eq-default rows 0 l)
 
+-- the first byte of a row
+pub first-byte : (rows : List ℕ) (k r : ℕ) → r ≡ at rows (k * 4 + 0) → r ≡ at rows (k * 4)
+first-byte rows k r h = h ∙ ap (at rows) (add-zero (k * 4))
+
 -- the running task
 pub nobody-typed : (p q r : Page) (t : ℕ) → r ≡ typed q dash → q ≡ typed p (space ∷ []) → t ≡ nobody → r ≡ typed p (space ∷ runner t)
 unfolding runner
@@ -69,9 +76,9 @@ four-typed p a b r task user next call hr hb ha =
     one-more p a r (runner task) (digits user ∷ digits next ∷ digits call ∷ []) (more-after a b r (digits user ∷ digits next ∷ []) (digits call) hb hr) ha
 
 pub words-typed : (p r : Page) (rows : List ℕ) (k task user next call : ℕ) → r ≡ typed p (spaced (runner task ∷ digits user ∷ digits next ∷ digits call ∷ []))
-    → task ≡ at rows (k * 4 + 0) → user ≡ at rows (k * 4 + 1) → next ≡ at rows (k * 4 + 2) → call ≡ at rows (k * 4 + 3) → r ≡ typed p (spaced (rowWords rows k))
+    → task ≡ at rows (k * 4) → user ≡ at rows (k * 4 + 1) → next ≡ at rows (k * 4 + 2) → call ≡ at rows (k * 4 + 3) → r ≡ typed p (spaced (rowWords rows k))
 unfolding rowWords
-words-typed p r rows k task user next call h a b c d = h ∙ rw (a, b, c, d, add-zero (k * 4))
+words-typed p r rows k task user next call h a b c d = h ∙ rw (a, b, c, d)
 
 pub row-typed : (p a b r : Page) (rows : List ℕ) (k : ℕ) → r ≡ typed b (newline ∷ []) → b ≡ typed a (spaced (rowWords rows k)) → a ≡ typed p (digits (k + 1))
     → r ≡ typed p (rowLine rows k)

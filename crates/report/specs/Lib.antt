@@ -1,4 +1,3 @@
--- RULES 15: the text of the replay's report, and a page that a text is typed on.
+-- RULES 15: the text of the replay's report.
 pub mod Report
 pub mod Shown
-pub mod Page

@@ -1,13 +1,14 @@
 -- RULES 15.2 to 15.6: the text that the program prints for a replay, in bytes. Assumes nothing.
 use mathlib.Core.List.{List, [], _∷_, _++_, map}
-use Prim.Native.Nat.{ℕ, zero, suc, _+_, _*_, _/_, _%_}
-use lib.Dec.{eqb, ltb}
+use Prim.Native.Nat.{ℕ, zero, suc, _+_, _*_}
+use lib.Dec.{eqb}
 use Rattle.rules.specs.Numbers.Capacity.{nobody}
 use Rattle.rules.specs.Numbers.Choice.{if_then_else_}
 use Rattle.rules.specs.Numbers.Place.{at}
 use Rattle.rules.specs.Numbers.Refusal.{numberOf}
 use Rattle.rules.specs.declared.refusal.Refusal.{Refusal}
 use Rattle.rules.specs.declared.answer.Verdict.{Verdict}
+use Rattle.page.specs.Decimal.{digits}
 
 -- ---- the words of the report, in ASCII
 
@@ -52,21 +53,6 @@ delayed = 100 ∷ 101 ∷ 108 ∷ 97 ∷ 121 ∷ 101 ∷ 100 ∷ []
 -- `refused`
 abbrev pub refused : List ℕ
 refused = 114 ∷ 101 ∷ 102 ∷ 117 ∷ 115 ∷ 101 ∷ 100 ∷ []
-
--- ---- a number in decimal
-
--- the digit d below 10: `0` is 48
-abbrev pub digit : ℕ → ℕ
-digit d = 48 + d
-
--- the digits of n, where there are at most k of them: its last one stands after those of a tenth of it
-unfoldable pub digitsIn : ℕ → ℕ → List ℕ
-digitsIn zero n = []
-digitsIn (suc k) n = (if ltb n 10 then [] else digitsIn k (n / 10)) ++ digit (n % 10) ∷ []
-
--- n has at most n + 1 digits
-unfoldable pub digits : ℕ → List ℕ
-digits n = digitsIn (suc n) n
 
 -- ---- the lines
 

@@ -7,7 +7,8 @@ use Rattle.rules.specs.Numbers.Choice.{if_then_else_}
 use Rattle.rules.specs.Numbers.Refusal.{numberOf}
 use Rattle.rules.specs.declared.refusal.Refusal.the-variants.{PastLimit}
 use Rattle.rules.specs.declared.answer.Verdict.{Verdict}
-use Rattle.report.specs.Report.{digitsIn, digits, spaced, line, header, runner, rowWords}
+use Rattle.page.specs.Decimal.{digitsIn, digits}
+use Rattle.report.specs.Report.{spaced, line, header, runner, rowWords}
 use Rattle.report.specs.Report.{rowLine, rowLines, callsLine, delayedLine, refusedLine, reportOf}
 
 same : List ℕ → List ℕ → Bool

@@ -1,6 +1,6 @@
 // RULES 15: the text of the replay's report.
 mod lines;
-mod page;
+pub mod row;
 
 use rules::answer::Verdict;
 ghost use mathlib.Core.Path.{_≡_};
@@ -8,7 +8,7 @@ ghost use mathlib.Core.List.{_++_};
 ghost use Prim.Native.Nat.{min};
 ghost use lib.ListN.{length};
 ghost use Rattle.rules.specs.Numbers.Place.{stored};
-ghost use Rattle.report.specs.Page.{page, typed};
+ghost use Rattle.page.specs.Page.{page, typed};
 ghost use Rattle.report.specs.Report.{header, rowLines, callsLine, delayedLine, reportOf};
 
 // The header and the rows so far.

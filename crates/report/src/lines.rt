@@ -1,16 +1,21 @@
 // The lines of the report.
-use crate::page::put;
-use crate::page::put_field;
-use crate::page::put_number;
-use crate::page::put_text;
+use crate::row::call;
+use crate::row::next;
+use crate::row::running;
+use crate::row::user;
+use crate::row::wide8;
+use page::put;
+use page::put_field;
+use page::put_number;
+use page::put_text;
 use rules::capacity::NOBODY;
 use rules::refusal::Refusal;
 ghost use mathlib.Core.Path.{_≡_};
 ghost use mathlib.Core.List.{[], _∷_, map};
-ghost use Prim.Native.Nat.{_+_, _*_, _^_, _<_};
-ghost use Rattle.rules.specs.Numbers.Place.{at};
-ghost use Rattle.report.specs.Page.{page, typed};
-ghost use Rattle.report.specs.Report.{space, digits, spaced, line, header, runner, rowWords, rowLine, rowLines, callsLine, delayedLine, refusedLine};
+ghost use Prim.Native.Nat.{_+_, _^_, _<_};
+ghost use Rattle.page.specs.Decimal.{digits};
+ghost use Rattle.page.specs.Page.{page, typed};
+ghost use Rattle.report.specs.Report.{space, spaced, line, header, runner, rowWords, rowLine, rowLines, callsLine, delayedLine, refusedLine};
 
 pub fn put_header(out: &mut [u8], i: usize) -> usize
     ensures { λ r. ⌜ page (now (out .exit)) r ≡ typed (page (now (out .entry)) i) header ⌝ }
@@ -18,31 +23,10 @@ pub fn put_header(out: &mut [u8], i: usize) -> usize
     put_text(out, i, b"event running user next call\n")
 }
 
-fn wide8(x: u8) -> u64
-    ensures { λ r. ⌜ r ≡ x ⌝ }
-{
-    x as u64
-}
-
 fn wide16(x: u16) -> u64
     ensures { λ r. ⌜ r ≡ x ⌝ }
 {
     x as u64
-}
-
-// Byte j of the row k, and 0 past the end.
-fn byte_at(rows: &[u8], k: usize, j: usize) -> u64
-    requires { ⌜ j < 4 ⌝ }
-    ensures { λ r. ⌜ r ≡ at (now (rows .entry)) (k * 4 + j) ⌝ }
-{
-    if k > rows.len() / 4 {
-        return 0;
-    }
-    let i = k * 4 + j;
-    if i >= rows.len() {
-        return 0;
-    }
-    wide8(rows[i])
 }
 
 // The running task, or `-` for nobody, with a space before it.
@@ -77,10 +61,10 @@ fn put_four(out: &mut [u8], i: usize, task: u64, user: u64, next: u64, call: u64
 fn put_words(out: &mut [u8], i: usize, rows: &[u8], k: usize) -> usize
     ensures { λ r. ⌜ page (now (out .exit)) r ≡ typed (page (now (out .entry)) i) (spaced (rowWords (now (rows .entry)) k)) ⌝ }
 {
-    let task = byte_at(rows, k, 0);
-    let user = byte_at(rows, k, 1);
-    let next = byte_at(rows, k, 2);
-    let call = byte_at(rows, k, 3);
+    let task = running(rows, k);
+    let user = user(rows, k);
+    let next = next(rows, k);
+    let call = call(rows, k);
     put_four(out, i, task, user, next, call)
 }
 

@@ -1,5 +1,5 @@
 -- `report::put_end` meets its contract. One after the other. Assumes nothing.
-use Rattle.report.proofs.Typed.{typed-two}
+use Rattle.page.proofs.Typed.{typed-two}
 use borrow.Author.Needs.{needs}
 use Rattle.report.proofs.put_end.Statement.{statement}
 use Rattle.report.proofs.put_end.Tie as tie

@@ -1,5 +1,5 @@
 -- `report::report` meets its contract. What is typed from the start is what is to be written. Assumes nothing.
-use Rattle.report.proofs.Typed.{typed-bytes, typed-length}
+use Rattle.page.proofs.Typed.{typed-bytes, typed-length}
 use borrow.Author.Needs.{needs}
 use Rattle.report.proofs.report.Statement.{statement}
 use Rattle.report.proofs.report.Tie as tie

@@ -2,7 +2,7 @@
 use mathlib.Core.Path.{_≡_, refl}
 use Prim.Native.Nat.{_-_}
 use lib.ListN.{length}
-use Rattle.report.specs.Page.{page}
+use Rattle.page.specs.Page.{page}
 use Rattle.report.proofs.Printed.{FieldsSoFar, fields-next, fields-ends}
 use borrow.Author.Needs.{needs}
 use Rattle.report.proofs.lines.put_fields.Statement.{statement}

@@ -2,7 +2,7 @@
 use mathlib.Core.Path.{_≡_}
 use Prim.Native.Nat.{_-_}
 use lib.ListN.{length}
-use Rattle.report.specs.Page.{page}
+use Rattle.page.specs.Page.{page}
 use Rattle.report.proofs.Printed.{RowsSoFar, rows-start, rows-next, rows-ends}
 use borrow.Author.Needs.{needs}
 use Rattle.report.proofs.lines.put_rows.Statement.{statement}

@@ -77,7 +77,7 @@ fn answer(text: &str) -> Result<(u64, u64, u64), String> {
 }
 
 /// P1's book of the crane plan, or a book by its counts; then changes.
-fn book(text: &str) -> Result<Vec<u8>, String> {
+pub fn book(text: &str) -> Result<Vec<u8>, String> {
     let mut items = text.split(',').map(str::trim);
     let first = items.next().unwrap_or_default();
     let mut book = match first.strip_prefix("counts ") {

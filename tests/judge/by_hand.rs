@@ -1,11 +1,13 @@
-//! What was made by hand: the cases of the four files and the set pieces, each
+//! What was made by hand: the cases of the six files and the set pieces, each
 //! with its expected answer. The judge's own answers are held against these
 //! before any program's are held against the judge's.
 
 use crate::book_cases::{self, BookCase};
 use crate::boundaries::{self, SetPiece};
 use crate::run_cases::{self, RunCase};
+use crate::show_cases::{self, ShowCase};
 use crate::step_cases::{self, StepCase};
+use crate::text_cases::{self, TextCase};
 use crate::write_cases::{self, WriteCase};
 
 pub struct ByHand {
@@ -14,6 +16,8 @@ pub struct ByHand {
     pub books: Vec<BookCase>,
     pub pieces: Vec<SetPiece>,
     pub writings: Vec<WriteCase>,
+    pub texts: Vec<TextCase>,
+    pub shows: Vec<ShowCase>,
 }
 
 /// Nothing if a case cannot be read, which is told.
@@ -25,6 +29,8 @@ pub fn read() -> Option<ByHand> {
         books: book_cases::cases().map_err(told).ok()?,
         pieces: boundaries::set_pieces(),
         writings: write_cases::cases().map_err(told).ok()?,
+        texts: text_cases::cases().map_err(told).ok()?,
+        shows: show_cases::cases().map_err(told).ok()?,
     })
 }
 
@@ -36,10 +42,14 @@ impl ByHand {
         let books = (self.books.len(), book_cases::test(&self.books));
         let pieces = (self.pieces.len(), boundaries::test(&self.pieces));
         let writings = (self.writings.len(), write_cases::test(&self.writings));
+        let texts = (self.texts.len(), text_cases::test(&self.texts));
+        let shows = (self.shows.len(), show_cases::test(&self.shows));
         let mut right = tell("hand-made steps", steps);
         right &= tell("hand-made runs", runs);
         right &= tell("hand-made books", books);
         right &= tell("hand-made writings", writings);
+        right &= tell("hand-made texts", texts);
+        right &= tell("hand-made shows and explanations", shows);
         right & tell("set pieces at the edges of the rules", pieces)
     }
 }

@@ -2,6 +2,7 @@
 //! figure, and saying in words where they differ.
 
 use crate::check::Checked;
+use crate::compose::Composed;
 use crate::refusals::named;
 use crate::replay::{Answer, FILL};
 use crate::step::Stepped;
@@ -104,6 +105,43 @@ pub fn writings(judge: &Written, program: &Written) -> Vec<String> {
     let place = |at: usize| format!("byte {at}");
     let buffer = bytes("buffer", &judge.buffer, &program.buffer, place);
     differences.found.extend(buffer);
+    differences.found
+}
+
+/// The same for a text's answer.
+pub fn composed(judge: &Composed, program: &Composed) -> Vec<String> {
+    let mut differences = Differences::with(PROGRAM);
+    let (ours, theirs) = (judge.book.len(), program.book.len());
+    differences.field("length of the book", ours as u32, theirs as u32);
+    if ours == theirs {
+        let place = |at: usize| format!("byte {at}");
+        let book = bytes("book", &judge.book, &program.book, place);
+        differences.found.extend(book);
+    }
+    differences.found.extend(texts(&judge.line, &program.line));
+    differences.found
+}
+
+/// The first line of a text that differs.
+pub fn texts(judge: &[u8], program: &[u8]) -> Vec<String> {
+    let mut differences = Differences::with(PROGRAM);
+    if judge == program {
+        return differences.found;
+    }
+    let mut ours = judge.split_inclusive(|byte| *byte == b'\n');
+    let mut theirs = program.split_inclusive(|byte| *byte == b'\n');
+    let told = |line: Option<&[u8]>| match line {
+        Some(line) => format!("\"{}\"", line.escape_ascii()),
+        None => "nothing".to_string(),
+    };
+    // The texts are not the same, so there is such a line.
+    for number in 1.. {
+        let (ours, theirs) = (ours.next(), theirs.next());
+        if ours != theirs {
+            differences.add(&format!("line {number}"), &told(ours), &told(theirs));
+            break;
+        }
+    }
     differences.found
 }
 

@@ -1,17 +1,21 @@
 //! An independent judge of the scheduler project: a second reading of the rules,
-//! with its own reader and writer of books, its own schedulers and its own
-//! test of soundness. It makes books, records and states, has the program under
-//! judgement replay, check, write and step them, and compares every field and
-//! figure of every answer with its own. It shares no line with what it judges.
+//! with its own reader and writer of books and of texts, its own schedulers and its own
+//! test of soundness. It makes books, records, texts and states, has the program under
+//! judgement replay, check, write, show, explain, compose and step them, and compares every
+//! field, figure and byte of every answer with its own. It shares no line with what it judges.
 //!
 //!     judge [OPTION..] -- COMMAND ARGS..
 //!     judge --self [OPTION..]
 //!     judge --kernel [OPTION..] -- KERNEL ARGS.. -- COMMAND ARGS..
 //!     judge --write KIND FILE
 //!     judge --report PROTOCOL FILE
+//!     judge --explain PROTOCOL FILE
+//!     judge --show FILE
+//!     judge --compose FILE
 //!     judge --ways
 //!
-//! With `--kernel` the program's rows are compared with what a real kernel ran.
+//! With `--kernel` the program's rows are compared with what a real kernel ran. The last
+//! four before `--ways` write what the program has to write for that file.
 //!
 //! It ends with 0 if all agrees, 3 if the program differs and nothing else is
 //! amiss, 1 if the run could not do what it had to, 2 if it was called wrongly
@@ -27,6 +31,8 @@ mod broken;
 mod by_hand;
 mod check;
 mod compare;
+mod compose;
+mod composing;
 mod crane;
 mod cuts;
 mod damage;
@@ -34,14 +40,19 @@ mod demands;
 mod draft;
 mod eager;
 mod event;
+mod explain;
+mod forms;
 mod generate;
+mod history;
 mod judging;
 mod kernel;
 mod kernel_tally;
 mod kernel_trial;
+mod layout;
 mod lazy;
 mod lists;
 mod maximum_rules;
+mod meanings;
 mod notation;
 mod own;
 mod plan;
@@ -49,6 +60,7 @@ mod plans;
 mod program;
 mod protocol;
 mod random;
+mod record_lines;
 mod refusals;
 mod replay;
 mod report;
@@ -56,6 +68,9 @@ mod requests;
 mod resume;
 mod rounds;
 mod run_cases;
+mod show;
+mod show_cases;
+mod show_tally;
 mod sound;
 mod state_notation;
 mod states;
@@ -64,6 +79,11 @@ mod step_cases;
 mod step_rules;
 mod step_tally;
 mod tally;
+mod text;
+mod text_cases;
+mod text_damage;
+mod text_tally;
+mod texts;
 mod trials;
 mod verdict;
 mod walk;
@@ -78,11 +98,14 @@ mod writings;
 mod wrong;
 
 use judging::Ending;
-use protocol::{ByProtocol, PROTOCOLS};
+use protocol::{ByProtocol, Protocol, PROTOCOLS};
 use requests::Amounts;
+use show_tally::ShowTally;
+use std::io::Write;
 use std::process::ExitCode;
 use step_tally::StepTally;
 use tally::Tally;
+use text_tally::TextTally;
 use write_tally::WriteTally;
 use wrong::Wrong;
 
@@ -93,9 +116,12 @@ usage: judge [OPTION..] -- COMMAND ARGS..
        judge --write KIND[-TASKS] FILE
            of the kinds crane, largest (without TASKS), contended, plain, ticks, works, waits, sections, jobs, calls
        judge --report second|first FILE
+       judge --explain second|first FILE
+       judge --show FILE
+       judge --compose FILE
        judge --ways
 --seed N    of all that is generated (1)
---count N   short books (20000)
+--count N   short books (20000); of every 7 one is shown and explained, and for every 2 there is a text
 --long N    books of the most events (40)
 --steps N   single steps (200000)
 --writes N  books to be written (10000)
@@ -134,6 +160,12 @@ enum Task {
     Write(String, String),
     /// The report by this protocol on the book in this file.
     Report(String, String),
+    /// The report and the words after it.
+    Explain(String, String),
+    /// The text that shows the book in this file.
+    Show(String),
+    /// The book of the text in this file.
+    Compose(String),
     Ways,
 }
 
@@ -141,6 +173,11 @@ impl Options {
     /// Whether so many steps were asked for that all must be reached.
     pub fn is_full(&self) -> bool {
         self.amounts.steps >= DEFAULT.steps
+    }
+
+    /// Whether so many books were asked for that all must be reached.
+    pub fn has_all_books(&self) -> bool {
+        self.amounts.short >= DEFAULT.short
     }
 
     /// Whether so many lists were asked for that all must be reached.
@@ -167,13 +204,20 @@ impl Options {
         steps: &ByProtocol<StepTally>,
         writings: &WriteTally,
     ) -> bool {
-        let has_all_books = self.amounts.short >= DEFAULT.short;
         let has_all_writings = self.amounts.writings >= DEFAULT.writings;
-        let by_books = is_reached("books", &books.missing(), has_all_books);
+        let by_books = is_reached("books", &books.missing(), self.has_all_books());
         let missing = [steps.second.missing(), steps.first.missing()].concat();
         let by_steps = is_reached("steps", &missing, self.is_full());
         let by_writings = is_reached("writings", &writings.missing(), has_all_writings);
         by_books && by_steps && by_writings
+    }
+
+    /// The same for the generated texts and for what was shown and explained. Their number
+    /// goes by that of the books.
+    pub fn is_covered_in_words(&self, texts: &TextTally, shows: &ShowTally) -> bool {
+        let by_texts = is_reached("texts", &texts.missing(), self.has_all_books());
+        let by_shows = is_reached("shows", &shows.missing(), self.has_all_books());
+        by_texts && by_shows
     }
 }
 
@@ -211,6 +255,12 @@ fn carry_out(options: &Options) -> Result<Ending, String> {
         Task::Kernel => kernel::judge(options),
         Task::Write(kind, path) => write_book(kind, path),
         Task::Report(protocol, path) => report_book(protocol, path),
+        Task::Explain(protocol, path) => explain_book(protocol, path),
+        Task::Show(path) => {
+            print!("{}", show::show(&read_file(path)?, Wrong::Nothing));
+            Ok(Ending::Agrees)
+        }
+        Task::Compose(path) => compose_text(path),
         Task::Ways => {
             wrong::WRONG_WAYS
                 .iter()
@@ -250,6 +300,9 @@ fn options(words: &[String]) -> Result<Options, String> {
             "--kernel" => options.task = Task::Kernel,
             "--write" => options.task = Task::Write(value()?.clone(), value()?.clone()),
             "--report" => options.task = Task::Report(value()?.clone(), value()?.clone()),
+            "--explain" => options.task = Task::Explain(value()?.clone(), value()?.clone()),
+            "--show" => options.task = Task::Show(value()?.clone()),
+            "--compose" => options.task = Task::Compose(value()?.clone()),
             "--ways" => options.task = Task::Ways,
             "--" => {
                 let commands: Vec<String> = rest.cloned().collect();
@@ -300,11 +353,40 @@ fn write_book(kind: &str, path: &str) -> Result<Ending, String> {
     Ok(Ending::Agrees)
 }
 
+fn named_protocol(name: &str) -> Result<Protocol, String> {
+    let named = PROTOCOLS.into_iter().find(|other| other.name() == name);
+    named.ok_or(format!("no protocol is called {name}"))
+}
+
+fn read_file(path: &str) -> Result<Vec<u8>, String> {
+    std::fs::read(path).map_err(|error| format!("cannot read {path}: {error}"))
+}
+
 /// `--report`: what the program has to print for a book.
 fn report_book(protocol: &str, path: &str) -> Result<Ending, String> {
-    let named = PROTOCOLS.into_iter().find(|other| other.name() == protocol);
-    let protocol = named.ok_or(format!("no protocol is called {protocol}"))?;
-    let book = std::fs::read(path).map_err(|error| format!("cannot read {path}: {error}"))?;
-    print!("{}", report::of_book(&book, protocol));
+    let protocol = named_protocol(protocol)?;
+    print!("{}", report::of_book(&read_file(path)?, protocol));
     Ok(Ending::Agrees)
+}
+
+/// `--explain`: the same, and then the words.
+fn explain_book(protocol: &str, path: &str) -> Result<Ending, String> {
+    let protocol = named_protocol(protocol)?;
+    let book = read_file(path)?;
+    let words = explain::explain(&book, protocol, Wrong::Nothing);
+    print!("{}{words}", report::of_book(&book, protocol));
+    Ok(Ending::Agrees)
+}
+
+/// `--compose`: the book of a text, or the line that says why there is none, to standard
+/// error.
+fn compose_text(path: &str) -> Result<Ending, String> {
+    let composed = compose::compose(&read_file(path)?, Wrong::Nothing).composed;
+    let written = std::io::stdout().write_all(&composed.book);
+    written.map_err(|error| format!("cannot write the book: {error}"))?;
+    if composed.line.is_empty() {
+        return Ok(Ending::Agrees);
+    }
+    eprint!("{}", String::from_utf8_lossy(&composed.line));
+    Ok(Ending::Failed)
 }

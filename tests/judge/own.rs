@@ -4,15 +4,21 @@
 
 use crate::by_hand::{self, tell, ByHand};
 use crate::compare;
+use crate::compose::MOST_TEXT;
+use crate::composing::Composing;
 use crate::crane;
 use crate::cuts;
+use crate::explain::explain;
 use crate::generate::Case;
 use crate::judging::Ending;
 use crate::protocol::{ByProtocol, Protocol};
 use crate::requests::{self, Ask};
+use crate::show::show;
+use crate::show_tally::ShowTally;
 use crate::state_notation::reads_back;
 use crate::step_tally::StepTally;
 use crate::tally::Tally;
+use crate::text_tally::TextTally;
 use crate::trials::Trial;
 use crate::write_tally::WriteTally;
 use crate::writing::Writing;
@@ -46,10 +52,13 @@ pub fn judge_self(options: &Options) -> Ending {
 /// How often each wrong way gave another answer.
 type Changed = [usize; WRONG_WAYS.len()];
 
-/// Counts the wrong ways for which the answer is another one.
-fn count(changed: &mut Changed, is_other: impl Fn(Wrong) -> bool) {
+/// Counts the wrong ways for which the answer is another one. Those of words are tried on
+/// what is in words, and the others on all else.
+fn count(changed: &mut Changed, is_in_words: bool, is_other: impl Fn(Wrong) -> bool) {
     for (times, (_, wrong)) in changed.iter_mut().zip(WRONG_WAYS) {
-        *times += usize::from(is_other(wrong));
+        if wrong.is_of_words() == is_in_words {
+            *times += usize::from(is_other(wrong));
+        }
     }
 }
 
@@ -57,11 +66,14 @@ struct Own {
     books: Tally,
     steps: ByProtocol<StepTally>,
     writings: WriteTally,
+    texts: TextTally,
+    shows: ShowTally,
     violations: usize,
     changed_by_hand: Changed,
     changed_books: Changed,
     changed_steps: Changed,
     changed_writings: Changed,
+    changed_words: Changed,
 }
 
 impl Own {
@@ -70,11 +82,14 @@ impl Own {
             books: Tally::default(),
             steps: ByProtocol::each(StepTally::new),
             writings: WriteTally::default(),
+            texts: TextTally::new(),
+            shows: ShowTally::new(),
             violations: 0,
             changed_by_hand: [0; WRONG_WAYS.len()],
             changed_books: [0; WRONG_WAYS.len()],
             changed_steps: [0; WRONG_WAYS.len()],
             changed_writings: [0; WRONG_WAYS.len()],
+            changed_words: [0; WRONG_WAYS.len()],
         }
     }
 
@@ -82,15 +97,24 @@ impl Own {
         for case in &by_hand.steps {
             let right = case.trial.step(Wrong::Nothing).stepped;
             let is_other = |wrong| case.trial.step(wrong).stepped != right;
-            count(&mut self.changed_by_hand, is_other);
+            count(&mut self.changed_by_hand, false, is_other);
         }
         for case in &by_hand.runs {
-            count(&mut self.changed_by_hand, |wrong| case.tells(wrong));
+            count(&mut self.changed_by_hand, false, |wrong| case.tells(wrong));
         }
         for case in &by_hand.writings {
             let right = case.writing.write(Wrong::Nothing).written;
             let is_other = |wrong| case.writing.write(wrong).written != right;
-            count(&mut self.changed_by_hand, is_other);
+            count(&mut self.changed_by_hand, false, is_other);
+        }
+        for case in &by_hand.texts {
+            let right = case.composing.compose(Wrong::Nothing).composed;
+            let is_other = |wrong| case.composing.compose(wrong).composed != right;
+            count(&mut self.changed_by_hand, true, is_other);
+        }
+        for case in &by_hand.shows {
+            let is_other = |wrong| !case.wrong(wrong).is_empty();
+            count(&mut self.changed_by_hand, true, is_other);
         }
     }
 
@@ -104,6 +128,9 @@ impl Own {
                 Ask::Replay(_, Protocol::First) | Ask::Check(_) => None,
                 Ask::Step(trial) => self.try_step(trial, goes_wrong),
                 Ask::Write(writing) => self.try_writing(writing, goes_wrong),
+                Ask::Compose(composing) => self.try_composing(composing, goes_wrong),
+                Ask::Show(case) => self.try_show(case, goes_wrong),
+                Ask::Explain(case, protocol) => self.try_explain(case, *protocol, goes_wrong),
             };
             if let Some(words) = violation {
                 self.violations += 1;
@@ -117,7 +144,7 @@ impl Own {
         self.books.count(&outcome);
         if goes_wrong {
             let is_other = |wrong| case.replay(wrong).answers != outcome.answers;
-            count(&mut self.changed_books, is_other);
+            count(&mut self.changed_books, false, is_other);
         }
         outcome.violation
     }
@@ -127,7 +154,7 @@ impl Own {
         self.steps.of_mut(trial.protocol).count(trial, &outcome);
         if goes_wrong {
             let is_other = |wrong| trial.step(wrong).stepped != outcome.stepped;
-            count(&mut self.changed_steps, is_other);
+            count(&mut self.changed_steps, false, is_other);
             if !reads_back(&trial.given) {
                 return Some("it is not read back from its notation".to_string());
             }
@@ -140,9 +167,43 @@ impl Own {
         self.writings.count(writing, &outcome);
         if goes_wrong {
             let is_other = |wrong| writing.write(wrong).written != outcome.written;
-            count(&mut self.changed_writings, is_other);
+            count(&mut self.changed_writings, false, is_other);
         }
         outcome.violation
+    }
+
+    fn try_composing(&mut self, composing: &Composing, goes_wrong: bool) -> Option<String> {
+        let outcome = composing.compose(Wrong::Nothing);
+        self.texts.count(composing, &outcome);
+        // There are few of the longest texts, and one wrong way is about them alone.
+        if goes_wrong || composing.text.len() == MOST_TEXT {
+            let is_other = |wrong| composing.compose(wrong).composed != outcome.composed;
+            count(&mut self.changed_words, true, is_other);
+        }
+        outcome.violation
+    }
+
+    fn try_show(&mut self, case: &Case, goes_wrong: bool) -> Option<String> {
+        let text = show(&case.book, Wrong::Nothing);
+        self.shows.count_shown(&text);
+        if goes_wrong {
+            let is_other = |wrong| show(&case.book, wrong) != text;
+            count(&mut self.changed_words, true, is_other);
+        }
+        None
+    }
+
+    fn try_explain(&mut self, case: &Case, protocol: Protocol, goes_wrong: bool) -> Option<String> {
+        let words = explain(&case.book, protocol, Wrong::Nothing);
+        self.shows.count_explained(&words, protocol);
+        if goes_wrong {
+            let is_other = |wrong| explain(&case.book, protocol, wrong) != words;
+            count(&mut self.changed_words, true, is_other);
+        }
+        // The line of a refused event is never the last.
+        let is_refusal = |line: &&str| line.starts_with("event ") && line.contains(": refused ");
+        let last = words.lines().last().filter(is_refusal);
+        last.map(|_| "it does not say why the event was refused".to_string())
     }
 
     /// Tells all; false if something is wrong or was not reached.
@@ -151,26 +212,40 @@ impl Own {
         self.steps.second.print_table();
         self.steps.first.print_table();
         self.writings.print_table();
+        self.texts.print_table();
+        self.shows.print_table();
         println!("{}", self.books.summary());
         println!("{}", self.steps.second.summary());
         println!("{}", self.steps.first.summary());
         println!("{}", self.writings.summary());
+        println!("{}", self.texts.summary());
+        println!("{}", self.shows.summary());
         println!("{} violations of the judge's own demands", self.violations);
         let is_covered = options.is_covered(&self.books, &self.steps, &self.writings);
+        let in_words = options.is_covered_in_words(&self.texts, &self.shows);
         let are_told = self.tell_wrong_ways(options);
-        self.violations == 0 && is_covered && are_told
+        self.violations == 0 && is_covered && in_words && are_told
     }
 
     /// False if a wrong way changed nothing that was made by hand or, in a full
-    /// run, no generated step or writing. In books only some of them can show.
+    /// run, no generated step or writing and nothing in words. In books only some of them
+    /// can show.
     fn tell_wrong_ways(&self, options: &Options) -> bool {
         let mut right = true;
-        println!("gone wrong, another answer by hand, to generated steps, writings and books:");
-        for (at, (name, _)) in WRONG_WAYS.iter().enumerate() {
+        println!(
+            "gone wrong, another answer by hand, to generated steps, writings and books, in words:"
+        );
+        for (at, (name, wrong)) in WRONG_WAYS.iter().enumerate() {
             let (by_hand, books) = (self.changed_by_hand[at], self.changed_books[at]);
             let (steps, writings) = (self.changed_steps[at], self.changed_writings[at]);
-            println!("  {by_hand:>4} {steps:>6} {writings:>6} {books:>6}  {name}");
-            right &= by_hand > 0 && (steps + writings > 0 || !options.is_full());
+            let words = self.changed_words[at];
+            println!("  {by_hand:>4} {steps:>6} {writings:>6} {books:>6} {words:>6}  {name}");
+            let (is_shown, is_demanded) = if wrong.is_of_words() {
+                (words > 0, options.has_all_books())
+            } else {
+                (steps + writings > 0, options.is_full())
+            };
+            right &= by_hand > 0 && (is_shown || !is_demanded);
         }
         right
     }

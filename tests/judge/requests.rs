@@ -1,12 +1,15 @@
 //! What a program under judgement is asked, and in which order: the hand-made
-//! cases, the set pieces, then generated books, writings and steps in turn, and
+//! cases, the set pieces, then generated books, writings, texts and steps in turn, and
 //! the long books last. Every book is replayed by both protocols, checked and,
 //! where its records can be taken out of it, written again; what is written is
-//! checked before.
+//! checked before. Every book by hand and many another is shown, explained by both
+//! protocols, and composed again from what shows it.
 
 use crate::by_hand::ByHand;
+use crate::composing::Composing;
 use crate::generate::{self, Case};
 use crate::protocol::{Protocol, PROTOCOLS};
+use crate::texts;
 use crate::trials::{self, Trial};
 use crate::wire::{self, Command};
 use crate::writing::Writing;
@@ -19,6 +22,9 @@ pub enum Ask {
     Check(Arc<Case>),
     Step(Trial),
     Write(Writing),
+    Compose(Composing),
+    Show(Arc<Case>),
+    Explain(Arc<Case>, Protocol),
 }
 
 #[derive(Clone, Copy, PartialEq, Eq)]
@@ -49,14 +55,19 @@ impl Request {
             Ask::Check(case) => (Command::Check, none, case.row_space),
             Ask::Step(trial) => (Command::Step, trial.protocol, 0),
             Ask::Write(writing) => (Command::Write, none, writing.room),
+            Ask::Compose(_) => (Command::Compose, none, 0),
+            Ask::Show(_) => (Command::Show, none, 0),
+            Ask::Explain(_, protocol) => (Command::Explain, *protocol, 0),
         };
         wire::request(command, protocol, &self.payload(), room)
     }
 
-    /// A book, a plan with a state and an event, or records.
+    /// A book, a plan with a state and an event, records, or a text.
     pub fn payload(&self) -> Cow<'_, [u8]> {
         match &self.ask {
             Ask::Replay(case, _) | Ask::Check(case) => Cow::from(&case.book),
+            Ask::Show(case) | Ask::Explain(case, _) => Cow::from(&case.book),
+            Ask::Compose(composing) => Cow::from(&composing.text),
             Ask::Step(trial) => {
                 let record = trial.event.record();
                 Cow::from([trial.given.bytes(), &record[..]].concat())
@@ -81,6 +92,12 @@ impl Request {
                 format!("{name} by the {protocol} protocol, {:?}", trial.event)
             }
             Ask::Write(writing) => format!("writing of {}", writing.told()),
+            Ask::Compose(composing) => format!("composing of {}", composing.told()),
+            Ask::Show(case) => format!("showing of {}", case.told()),
+            Ask::Explain(case, protocol) => {
+                let (name, told) = (protocol.name(), case.told());
+                format!("explanation by the {name} protocol of {told}")
+            }
         }
     }
 }
@@ -88,6 +105,12 @@ impl Request {
 /// How many generated steps there are for each short book, as long as there are
 /// both.
 const STEPS_FOR_A_BOOK: u64 = 10;
+
+/// Of so many short books one has a text that is generated beside it, of so many one is
+/// shown and explained, and of so many long books.
+const BOOKS_FOR_A_TEXT: u64 = 2;
+const SHORT_SHOWN_IN: u64 = 7;
+const LONG_SHOWN_IN: u64 = 3;
 
 /// How many of each sort are generated, and from which seed.
 #[derive(Clone, Copy)]
@@ -108,16 +131,20 @@ pub fn by_hand(by_hand: ByHand) -> impl Iterator<Item = Request> {
     let books = by_hand.books.into_iter().map(|case| case.case);
     let pieces = by_hand.pieces.into_iter().map(|piece| piece.case);
     let writings = by_hand.writings.into_iter().map(|case| case.writing);
+    let texts = by_hand.texts.into_iter().map(|case| case.composing);
+    let shows = by_hand.shows.into_iter().map(|case| case.case);
+    let books = runs.chain(books).chain(pieces).map(Arc::new).chain(shows);
     let asks = steps
-        .chain(runs.chain(books).chain(pieces).flat_map(of_book))
-        .chain(writings.flat_map(of_writing));
+        .chain(books.flat_map(|case| of_book(case, true)))
+        .chain(writings.flat_map(of_writing))
+        .chain(texts.map(Ask::Compose));
     asks.map(|ask| Request {
         ask,
         source: Source::ByHand,
     })
 }
 
-/// Generated books, writings and steps in turn, then the long books.
+/// Generated books, writings, texts and steps in turn, then the long books.
 pub fn generated(amounts: Amounts) -> impl Iterator<Item = Request> {
     let Amounts {
         seed,
@@ -129,28 +156,45 @@ pub fn generated(amounts: Amounts) -> impl Iterator<Item = Request> {
     } = amounts;
     let turns = short.max(writings).max(steps.div_ceil(STEPS_FOR_A_BOOK));
     let in_turn = (0..turns).flat_map(move |turn| {
-        let book = (turn < short).then(|| of_book(generate::short(seed, turn)));
+        let is_shown = turn % SHORT_SHOWN_IN == 0;
+        let book = || of_book(Arc::new(generate::short(seed, turn)), is_shown);
+        let book = (turn < short).then(book);
+        let has_text = turn < short && turn % BOOKS_FOR_A_TEXT == 0;
+        let text = has_text.then(|| texts::text(seed, turn / BOOKS_FOR_A_TEXT));
         let writing = (turn < writings).then(|| of_writing(writings::writing(seed, turn)));
         let first = STEPS_FOR_A_BOOK * turn;
         let numbers = first..(first + STEPS_FOR_A_BOOK).min(steps);
         let steps = numbers.map(move |number| Ask::Step(trials::trial(seed, number)));
         let asks = book.into_iter().chain(writing).flatten();
-        asks.chain(steps)
+        asks.chain(text.map(Ask::Compose)).chain(steps)
     });
-    let long = (0..long).flat_map(move |number| of_book(generate::long(seed, number)));
+    let long = (0..long).flat_map(move |number| {
+        let is_shown = number % LONG_SHOWN_IN == 0;
+        of_book(Arc::new(generate::long(seed, number)), is_shown)
+    });
     in_turn.chain(long).map(|ask| Request {
         ask,
         source: Source::Generated,
     })
 }
 
-fn of_book(case: Case) -> Vec<Ask> {
-    let case = Arc::new(case);
+fn of_book(case: Arc<Case>, is_shown: bool) -> Vec<Ask> {
     let again = Writing::of_book(&case);
     let replays = PROTOCOLS.map(|protocol| Ask::Replay(Arc::clone(&case), protocol));
     let mut asks = Vec::from(replays);
-    asks.push(Ask::Check(case));
+    asks.push(Ask::Check(Arc::clone(&case)));
     asks.extend(again.map(Ask::Write));
+    if is_shown {
+        asks.extend(in_words(&case));
+    }
+    asks
+}
+
+fn in_words(case: &Arc<Case>) -> Vec<Ask> {
+    let explained = PROTOCOLS.map(|protocol| Ask::Explain(Arc::clone(case), protocol));
+    let mut asks = vec![Ask::Show(Arc::clone(case))];
+    asks.extend(explained);
+    asks.push(Ask::Compose(Composing::of_book(case)));
     asks
 }
 

@@ -4,15 +4,19 @@
 
 use crate::check::Checked;
 use crate::compare;
+use crate::explain::explain;
 use crate::generate::Case;
 use crate::protocol::ByProtocol;
 use crate::refusals::named;
 use crate::replay;
 use crate::requests::{Ask, Request, Source};
+use crate::show::show;
+use crate::show_tally::ShowTally;
 use crate::sound;
 use crate::state_notation::written;
 use crate::step_tally::StepTally;
 use crate::tally::Tally;
+use crate::text_tally::TextTally;
 use crate::trials::Trial;
 use crate::wire;
 use crate::write_tally::WriteTally;
@@ -27,7 +31,7 @@ const TOLD: usize = 5;
 /// So many fields or figures of one reply are told.
 const TOLD_FIELDS: usize = 6;
 
-/// A book or records of up to so many bytes are told with their bytes, and a
+/// A book, records or a text of up to so many bytes are told with their bytes, and a
 /// state of up to so many changes with its figures.
 const SHORT_BOOK: usize = 1_024;
 const SHORT_STATE: usize = 80;
@@ -42,6 +46,8 @@ pub struct Verdict<'o> {
     books: Tally,
     steps: ByProtocol<StepTally>,
     writings: WriteTally,
+    texts: TextTally,
+    shows: ShowTally,
     /// The book that was replayed last, and the judge's answers for it, which are
     /// those for both protocols.
     replayed: Option<(Arc<Case>, replay::Outcome)>,
@@ -60,6 +66,8 @@ impl<'o> Verdict<'o> {
             books: Tally::default(),
             steps: ByProtocol::each(StepTally::new),
             writings: WriteTally::default(),
+            texts: TextTally::new(),
+            shows: ShowTally::new(),
             replayed: None,
             checked: None,
         }
@@ -104,6 +112,32 @@ impl<'o> Verdict<'o> {
                     found.extend(writing.broken(&checked, &reply));
                 }
                 (found, outcome.violation)
+            }
+            Ask::Compose(composing) => {
+                let reply = wire::read_compose(replies)?;
+                let outcome = composing.compose(wrong);
+                if is_generated {
+                    self.texts.count(composing, &outcome);
+                }
+                let mut found = compare::composed(&outcome.composed, &reply);
+                found.extend(composing.broken(&reply));
+                (found, outcome.violation)
+            }
+            Ask::Show(case) => {
+                let reply = wire::read_text(replies)?;
+                let text = show(&case.book, wrong);
+                if is_generated {
+                    self.shows.count_shown(&text);
+                }
+                (compare::texts(text.as_bytes(), &reply), None)
+            }
+            Ask::Explain(case, protocol) => {
+                let reply = wire::read_text(replies)?;
+                let words = explain(&case.book, *protocol, wrong);
+                if is_generated {
+                    self.shows.count_explained(&words, *protocol);
+                }
+                (compare::texts(words.as_bytes(), &reply), None)
             }
         };
         self.heard += 1;
@@ -154,16 +188,22 @@ impl<'o> Verdict<'o> {
         self.steps.second.print_table();
         self.steps.first.print_table();
         self.writings.print_table();
+        self.texts.print_table();
+        self.shows.print_table();
         println!("{}", self.books.summary());
         println!("{}", self.steps.second.summary());
         println!("{}", self.steps.first.summary());
         println!("{}", self.writings.summary());
+        println!("{}", self.texts.summary());
+        println!("{}", self.shows.summary());
         println!(
             "{} replies, {} of them to hand-made cases and set pieces: {} differ",
             self.heard, self.by_hand, self.differing,
         );
+        let in_words = self.options.is_covered_in_words(&self.texts, &self.shows);
         self.options
             .is_covered(&self.books, &self.steps, &self.writings)
+            && in_words
     }
 }
 
@@ -176,8 +216,15 @@ fn tell(request: &Request, found: &[String]) {
         println!("  and {} more", found.len() - TOLD_FIELDS);
     }
     match &request.ask {
-        Ask::Replay(case, _) | Ask::Check(case) if case.book.len() <= SHORT_BOOK => {
+        Ask::Replay(case, _) | Ask::Check(case) | Ask::Show(case) | Ask::Explain(case, _)
+            if case.book.len() <= SHORT_BOOK =>
+        {
             print!("{}", hex_dump(&case.book));
+        }
+        Ask::Compose(composing) if composing.text.len() <= SHORT_BOOK => {
+            for line in composing.text.split_inclusive(|byte| *byte == b'\n') {
+                println!("    \"{}\"", line.escape_ascii());
+            }
         }
         Ask::Step(trial) => tell_state(trial),
         Ask::Write(writing) if writing.payload().len() <= SHORT_BOOK => {

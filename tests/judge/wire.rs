@@ -26,6 +26,16 @@
 //! place, u32 length of the book, then the whole buffer, which the program fills
 //! with the byte 0xEE before the writing.
 //!
+//! 5, compose: the payload is a text, also one that is too long; the room is 0. The reply
+//! is u32 length of the book, u32 length of the line that says why there is none, then the
+//! book, then the line. One of the lengths is 0.
+//!
+//! 6, show: the payload is a book; the room is 0. The reply is u32 length of the text, then
+//! the text.
+//!
+//! 7, explain by the protocol: the payload is a book; the room is 0. The reply is u32 length
+//! of the words, then the words, from the line `in words` on.
+//!
 //! A real kernel is asked 1 as well, and has another reply (`tests/kernel`): u8
 //! ending, u32 events taken, u8 who took it for each of these (255 for nobody),
 //! u8 1 if the calls for another priority were counted, u32 how many. After the
@@ -34,12 +44,13 @@
 
 use crate::book::LARGEST_BOOK;
 use crate::check::Checked;
+use crate::compose::{Composed, MOST_TEXT};
 use crate::protocol::Protocol;
 use crate::replay::Answer;
 use crate::step::Stepped;
 use crate::whole::Whole;
 use crate::writer::Written;
-use std::io::{Read, Result};
+use std::io::{Error, Read, Result};
 
 /// Neither a row space nor a buffer is ever greater than this, nor is a book
 /// whose counts are not far too great.
@@ -49,8 +60,11 @@ pub const MOST_BYTES: usize = 65_536;
 /// bytes can count.
 pub const MOST_RECORDS: usize = 65_600;
 
-/// No payload is greater than this.
-const MOST_PAYLOAD: usize = 524_288;
+/// No payload is greater than this: a text may have some more bytes than can be composed.
+const MOST_PAYLOAD: usize = MOST_TEXT + 1;
+
+/// No right reply has a text or a book of so many bytes.
+const FAR_TOO_MANY: u32 = 4_194_304;
 
 /// There are longer books than the largest right one.
 const _: () = assert!(LARGEST_BOOK < MOST_BYTES);
@@ -61,6 +75,9 @@ pub enum Command {
     Check = 2,
     Step = 3,
     Write = 4,
+    Compose = 5,
+    Show = 6,
+    Explain = 7,
 }
 
 pub fn request(command: Command, protocol: Protocol, payload: &[u8], room: usize) -> Vec<u8> {
@@ -133,6 +150,20 @@ pub fn read_write(input: &mut impl Read, room: usize) -> Result<Written> {
     })
 }
 
+pub fn read_compose(input: &mut impl Read) -> Result<Composed> {
+    let (book, line) = (read_u32(input)?, read_u32(input)?);
+    Ok(Composed {
+        book: read_bytes(input, book)?,
+        line: read_bytes(input, line)?,
+    })
+}
+
+/// The text of a show or the words of an explanation.
+pub fn read_text(input: &mut impl Read) -> Result<Vec<u8>> {
+    let length = read_u32(input)?;
+    read_bytes(input, length)
+}
+
 /// How a run on a real kernel ends, by its number.
 const ENDINGS: [&str; 5] = [
     "that was the whole run",
@@ -178,6 +209,15 @@ fn read_u8(input: &mut impl Read) -> Result<u8> {
     let mut bytes = [0; 1];
     input.read_exact(&mut bytes)?;
     Ok(bytes[0])
+}
+
+fn read_bytes(input: &mut impl Read, length: u32) -> Result<Vec<u8>> {
+    if length >= FAR_TOO_MANY {
+        return Err(Error::other(format!("a length of {length} bytes")));
+    }
+    let mut bytes = vec![0; length as usize];
+    input.read_exact(&mut bytes)?;
+    Ok(bytes)
 }
 
 fn read_u32(input: &mut impl Read) -> Result<u32> {

@@ -89,7 +89,7 @@ type Lists = [Vec<u64>; 4];
 const KINDS: [&str; 4] = ["task", "lock", "use", "event"];
 
 /// Known records or none, and then changes.
-fn records(text: &str) -> Result<Draft, String> {
+pub fn records(text: &str) -> Result<Draft, String> {
     let mut lists = Lists::default();
     for item in text.split(',').map(str::trim) {
         match split_word(item) {

@@ -1,9 +1,9 @@
 //! Ways to go wrong on purpose: the four mistakes of RULES 18.4 and one close to
 //! them, others that only single steps can show, some of the count of eager calls,
 //! some of the kernel word, which is the first protocol's, some of the writer of
-//! books, some of a lock with one user, some of the maximum of a task, and some of
-//! the sizes. The judge can follow one of them; a right program must then differ from
-//! it, which shows that the judge is able to fail a program.
+//! books, some of a lock with one user, some of the maximum of a task, some of
+//! the sizes, and some of books in words. The judge can follow one of them; a right program
+//! must then differ from it, which shows that the judge is able to fail a program.
 //!
 //! A kernel that cuts wrongly is none of them: in a sound state there is nothing to
 //! cut, and any other is refused, so no program can show it. What the judge's own
@@ -108,10 +108,42 @@ pub enum Wrong {
     OneMoreTask,
     /// One more use than there can be.
     OneMoreUse,
+    /// The lines of a text count from 0.
+    LinesFromZero,
+    /// A carriage return at a line's end is part of its last word.
+    ReturnKept,
+    /// A comment starts only where its line does.
+    CommentAtStartAlone,
+    /// A tab parts words as a space does.
+    TabParts,
+    /// The last number of a line may be any, and is cut to its bytes.
+    LastUnlimited,
+    /// A word too many is let pass.
+    WordTooManyPasses,
+    /// A number with zeros in front is none.
+    ZerosRefused,
+    /// The last line with a mistake counts.
+    LastMistake,
+    /// A text of the most bytes is too long.
+    OneByteFewer,
+    /// The line of a refusal is that of the record after it.
+    LineOfNext,
+    /// The comments of shown events count from 0.
+    EventsFromZero,
+    /// The event after the refused one is shown as refused too.
+    RefusedTwice,
+    /// A call is explained as if the task that runs after it had been waited for.
+    WaitedForItself,
+    /// 21 is explained by the newest open lock.
+    NewestPassed,
+    /// What is to be explained by the first protocol is explained by the second.
+    ExplainedBySecond,
+    /// Of a book that is refused it is not said that there was no call.
+    NoCallUnsaid,
 }
 
 /// The wrong ways under the names of the command line.
-pub const WRONG_WAYS: [(&str, Wrong); 44] = [
+pub const WRONG_WAYS: [(&str, Wrong); 60] = [
     ("tail", Wrong::Tail),
     ("at-or-above", Wrong::AtOrAbove),
     ("gives-way", Wrong::GivesWay),
@@ -156,6 +188,22 @@ pub const WRONG_WAYS: [(&str, Wrong); 44] = [
     ("fewer-uses", Wrong::FewerUses),
     ("one-more-task", Wrong::OneMoreTask),
     ("one-more-use", Wrong::OneMoreUse),
+    ("lines-from-zero", Wrong::LinesFromZero),
+    ("return-kept", Wrong::ReturnKept),
+    ("comment-at-start-alone", Wrong::CommentAtStartAlone),
+    ("tab-parts", Wrong::TabParts),
+    ("last-unlimited", Wrong::LastUnlimited),
+    ("word-too-many-passes", Wrong::WordTooManyPasses),
+    ("zeros-refused", Wrong::ZerosRefused),
+    ("last-mistake", Wrong::LastMistake),
+    ("one-byte-fewer", Wrong::OneByteFewer),
+    ("line-of-next", Wrong::LineOfNext),
+    ("events-from-zero", Wrong::EventsFromZero),
+    ("refused-twice", Wrong::RefusedTwice),
+    ("waited-for-itself", Wrong::WaitedForItself),
+    ("newest-passed", Wrong::NewestPassed),
+    ("explained-by-second", Wrong::ExplainedBySecond),
+    ("no-call-unsaid", Wrong::NoCallUnsaid),
 ];
 
 impl Wrong {
@@ -185,6 +233,30 @@ impl Wrong {
             _ => return true,
         };
         only == protocol
+    }
+
+    /// Whether it is a way to read or to write words. All else is then as the rules have
+    /// it.
+    pub fn is_of_words(self) -> bool {
+        matches!(
+            self,
+            Wrong::LinesFromZero
+                | Wrong::ReturnKept
+                | Wrong::CommentAtStartAlone
+                | Wrong::TabParts
+                | Wrong::LastUnlimited
+                | Wrong::WordTooManyPasses
+                | Wrong::ZerosRefused
+                | Wrong::LastMistake
+                | Wrong::OneByteFewer
+                | Wrong::LineOfNext
+                | Wrong::EventsFromZero
+                | Wrong::RefusedTwice
+                | Wrong::WaitedForItself
+                | Wrong::NewestPassed
+                | Wrong::ExplainedBySecond
+                | Wrong::NoCallUnsaid
+        )
     }
 
     /// How many tasks, locks, uses and events a book has at most.

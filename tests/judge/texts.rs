@@ -1,0 +1,246 @@
+//! The generated texts: which text the n-th one of a seed is. Half are the records of a
+//! short book, right or wrong, in all sorts of layout; in the others lines, words or bytes
+//! are damaged. Some are as long as a text can be, or have as many records as a book, or
+//! more than two bytes can count.
+
+use crate::book::Refusal;
+use crate::compose::{Ending, MOST_TEXT};
+use crate::composing::Composing;
+use crate::damage;
+use crate::draft::Draft;
+use crate::event::Event;
+use crate::generate;
+use crate::layout::{lines_of, order, Layout};
+use crate::plan::{MOST_EVENTS, MOST_LOCKS, MOST_TASKS, MOST_USES};
+use crate::plans;
+use crate::random::Random;
+use crate::text_damage::{any_words, damage, damage_byte, Words, DAMAGES};
+use crate::wire::MOST_BYTES;
+use crate::writer;
+use crate::wrong::Wrong;
+
+/// The faults of the records in turn: the numbers that they are made for.
+#[rustfmt::skip]
+const FAULTS: [&[u8]; 17] = [
+    &[], &[4], &[5], &[6], &[7], &[24], &[8], &[2], &[],
+    &[4, 5], &[5, 6], &[6, 7], &[7, 24], &[24, 8], &[4, 8], &[2, 4], &[4, 5, 6, 7, 24, 8],
+];
+
+/// Of so many texts one is about as long as can be and one has a count of about 65,536.
+const LONGEST_IN: u64 = 1_000;
+/// Of so many one has as many records as a book can, or one more.
+const GREAT_IN: u64 = 200;
+/// Of so many one has lines of any words.
+const ANY_IN: u64 = 20;
+
+/// The text of this number.
+pub fn text(seed: u64, number: u64) -> Composing {
+    let random = &mut Random::for_case(seed, 5, number);
+    let turn = (number / LONGEST_IN) as usize;
+    let (sort, text, made_for) = if number % LONGEST_IN == 0 {
+        longest(random, turn)
+    } else if number % LONGEST_IN == 1 {
+        far_count(random, turn)
+    } else if number % GREAT_IN == 2 {
+        great(random, (number / GREAT_IN) as usize)
+    } else if number % ANY_IN == 3 {
+        any(random)
+    } else {
+        short(random, number as usize)
+    };
+    Composing {
+        name: format!("text {number} ({sort})"),
+        text,
+        shown: None,
+        made_for,
+    }
+}
+
+/// What it is, the text, and how it has to end, where that is known.
+type Made = (String, Vec<u8>, Option<Ending>);
+
+/// The records of a short book. Every second one is damaged, and then its end is not
+/// foretold.
+fn short(random: &mut Random, number: usize) -> Made {
+    let records = records(random, FAULTS[number / 2 % FAULTS.len()]);
+    let layout = Layout::any(random);
+    let order = order(random, records.counts());
+    let mut lines = in_order(&records, &order);
+    let mut damages = Vec::new();
+    if number % 2 == 0 {
+        let (text, numbers) = laid_out(random, &layout, &lines);
+        let ending = foretold(&records, &order, &numbers);
+        return ("short book".to_string(), text, Some(ending));
+    }
+    let (times, of_bytes) = random.pick(&[(1, 0), (1, 0), (2, 0), (0, 1), (0, 2), (1, 1)]);
+    for _ in 0..times {
+        let way = random.pick(&DAMAGES);
+        damage(random, &mut lines, way);
+        damages.push(way);
+    }
+    let (mut text, _) = laid_out(random, &layout, &lines);
+    for _ in 0..of_bytes {
+        damages.push(damage_byte(random, &mut text));
+    }
+    (damages.join(", "), text, None)
+}
+
+/// Records that are damaged for these numbers, as far as words can have that.
+fn records(random: &mut Random, faults: &[u8]) -> Draft {
+    let (plan, events) = generate::short_run(random);
+    let mut records = Draft::of(&plan, &events);
+    for number in faults {
+        damage::damage_records(random, &mut records, *number);
+    }
+    records
+}
+
+/// The lines of all records, in the order of the parts that is given.
+fn in_order(records: &Draft, order: &[usize]) -> Vec<Words> {
+    let mut parts = lines_of(records).map(Vec::into_iter);
+    let next = |part: &usize| parts[*part].next().expect("a line for each record");
+    order.iter().map(next).collect()
+}
+
+/// The text of these lines, in a layout that keeps it short enough to be composed.
+fn laid_out(random: &mut Random, layout: &Layout, lines: &[Words]) -> (Vec<u8>, Vec<usize>) {
+    let (text, numbers) = layout.lay_out(random, lines);
+    if text.len() <= MOST_TEXT {
+        return (text, numbers);
+    }
+    Layout::plain().lay_out(random, lines)
+}
+
+/// How a text of these records has to end, by the writer and by where they were put. What
+/// has no words became a limit or a work of 0, which the same numbers refuse.
+fn foretold(records: &Draft, order: &[usize], numbers: &[usize]) -> Ending {
+    let written = writer::write(records, MOST_BYTES, Wrong::Nothing);
+    let (number, place) = (written.number, written.place);
+    let most = [MOST_TASKS, MOST_LOCKS, MOST_USES, MOST_EVENTS];
+    let (part, at) = match (number, place as usize) {
+        (0, _) => return Ending::Book,
+        (2, entry) => (entry - 1, most[entry - 1]),
+        (4, at) => (0, at),
+        (5 | 7, at) => (1, at),
+        (6 | 24, at) => (2, at),
+        (_, at) => (3, at),
+    };
+    let of_part = order
+        .iter()
+        .zip(numbers)
+        .filter(|(other, _)| **other == part);
+    let line = of_part.map(|(_, number)| *number).nth(at);
+    Ending::Refused(Refusal { number, place }, line)
+}
+
+/// About as many bytes as a text can have. What fills them says nothing: one comment, empty
+/// lines, spaces behind a record, or the zeros in front of a number.
+fn longest(random: &mut Random, turn: usize) -> Made {
+    let length = MOST_TEXT - 1 + [1, 2, 0, 1, 2][turn % 5];
+    // The longest of all has a mistake too, which does not count.
+    let last = match turn % 5 {
+        4 => "tack",
+        _ => random.pick(&["tick", "finish", "release 7"]),
+    };
+    let mut text = format!("task 1 1\n{last}\n").into_bytes();
+    let fill = length - text.len();
+    let (sort, at, byte) = match turn % 4 {
+        0 => ("zeros", "task 1 ".len(), b'0'),
+        1 => ("spaces", "task 1 1".len(), b' '),
+        2 => ("newlines", text.len(), b'\n'),
+        _ => ("a comment", "task 1 1".len(), b'#'),
+    };
+    text.splice(at..at, std::iter::repeat_n(byte, fill));
+    let ending = if length > MOST_TEXT {
+        Ending::TooLong
+    } else {
+        Ending::Book
+    };
+    (format!("{length} bytes with {sort}"), text, Some(ending))
+}
+
+/// A count of about 65,536, of each part in its turn: one that would be 1, or as before, if
+/// it were cut to two bytes.
+fn far_count(random: &mut Random, turn: usize) -> Made {
+    let mut draft = records(random, &[]);
+    let cut = usize::from(u16::MAX) + 1;
+    let part = turn % 4;
+    let count = cut + [1, draft.counts()[part]][turn / 4 % 2];
+    // The shortest lines, so that there is room for all.
+    match part {
+        0 => draft = only(|draft| draft.tasks.resize(count, [1, 1])),
+        1 => draft.locks.resize(count, [1, 0, 1, 0]),
+        2 => draft.uses.resize(count, [0, 0]),
+        _ => draft.events.resize(count, Event::Tick.record()),
+    }
+    let order = order(random, draft.counts());
+    let (text, numbers) = Layout::plain().lay_out(random, &in_order(&draft, &order));
+    let ending = foretold(&draft, &order, &numbers);
+    (
+        format!("{count} records of part {part}"),
+        text,
+        Some(ending),
+    )
+}
+
+fn only(change: impl FnOnce(&mut Draft)) -> Draft {
+    let mut draft = Draft::default();
+    change(&mut draft);
+    draft
+}
+
+/// As many records of all parts as can be, or one more of one of them.
+fn great(random: &mut Random, turn: usize) -> Made {
+    let plan = plans::contended(random);
+    let events: Vec<Event> = (0..MOST_EVENTS).map(some_event).collect();
+    let mut draft = Draft::of(&plan, &events);
+    let sort = match turn % 6 {
+        0 => "the most tasks, locks and events",
+        1 => {
+            draft.tasks.push([1, 1]);
+            "one task too many"
+        }
+        2 => {
+            draft.locks.push([1, 0, 1, 0]);
+            "one lock too many"
+        }
+        3 => {
+            draft.uses.resize(MOST_USES + 1, [0, 0]);
+            "one use too many"
+        }
+        4 => {
+            draft.events.push(Event::Finish.record());
+            "one event too many"
+        }
+        _ => {
+            draft.tasks.clear();
+            "no task"
+        }
+    };
+    let order = order(random, draft.counts());
+    let layout = Layout::any(random);
+    let (text, numbers) = laid_out(random, &layout, &in_order(&draft, &order));
+    let ending = foretold(&draft, &order, &numbers);
+    (sort.to_string(), text, Some(ending))
+}
+
+fn some_event(at: usize) -> Event {
+    let id = (at / 7 % 256) as u8;
+    match at % 7 {
+        0 => Event::Release(id),
+        1 => Event::Acquire(id),
+        2 => Event::Unlock(id),
+        3 => Event::Work(at as u16 + 1),
+        4 => Event::Work(u16::MAX - at as u16),
+        5 => Event::Finish,
+        _ => Event::Tick,
+    }
+}
+
+/// Lines of any words, and now and then no line at all.
+fn any(random: &mut Random) -> Made {
+    let count = random.below(6);
+    let lines: Vec<Words> = (0..count).map(|_| any_words(random)).collect();
+    let (text, _) = Layout::any(random).lay_out(random, &lines);
+    (format!("{count} lines of any words"), text, None)
+}

@@ -1,6 +1,6 @@
 // A plan and a state, figure by figure. A plan: its tasks and its locks, eight bytes each, then the
 // bases, maxima, ceilings, limits and uses. A state: the accepted events, who runs, the two words and the two
-// counts of calls; of each task the release numbers, kept priorities, delays, open locks, their rows
+// counts of calls; of each task the release numbers, kept priorities, delays, numbers of takes, their rows
 // and the rows of saved words; of each lock the units and the owners. Every array has all its places.
 use crate::wire::after;
 use crate::wire::put8;

@@ -1,4 +1,4 @@
-// What every crate shares of numbers: rows of open locks and of saved words, sets of locks, the rest of
+// What every crate shares of numbers: rows of takes and of saved words, sets of locks, the rest of
 // a table, tests that all hold, numbers made wider, and the two kinds of priority.
 pub mod all;
 pub mod mask;

@@ -1,4 +1,4 @@
-// A task's row of open locks, or of the words that were saved when they were taken: a number in base
+// A task's row of takes, each by its lock, or of the words that were saved at them: a number in base
 // 256, newest first, with room for eight.
 use rules::priority::UserPriority;
 ghost use mathlib.Core.Path.{_≡_};

@@ -13,7 +13,7 @@ use Rattle.rules.specs.Numbers.Choice.{if_then_else_}
 use Rattle.rules.specs.Numbers.Place.{at, renewed}
 use Rattle.rules.specs.Numbers.Refusal.{firstTrue}
 use Rattle.rules.specs.Schedulers.Figures.{Figures, figuresOf}
-use Rattle.rules.specs.Schedulers.FiguresAfter.{differs, eagerCalls, figuresAfter, delayed, charged}
+use Rattle.rules.specs.Schedulers.FiguresAfter.{differs, eagerCalls, staysOpen, figuresAfter, delayed, charged}
 use Rattle.rules.specs.Schedulers.Lazy.{Words, wordsOf, stateOf, entering, bestKept, backOf, stays, wordsAfter, lazyCall}
 use Rattle.rules.specs.Schedulers.EventRefusals.{testsOf, refusalOf}
 use Rattle.rules.specs.Soundness.Sound.{SoundAndSized}
@@ -163,7 +163,7 @@ module _ (pr : Protocol) (p : Plan) (s : State) where
           → UnlockAnswered pr (s .head) (p .tasks) (p .locks) l (p .maximum) (s .released) (s .kept) (s .depth) (s .takes) (s .saved) (s .units)
           (s .owner) r kept₂ depth₂ takes₂ saved₂ units₂ owner₂
           → e ≡ Event.Unlock l → out ≡ steppedAs r (s .released) kept₂ (s .delay) depth₂ takes₂ saved₂ units₂ owner₂ → out ≡ actOf pr p s e
-      unfolding afterOf figuresAfter eagerCalls wordsAfter lazyCall
+      unfolding afterOf figuresAfter eagerCalls wordsAfter lazyCall staysOpen
       unlock-acts l kept₂ depth₂ takes₂ saved₂ units₂ owner₂ q arm o =
           o ∙ outcome (Event.Unlock l) _ r _ _ _ _ q (λ why a b. cc)
           (λ passed d. whole _ _ _ _ (d .counted .answer)

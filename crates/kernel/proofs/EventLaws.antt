@@ -1,24 +1,26 @@
 -- Each accepted event from its parts: the figures that it moved, the words and the counts. Assumes nothing.
-use mathlib.Core.Path.{_≡_, refl, _∙_, ap}
-use mathlib.Core.Bool.{false}
+use mathlib.Core.Path.{_≡_, refl, sym, _∙_, ap, ap₂}
+use mathlib.Core.Bool.{Bool, true, false}
 use mathlib.Core.List.{List, []}
 use Prim.Native.Nat.{ℕ, _+_, _-_, _%_, _^_, _<_, max}
 use native.Mathlib.Nat.{add-zero}
 use lib.ListN.{set}
+use lib.Seq.{set-getD}
 use Rattle.rules.specs.Numbers.Choice.{if_then_else_}
 use Rattle.rules.specs.Numbers.Place.{at, renewed}
-use Rattle.rules.specs.Numbers.Row.{under, pushed}
-use Rattle.rules.specs.Schedulers.FiguresAfter.{differs}
+use Rattle.rules.specs.Numbers.Row.{under, pushed, has}
+use Rattle.rules.specs.Schedulers.FiguresAfter.{differs, leftOf}
 use Rattle.rules.specs.Schedulers.Lazy.{Words, entering, switched, afterRelease, afterAcquire}
 use Rattle.rules.specs.declared.protocol.Protocol.{Protocol}
 use Rattle.rules.specs.declared.state.Head.{Head}
 use Rattle.rules.specs.declared.answer.Answer.{Answer}
 use Rattle.rules.specs.declared.priority.KernelPriority.{KernelPriority}
 use Rattle.rules.specs.declared.priority.UserPriority.{UserPriority}
+use Rattle.rules.proofs.Schedulers.Rules.{left-same, left-none}
 use Rattle.figures.proofs.Rows.{push-fits}
 use Rattle.kernel.specs.Lent.{acceptedWith, enteringHead, tickedTurn, turnOf, turned, wordsOn, wordsWith}
 use Rattle.kernel.specs.Work.{waited, chargedRow}
-use Rattle.kernel.specs.Parts.{Counted, ReleaseDone, AcquireDone, UnlockWords, UnlockDone, WorkDone, FinishDone}
+use Rattle.kernel.specs.Parts.{Counted, ReleaseDone, AcquireDone, staysBy, UnlockWords, UnlockDone, WorkDone, FinishDone}
 use Rattle.kernel.specs.declared.acted.Acted.{Acted}
 use Rattle.kernel.specs.declared.lazy.Unlocked.{Unlocked}
 use Rattle.kernel.specs.declared.switch.Turn.{Turn}
@@ -91,21 +93,33 @@ work-done h turn r turns n a base released delay depth takes units delay₂ unit
   words = λ kept saved owner. uncalled h turn kept saved owner ∙ rw turns;
 })
 
-pub unlock-done : (pr : Protocol) (h : Head) (r : Acted) (n l row u : ℕ) (maximum released kept depth takes saved units owner kept₂ saved₂ owner₂ : List ℕ)
-    (given : Unlocked)
-    → row ≡ at takes (h .running) → u ≡ under row → UnlockWords pr h n l maximum released kept saved owner given kept₂ saved₂ owner₂
+pub unlock-done : (pr : Protocol) (h : Head) (r : Acted) (n l row u k : ℕ) (more : Bool)
+    (maximum released kept depth takes saved units owner kept₂ saved₂ units₂ owner₂ : List ℕ) (given : Unlocked)
+    → row ≡ at takes (h .running) → u ≡ under row → k ≡ at depth (h .running) - 1 → more ≡ has u k l
+    → units₂ ≡ set units l (leftOf more (at units l)) → owner₂ ≡ set owner l (leftOf more (at owner l))
+    → UnlockWords pr h n maximum released kept saved given kept₂ saved₂
     → r ≡ acceptedWith h (given .turn) (given .call) (differs (h .user .0) (given .back .0))
-    → UnlockDone pr h n l maximum released kept depth takes saved units owner r kept₂ (set depth (h .running) (at depth (h .running) - 1))
-    (set takes (h .running) u) saved₂ (set units l 0) owner₂
-unlock-done pr h r n l row u maximum released kept depth takes saved units owner kept₂ saved₂ owner₂ given read rest g q =
+    → UnlockDone pr h n l maximum released kept depth takes saved units owner r kept₂ (set depth (h .running) k) (set takes (h .running) u) saved₂ units₂ owner₂
+unlock-done pr h r n l row u k more maximum released kept depth takes saved units owner kept₂ saved₂ units₂ owner₂ given read rest less told s o g q =
     rw q (record {
       counted = record {
         answer = ap Answer.Accepted (g .call);
         number = refl;
         calls = ap (λ u. h .eager + differs (h .user .0) u) (g .back);
       };
-      count = refl;
+      count = ap (set depth (h .running)) less;
       row = ap (set takes (h .running)) (rest ∙ ap under read);
-      section = refl;
-      words = g .words (h .lazy);
+      section = s ∙ ap (λ b. set units l (leftOf b (at units l))) so;
+      words = rw (o, ← so) (g .words (h .lazy) l more owner);
     })
+  where
+    so : more ≡ staysBy (h .running) l depth takes
+    so = told ∙ ap₂ (λ a b. has a b l) (rest ∙ ap under read) less
+
+-- the section goes on where the lock stays open, and else it is over: of the units, and of the owner
+module _ (l : ℕ) (more : Bool) (figures : List ℕ) where
+  pub section-stays : more ≡ true → figures ≡ set figures l (leftOf more (at figures l))
+  section-stays e = sym (ap (set figures l) (left-same more (at figures l) e) ∙ set-getD figures l 0)
+
+  pub section-ends : more ≡ false → set figures l 0 ≡ set figures l (leftOf more (at figures l))
+  section-ends e = ap (set figures l) (sym (left-none more (at figures l) e))

@@ -109,7 +109,7 @@ acquire-raises l row v h ceiling user saved owner read few q g lazy kept = rw (g
 
 -- ---- unlock: back is the word that was saved, and r whether it is below the next word
 
-module _ (pr : Protocol) (n l row u : ℕ) (h : Head) (maximum released kept saved owner : List ℕ) (back : UserPriority) (r : Bool)
+module _ (pr : Protocol) (n row u : ℕ) (h : Head) (maximum released kept saved : List ℕ) (back : UserPriority) (r : Bool)
     (read : row ≡ at saved (h .running)) (popped : back .0 ≡ newest row) (rest : u ≡ under row) (said : r ≡ callsFor (back .0) (h .next .0)) where
   newest-back : back .0 ≡ newest (at saved (h .running))
   newest-back = popped ∙ ap newest read
@@ -123,28 +123,27 @@ module _ (pr : Protocol) (n l row u : ℕ) (h : Head) (maximum released kept sav
   -- found is the word that the kernel finds
   pub unlock-calls : r ≡ true → (found : UserPriority) (kept₂ : List ℕ) (after : Turn) → found .0 ≡ cutTo (at maximum (h .running)) (back .0)
       → ((w : Words) → turned after kept₂ w ≡ switched pr n released (set kept (h .running) (found .0)) w)
-      → UnlockWords pr h n l maximum released kept saved owner (record { turn = after; call = true; back = back }) kept₂ (set saved (h .running) u)
-      (set owner l 0)
+      → UnlockWords pr h n maximum released kept saved (record { turn = after; call = true; back = back }) kept₂ (set saved (h .running) u)
   unfolding afterUnlock leaves entering restored if_then_else_
   unlock-calls y found kept₂ after cut e = record {
     call = sym (calls true y);
     back = newest-back;
-    words = λ lazy. let w : Words = entering maximum (restored l 1 (wordsOn (turnOf h) lazy kept saved owner)) in
+    words = λ lazy l more owner. let w : Words = entering maximum (restored more l 1 (wordsOn (turnOf h) lazy kept saved owner)) in
         rw popped-row (e w ∙ ap (λ v. switched pr n released (set kept (h .running) v) w) (cut ∙ ap (cutTo (at maximum (h .running))) newest-back)
         ∙ sym (if-true (callsFor (newest (at saved (h .running))) (h .next .0)) _ _ (calls true y)));
   }
 
   pub unlock-stays : r ≡ false
-      → UnlockWords pr h n l maximum released kept saved owner (record {
+      → UnlockWords pr h n maximum released kept saved (record {
         turn = record { running = h .running; user = back; next = h .next };
         call = false;
         back = back;
-      }) kept (set saved (h .running) u) (set owner l 0)
+      }) kept (set saved (h .running) u)
   unfolding afterUnlock restored if_then_else_
   unlock-stays y = record {
     call = sym (calls false y);
     back = newest-back;
-    words = λ lazy. rw (popped-row, newest-back) (sym (if-false (callsFor (newest (at saved (h .running))) (h .next .0)) _ _ (calls false y)));
+    words = λ lazy l more owner. rw (popped-row, newest-back) (sym (if-false (callsFor (newest (at saved (h .running))) (h .next .0)) _ _ (calls false y)));
   }
 
 -- ---- finish: nothing was kept for the task that runs

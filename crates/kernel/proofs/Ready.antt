@@ -8,7 +8,7 @@ use native.Mathlib.Omega.{arith}
 use lib.Dec.{eqb, leb, ltb}
 use lib.ListN.{length}
 use borrow.Author.Tests.{ltb-false, leb-false, eqb-false}
-use Rattle.rules.specs.Numbers.Capacity.{maxTasks, maxLocks, maxOpen, maxAccepted}
+use Rattle.rules.specs.Numbers.Capacity.{maxTasks, maxLocks, maxTakes, maxAccepted}
 use Rattle.rules.specs.Numbers.Place.{at}
 use Rattle.rules.specs.Numbers.Row.{newest, has}
 use Rattle.rules.specs.Numbers.Choice.{if_then_else_}
@@ -53,8 +53,8 @@ module _ (tested : Tested) (passed : tested ≡ Tested.Passed) where
   release-arrives h n t released kept said R = R .arrives (release-known n t (at released t) said) (release-rests n t (at released t) said)
 
   -- acquire
-  module _ (x m l k : ℕ) (undeclared mine other : Bool) (said : tested ≡ firstTrue
-      (acquireOrder (leb maxTasks x) (leb m l) undeclared mine other (leb maxOpen k))) where
+  module _ (x m l k : ℕ) (undeclared other : Bool) (said : tested ≡ firstTrue
+      (acquireOrder (leb maxTasks x) (leb m l) undeclared other (leb maxTakes k))) where
     pub acquire-runs : x < maxTasks
     unfolding acquireOrder testFor numberOf if_then_else_
     acquire-runs = leb-false maxTasks x (none-holds _ (sym said ∙ passed) NobodyRuns)
@@ -63,9 +63,9 @@ module _ (tested : Tested) (passed : tested ≡ Tested.Passed) where
     unfolding acquireOrder testFor numberOf if_then_else_
     acquire-known h = let q : l < m = leb-false m l (none-holds _ (sym said ∙ passed) Unknown) in omega arith
 
-    pub acquire-depth : k < maxOpen
+    pub acquire-depth : k < maxTakes
     unfolding acquireOrder testFor numberOf if_then_else_
-    acquire-depth = leb-false maxOpen k (none-holds _ (sym said ∙ passed) RowFull)
+    acquire-depth = leb-false maxTakes k (none-holds _ (sym said ∙ passed) RowFull)
 
     -- a row of less than eight has room in a number of eight places
     pub acquire-row : (row : ℕ) → row < 256 ^ k → row < 256 ^ 7
@@ -184,7 +184,6 @@ module _ (pr : Protocol) (p : Plan) (s : State) (S : SoundAndSized pr p s) (room
   unfolding holds
   work-laden a q = record {
     known = λ l h. S .sound .figures .known r l h;
-    once = S .sound .figures .once r;
     room = λ l h. omega (arith, ltb-false (at (p .limit) l) (at (s .units) l + a) (within l h), S .sound .plan .limitBytes l);
   }
     where

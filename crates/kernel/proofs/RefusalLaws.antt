@@ -1,6 +1,6 @@
 -- The ways through the tests of an event: the first that holds refuses. Assumes nothing.
 use mathlib.Core.Path.{_≡_, refl, sym, _∙_, ap, ap₂}
-use mathlib.Core.Bool.{Bool, true, false, not, _||_}
+use mathlib.Core.Bool.{Bool, true, false, not, _&&_, _||_}
 use mathlib.Core.List.{List, [], _∷_}
 use Prim.Native.Nat.{ℕ, zero, suc, _+_, _-_, _≤_, _<_}
 use native.Mathlib.Nat.{not-suc-le-zero}
@@ -67,5 +67,8 @@ module _ (limit units : List ℕ) (a row k : ℕ) where
 
 -- ---- an owner's byte, as it was widened
 
-pub owner-read : (o who x : ℕ) → who ≡ o → eqb who (x + 1) ≡ eqb o (x + 1)
-owner-read o who x e = ap (λ w. eqb w (x + 1)) e
+pub owner-none : (o x : ℕ) → o ≡ 0 → false ≡ (not (eqb o 0) && not (eqb o (x + 1)))
+owner-none o x e = rw (eq-eqb o 0 e)
+
+pub owner-read : (o who x : ℕ) → (o ≡ 0 → ⊥) → who ≡ o → not (eqb who (x + 1)) ≡ (not (eqb o 0) && not (eqb o (x + 1)))
+owner-read o who x n e = rw (ne-eqb o 0 n, e)

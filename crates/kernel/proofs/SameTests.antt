@@ -9,9 +9,8 @@ use native.Mathlib.Decide.{ℕ-discrete}
 use native.Mathlib.Numerals.{add-one}
 use native.Mathlib.Omega.{arith}
 use lib.Dec.{eqb, leb, ltb}
-use borrow.Author.Tests.{eqb-true, eqb-false, eq-eqb, ne-eqb, le-leb, lt-leb}
-use Rattle.rules.specs.Numbers.Capacity.{maxTasks, maxOpen, nobody}
-use Rattle.rules.specs.Numbers.Choice.{if_then_else_}
+use borrow.Author.Tests.{eqb-true, eqb-false, eq-eqb, ne-eqb, le-leb, lt-leb, not-true}
+use Rattle.rules.specs.Numbers.Capacity.{maxTasks, maxTakes, nobody}
 use Rattle.rules.specs.Numbers.Place.{at, any}
 use Rattle.rules.specs.Numbers.Row.{newest, under, has}
 use Rattle.rules.specs.Numbers.Mask.{hasBit}
@@ -60,12 +59,6 @@ module _ (limit units : List ℕ) (a : ℕ) where
       (λ (e : has (under row) k l ≡ true). by-test (over (newest row)) (λ t. rw t) (λ t. rw t (some-past (under row) k l e o)))
       (has-cases row k l h)
 
--- where a lock is open for this task, it does not matter what is said of others
-over-mine : (idle unknown undeclared mine o o′ full : Bool) → mine ≡ true
-    → firstTrue (acquireOrder idle unknown undeclared mine o full) ≡ firstTrue (acquireOrder idle unknown undeclared mine o′ full)
-unfolding acquireOrder firstTrue if_then_else_
-over-mine idle unknown undeclared mine o o′ full e = rw e
-
 module _ {pr : Protocol} (p : Plan) (s : State) (S : SoundAndSized pr p s) where
   abbrev f : Figures
   f = figuresOf s
@@ -94,24 +87,24 @@ module _ {pr : Protocol} (p : Plan) (s : State) (S : SoundAndSized pr p s) where
     owns : (x : ℕ) → at (s .owner) l ≡ suc x → holds f x l ≡ true
     owns x e = owner-some f l (p .tasks) x (sym (S .sound .words .owner l) ∙ e) .1
 
-    pub mine-same : eqb (at (s .owner) l) (r + 1) ≡ holds f r l
-    mine-same = both (eqb (at (s .owner) l) (r + 1)) (holds f r l)
-        (λ h. owns r (eqb-true _ _ h ∙ add-one r))
-        (λ h. eq-eqb _ _ (owned r h ∙ sym (add-one r)))
-
-    pub other-same : eqb (at (s .owner) l) (r + 1) ≡ false → not (eqb (at (s .owner) l) 0) ≡ elsewhere f (p .tasks) r l
+    -- the owner is another task exactly where another task has it open
+    pub other-same : (not (eqb (at (s .owner) l) 0) && not (eqb (at (s .owner) l) (r + 1))) ≡ elsewhere f (p .tasks) r l
     unfolding elsewhere
-    other-same n = both (not (eqb (at (s .owner) l) 0)) (any (λ x. not (eqb x r) && holds f x l) (p .tasks))
-        (λ h. go (at (s .owner) l) refl h)
+    other-same = both (not (eqb (at (s .owner) l) 0) && not (eqb (at (s .owner) l) (r + 1))) (any (λ x. not (eqb x r) && holds f x l) (p .tasks))
+        (λ h. let (a, b) = and-true (not (eqb (at (s .owner) l) 0)) (not (eqb (at (s .owner) l) (r + 1))) h in go (at (s .owner) l) refl a b)
         (λ h. let (x, b, q) = any-some (λ x. not (eqb x r) && holds f x l) (p .tasks) h in
-        ap not (ne-eqb (at (s .owner) l) 0 (λ z. omega (arith, owned x (and-true (not (eqb x r)) (holds f x l) q .1)))))
+        let (n, o) = and-true (not (eqb x r)) (holds f x l) q in
+        true-and (not (eqb (at (s .owner) l) 0)) (not (eqb (at (s .owner) l) (r + 1))) (ap not (ne-eqb (at (s .owner) l) 0 (λ z. omega (arith, owned x o))))
+        (ap not (ne-eqb (at (s .owner) l) (r + 1) (λ z. eqb-false x r (not-true (eqb x r) n) (omega (arith, owned x o))))))
       where
-        go : (o : ℕ) → at (s .owner) l ≡ o → not (eqb (at (s .owner) l) 0) ≡ true → any (λ x. not (eqb x r) && holds f x l) (p .tasks) ≡ true
-        go zero e h = untrue (sym h ∙ ap not (eq-eqb (at (s .owner) l) 0 e))
-        go (suc x) e h =
+        go : (o : ℕ) → at (s .owner) l ≡ o → not (eqb (at (s .owner) l) 0) ≡ true → not (eqb (at (s .owner) l) (r + 1)) ≡ true
+            → any (λ x. not (eqb x r) && holds f x l) (p .tasks) ≡ true
+        go zero e h n = untrue (sym h ∙ ap not (eq-eqb (at (s .owner) l) 0 e))
+        go (suc x) e h n =
             let o : holds f x l ≡ true = owns x e in
             some-any (λ x. not (eqb x r) && holds f x l) (p .tasks) x (inside figured x (holder-out figured x l o))
-            (true-and (not (eqb x r)) (holds f x l) (ap not (ne-eqb x r (λ q. eqb-false _ _ n (e ∙ ap suc q ∙ sym (add-one r))))) o)
+            (true-and (not (eqb x r)) (holds f x l)
+            (ap not (ne-eqb x r (λ q. eqb-false _ _ (not-true (eqb (at (s .owner) l) (r + 1)) n) (e ∙ ap suc q ∙ sym (add-one r))))) o)
 
   pub past-same : (a : ℕ) → pastRow (p .limit) (s .units) a (at (s .takes) r) (at (s .depth) r) ≡ pastLimit p f r a
   unfolding pastLimit holds
@@ -132,15 +125,8 @@ module _ {pr : Protocol} (p : Plan) (s : State) (S : SoundAndSized pr p s) where
 
   pub acquire-same : (l : ℕ) → acquireTested r (p .locks) l (p .uses) (s .depth) (s .owner) ≡ firstTrue (testsOf p f r (Event.Acquire l))
   unfolding testsOf declares
-  acquire-same l = by-test (eqb (at (s .owner) l) (r + 1))
-      (λ t. ap₂ (λ i h. firstTrue (acquireOrder i (leb (p .locks) l) (not (hasBit (at (p .uses) r) l)) h (not (eqb (at (s .owner) l) 0))
-      (leb maxOpen (at (s .depth) r)))) idle-same (mine-same l)
-      ∙ over-mine (eqb r nobody) (leb (p .locks) l) (not (hasBit (at (p .uses) r) l)) (holds f r l) (not (eqb (at (s .owner) l) 0)) (elsewhere f (p .tasks) r l)
-      (leb maxOpen (at (s .depth) r)) (sym (mine-same l) ∙ t))
-      (λ t. ap₂ (λ i h. firstTrue (acquireOrder i (leb (p .locks) l) (not (hasBit (at (p .uses) r) l)) h (not (eqb (at (s .owner) l) 0))
-      (leb maxOpen (at (s .depth) r)))) idle-same (mine-same l)
-      ∙ ap (λ o. firstTrue (acquireOrder (eqb r nobody) (leb (p .locks) l) (not (hasBit (at (p .uses) r) l)) (holds f r l) o (leb maxOpen (at (s .depth) r))))
-      (other-same l t))
+  acquire-same l = ap₂ (λ i o. firstTrue (acquireOrder i (leb (p .locks) l) (not (hasBit (at (p .uses) r) l)) o (leb maxTakes (at (s .depth) r))))
+      idle-same (other-same l)
 
   pub unlock-same : (l : ℕ) → unlockTested r (p .locks) l (s .depth) (s .takes) ≡ firstTrue (testsOf p f r (Event.Unlock l))
   unfolding testsOf notNewest

@@ -1,6 +1,6 @@
 -- The ways through an accepted work: the delays of the tasks, and the sections along the row. Assumes nothing.
-use mathlib.Core.Path.{_≡_, refl, sym, _∙_, ap, ap₂, subst}
-use mathlib.Core.Logic.{_⊎_, inl, inr, ⊎-elim}
+use mathlib.Core.Path.{_≡_, refl, sym, _∙_, ap, ap₂}
+use mathlib.Core.Logic.{_≢_, ⊎-elim}
 use mathlib.Core.Bool.{Bool, true, false, _&&_, _||_}
 use mathlib.Core.List.{List}
 use Prim.Native.Nat.{ℕ, zero, suc, _+_, _-_, _≤_, _<_, min}
@@ -17,13 +17,12 @@ use Rattle.rules.specs.Numbers.Row.{newest, under, has}
 use Rattle.rules.specs.Schedulers.Figures.{Figures, holds}
 use Rattle.rules.specs.Schedulers.FiguresAfter.{charged}
 use Rattle.rules.specs.declared.priority.KernelPriority.{KernelPriority}
-use native.Mathlib.Decide.{ℕ-discrete}
-use Rattle.rules.proofs.Numbers.Choice.{if-true, if-false, untrue, not-so, at-or, lt-or-le}
+use Rattle.rules.proofs.Numbers.Choice.{if-true, if-false, by-test, either, not-so, at-or, lt-or-le}
 use Rattle.rules.proofs.Numbers.Place.{RenewedSoFar, renewed-next, renewed-rest, renewed-at, renewed-same, length-renewed}
-use Rattle.rules.proofs.Numbers.Row.{has-none, has-suc, has-newest, has-under, distinct-under}
+use Rattle.rules.proofs.Numbers.Row.{has-none, has-suc, has-newest, has-under}
 use Rattle.kernel.proofs.SwitchLaws.{set-past}
 use Rattle.kernel.specs.Ready.{Waiting}
-use Rattle.kernel.specs.Work.{waitedBy, waited, chargedRow, Laden}
+use Rattle.kernel.specs.Work.{waitedBy, waited, bumped, chargedRow, Laden}
 
 -- ---- a task's delay
 
@@ -72,15 +71,16 @@ module _ (units₀ : List ℕ) (a row k : ℕ) where
   pub charge-start : length units₀ ≡ maxLocks → ChargedSoFar units₀ row k
   charge-start e = (e, refl)
 
-  pub charge-next : (units units₂ : List ℕ) (left c l u : ℕ) → ChargedSoFar units left c → 0 < c → l ≡ newest left
-      → units₂ ≡ set units l (min maxDelay (at units l + a)) → length units₂ ≡ maxLocks → u ≡ under left → ChargedSoFar units₂ u (c - 1)
+  pub charge-next : (units units₂ : List ℕ) (left c l u : ℕ) (older : Bool) → ChargedSoFar units left c → 0 < c → l ≡ newest left
+      → u ≡ under left → older ≡ has u (c - 1) l → units₂ ≡ bumped units older l a → length units₂ ≡ maxLocks → ChargedSoFar units₂ u (c - 1)
   unfolding chargedRow
-  charge-next units units₂ left zero l u e h g q n r = absurd (not-suc-le-zero h)
-  charge-next units units₂ left (suc c) l u e h g q n r =
-      let o : suc c - 1 ≡ c = omega arith in (
+  charge-next units units₂ left zero l u older e h g r t q n = absurd (not-suc-le-zero h)
+  charge-next units units₂ left (suc c) l u older e h g r t q n =
+      let o : suc c - 1 ≡ c = omega arith in
+      let b : older ≡ has (under left) c (newest left) = t ∙ ap₂ (λ v j. has v j l) r o ∙ ap (has (under left) c) g in (
         n,
-        ap₂ (λ us j. chargedRow us a u j) (q ∙ ap (λ x. set units x (min maxDelay (at units x + a))) g) o
-            ∙ ap (λ v. chargedRow (set units (newest left) (min maxDelay (at units (newest left) + a))) a v c) r ∙ e .1,
+        ap₂ (λ us j. chargedRow us a u j) (q ∙ ap₂ (λ v x. bumped units v x a) b g) o
+            ∙ ap (λ v. chargedRow (bumped units (has (under left) c (newest left)) (newest left) a) a v c) r ∙ e .1,
       )
 
   pub charge-ends : (units : List ℕ) (left c : ℕ) → ChargedSoFar units left c → c ≤ 0 → units ≡ chargedRow units₀ a row k
@@ -88,62 +88,95 @@ module _ (units₀ : List ℕ) (a row k : ℕ) where
   charge-ends units left zero e h = e .1
   charge-ends units left (suc c) e h = absurd (not-suc-le-zero h)
 
--- a place past the end is not written
-pub bump-past : (units : List ℕ) (l v : ℕ) → length units ≡ maxLocks → maxLocks ≤ l → units ≡ set units l v
-bump-past units l v e h = sym (set-past units l v (omega arith))
+-- one section: an older take counts it, or it has a units more; a place past the end is not written
+module _ (units : List ℕ) (older : Bool) (l a : ℕ) where
+  pub bump-older : older ≡ true → units ≡ bumped units older l a
+  unfolding bumped
+  bump-older e = sym (if-true older units (set units l (min maxDelay (at units l + a))) e)
+
+  pub bump-more : (v : ℕ) → older ≡ false → v ≡ min maxDelay (at units l + a) → set units l v ≡ bumped units older l a
+  unfolding bumped
+  bump-more v e q = ap (set units l) q ∙ sym (if-false older units (set units l (min maxDelay (at units l + a))) e)
+
+  pub bump-past : older ≡ false → length units ≡ maxLocks → maxLocks ≤ l → units ≡ bumped units older l a
+  bump-past e n h = sym (set-past units l (min maxDelay (at units l + a)) (omega arith)) ∙ bump-more (min maxDelay (at units l + a)) e refl
+
+  pub length-bumped : length (bumped units older l a) ≡ length units
+  unfolding bumped
+  length-bumped = either (λ us. length us ≡ length units) older units (set units l (min maxDelay (at units l + a))) refl
+      (length-set units l (min maxDelay (at units l + a)))
 
 -- what the charge comes to: each section of the row has a units more
 module _ (m a : ℕ) where
-  -- one lock's section, and the rest of the row
-  rest : (units : List ℕ) (row k : ℕ) → Laden m units a row (suc k) → Laden m (set units (newest row) (min maxDelay (at units (newest row) + a))) a
-      (under row) k
+  -- after one lock's section
+  one : List ℕ → ℕ → ℕ → List ℕ
+  one units row k = bumped units (has (under row) k (newest row)) (newest row) a
+
+  -- where an older take counts it, it has not changed, and neither has any other lock's
+  one-same : (units : List ℕ) (row k : ℕ) → has (under row) k (newest row) ≡ true → one units row k ≡ units
+  unfolding one
+  one-same units row k e = sym (bump-older units (has (under row) k (newest row)) (newest row) a e)
+
+  one-more : (units : List ℕ) (row k : ℕ) → has (under row) k (newest row) ≡ false
+      → one units row k ≡ set units (newest row) (min maxDelay (at units (newest row) + a))
+  unfolding one
+  one-more units row k e =
+      sym (bump-more units (has (under row) k (newest row)) (newest row) a (min maxDelay (at units (newest row) + a)) e refl)
+
+  one-other : (units : List ℕ) (row k l : ℕ) → l ≢ newest row → at (one units row k) l ≡ at units l
+  one-other units row k l n = by-test (has (under row) k (newest row))
+      (λ e. ap (λ us. at us l) (one-same units row k e))
+      (λ e. ap (λ us. at us l) (one-more units row k e) ∙ getD-set-other units (newest row) l (min maxDelay (at units (newest row) + a)) 0 n)
+
+  -- what the rest of the row has, has not changed yet
+  one-rest : (units : List ℕ) (row k l : ℕ) → has (under row) k l ≡ true → at (one units row k) l ≡ at units l
+  one-rest units row k = at-or (λ l. has (under row) k l ≡ true → at (one units row k) l ≡ at units l) (newest row)
+      (λ e. ap (λ us. at us (newest row)) (one-same units row k e)) (λ l n _. one-other units row k l n)
+
+  rest : (units : List ℕ) (row k : ℕ) → Laden m units a row (suc k) → Laden m (one units row k) a (under row) k
   rest units row k L = record {
     known = λ l h. L .known l (has-under row k l h);
-    once = distinct-under row k (L .once) .1;
-    room = λ l h. ⊎-elim
-        (λ (q : newest row ≡ l). untrue (sym h ∙ subst (λ x. has (under row) k x ≡ false) q (distinct-under row k (L .once) .0)))
-        (λ (q : newest row ≡ l → ⊥). rw (getD-set-other units (newest row) l (min maxDelay (at units (newest row) + a)) 0 (λ e. q (sym e)))
-        (L .room l (has-under row k l h)))
-        (same (newest row) l);
+    room = λ l h. rw (one-rest units row k l h) (L .room l (has-under row k l h));
   }
-    where
-      same : (x y : ℕ) → (x ≡ y) ⊎ (x ≡ y → ⊥)
-      same x y = go (ℕ-discrete x y)
-        where
-          go : Dec (x ≡ y) → (x ≡ y) ⊎ (x ≡ y → ⊥)
-          go (yes e) = inl e
-          go (no n) = inr n
 
-  -- after the newest lock's section and the rest of the row
+  -- after that and the rest of the row
   with-rest : (units : List ℕ) (row k : ℕ) → m ≤ length units → Laden m units a row (suc k)
-      → (units₂ : List ℕ) → units₂ ≡ set units (newest row) (min maxDelay (at units (newest row) + a))
-      → (after : List ℕ) → ((l : ℕ) → at after l ≡ (if has (under row) k l then at units₂ l + a else at units₂ l))
+      → (after : List ℕ) → ((l : ℕ) → at after l ≡ (if has (under row) k l then at (one units row k) l + a else at (one units row k) l))
       → (l : ℕ) → at after l ≡ (if has row (suc k) l then at units l + a else at units l)
-  with-rest units row k f L units₂ e after next = at-or (λ l. at after l ≡ (if has row (suc k) l then at units l + a else at units l)) x
-      (next x ∙ if-false (has (under row) k x) (at units₂ x + a) (at units₂ x) (distinct-under row k (L .once) .0)
-      ∙ ap (λ us. at us x) e ∙ getD-set-same units x (min maxDelay (at units x + a)) 0 (omega (arith, L .known x (has-newest row k)))
-      ∙ omega (arith, L .room x (has-newest row k))
-      ∙ sym (if-true (has row (suc k) x) (at units x + a) (at units x) (has-newest row k)))
-      (λ l n. next l ∙ ap₂ (λ u t. if t then u + a else u) (ap (λ us. at us l) e ∙ getD-set-other units x l (min maxDelay (at units x + a)) 0 n)
-      (sym (has-suc row k l ∙ ap (λ t. t || has (under row) k l) (ne-eqb x l (λ q. n (sym q))))))
+  with-rest units row k f L after next l = by-test (has (under row) k l)
+      (λ e. next l ∙ if-true (has (under row) k l) _ _ e ∙ ap (λ u. u + a) (one-rest units row k l e)
+      ∙ sym (if-true (has row (suc k) l) (at units l + a) (at units l) (has-under row k l e)))
+      (λ e. next l ∙ if-false (has (under row) k l) _ _ e ∙ at-or (λ l. has (under row) k l ≡ false
+      → at (one units row k) l ≡ (if has row (suc k) l then at units l + a else at units l)) (newest row) here other l e)
     where
-      x : ℕ
-      x = newest row
+      here : has (under row) k (newest row) ≡ false
+          → at (one units row k) (newest row) ≡ (if has row (suc k) (newest row) then at units (newest row) + a else at units (newest row))
+      here e =
+          ap (λ us. at us (newest row)) (one-more units row k e)
+          ∙ getD-set-same units (newest row) (min maxDelay (at units (newest row) + a)) 0 (omega (arith, L .known (newest row) (has-newest row k)))
+          ∙ omega (arith, L .room (newest row) (has-newest row k))
+          ∙ sym (if-true (has row (suc k) (newest row)) (at units (newest row) + a) (at units (newest row)) (has-newest row k))
+
+      other : (l : ℕ) → l ≢ newest row → has (under row) k l ≡ false
+          → at (one units row k) l ≡ (if has row (suc k) l then at units l + a else at units l)
+      other l n e =
+          one-other units row k l n
+          ∙ sym (if-false (has row (suc k) l) (at units l + a) (at units l)
+          (has-suc row k l ∙ ap₂ (λ s t. s || t) (ne-eqb (newest row) l (λ q. n (sym q))) e))
 
   charged-at : (units : List ℕ) (row k : ℕ) → m ≤ length units → Laden m units a row k → (l : ℕ)
       → at (chargedRow units a row k) l ≡ (if has row k l then at units l + a else at units l)
-  unfolding chargedRow
+  unfolding chargedRow one
   charged-at units row zero f L l = sym (if-false (has row 0 l) (at units l + a) (at units l) (has-none row l))
   charged-at units row (suc k) f L l =
-      let units₂ : List ℕ = set units (newest row) (min maxDelay (at units (newest row) + a)) in
-      with-rest units row k f L units₂ refl (chargedRow units₂ a (under row) k)
-      (charged-at units₂ (under row) k (omega (arith, length-set units (newest row) (min maxDelay (at units (newest row) + a)))) (rest units row k L)) l
+      with-rest units row k f L (chargedRow (one units row k) a (under row) k)
+      (charged-at (one units row k) (under row) k (omega (arith, length-bumped units (has (under row) k (newest row)) (newest row) a)) (rest units row k L)) l
 
   pub length-charged : (units : List ℕ) (row k : ℕ) → length (chargedRow units a row k) ≡ length units
   unfolding chargedRow
   length-charged units row zero = refl
-  length-charged units row (suc k) = length-charged (set units (newest row) (min maxDelay (at units (newest row) + a))) (under row) k
-      ∙ length-set units (newest row) (min maxDelay (at units (newest row) + a))
+  length-charged units row (suc k) = length-charged (bumped units (has (under row) k (newest row)) (newest row) a) (under row) k
+      ∙ length-bumped units (has (under row) k (newest row)) (newest row) a
 
   pub charged-row : (f : Figures) (r : ℕ) → m ≤ length (f .units) → Laden m (f .units) a (at (f .takes) r) (at (f .depth) r)
       → chargedRow (f .units) a (at (f .takes) r) (at (f .depth) r) ≡ renewed (f .units) (charged f r a) m

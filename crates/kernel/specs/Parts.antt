@@ -1,19 +1,19 @@
 -- RULES 9: what the code of each event does with what it is lent, and with nothing else: the tests as it makes them, the figures by name, the words by
 -- their definition. Assumes nothing.
 use mathlib.Core.Path.{_≡_}
-use mathlib.Core.Bool.{Bool, false, not, _||_}
+use mathlib.Core.Bool.{Bool, false, not, _&&_, _||_}
 use mathlib.Core.List.{List, [], _∷_}
 use Prim.Native.Nat.{ℕ, _+_, _-_, max}
 use lib.Dec.{eqb, leb, ltb}
 use lib.ListN.{set}
-use Rattle.rules.specs.Numbers.Capacity.{maxTasks, maxOpen}
+use Rattle.rules.specs.Numbers.Capacity.{maxTasks, maxTakes}
 use Rattle.rules.specs.Numbers.Choice.{if_then_else_}
 use Rattle.rules.specs.Numbers.Place.{at, renewed}
 use Rattle.rules.specs.Numbers.Mask.{hasBit}
-use Rattle.rules.specs.Numbers.Row.{newest, under, pushed}
+use Rattle.rules.specs.Numbers.Row.{newest, under, pushed, has}
 use Rattle.rules.specs.Numbers.Refusal.{firstTrue}
 use Rattle.rules.specs.Schedulers.EventRefusals.{releaseOrder, acquireOrder, unlockOrder, workOrder, finishOrder}
-use Rattle.rules.specs.Schedulers.FiguresAfter.{differs}
+use Rattle.rules.specs.Schedulers.FiguresAfter.{differs, leftOf}
 use Rattle.rules.specs.Schedulers.Lazy.{callsFor, entering, backOf, switched, afterRelease, afterAcquire, afterUnlock}
 use Rattle.rules.specs.declared.protocol.Protocol.{Protocol}
 use Rattle.rules.specs.declared.state.Head.{Head}
@@ -57,8 +57,8 @@ ReleaseAnswered pr h n t base maximum released kept delay r released₂ kept₂ 
 
 abbrev pub acquireTested : ℕ → ℕ → ℕ → (uses depth owner : List ℕ) → Tested
 acquireTested x m l uses depth owner =
-    firstTrue (acquireOrder (leb maxTasks x) (leb m l) (not (hasBit (at uses x) l)) (eqb (at owner l) (x + 1)) (not (eqb (at owner l) 0))
-    (leb maxOpen (at depth x)))
+    firstTrue (acquireOrder (leb maxTasks x) (leb m l) (not (hasBit (at uses x) l)) (not (eqb (at owner l) 0) && not (eqb (at owner l) (x + 1)))
+    (leb maxTakes (at depth x)))
 
 pub record AcquireDone (h : Head) (l : ℕ) (ceiling depth takes saved owner : List ℕ) (r : Acted) (depth₂ takes₂ saved₂ owner₂ : List ℕ) : Type 0 where
   pub counted : Counted h r false (differs (h .user .0) (max (h .user .0) (at ceiling l)))
@@ -73,13 +73,17 @@ AcquireAnswered h m l ceiling uses depth takes saved owner r depth₂ takes₂ s
 
 -- ---- unlock
 
--- the words after it, the call and the word that is put back: r at exit of what was lent
-pub record UnlockWords (pr : Protocol) (h : Head) (n l : ℕ) (maximum released kept saved owner : List ℕ) (r : Unlocked) (kept₂ saved₂ owner₂ : List ℕ)
-    : Type 0 where
+-- the lock stays open after the unlock: the rest of the row has another take of it
+abbrev pub staysBy : ℕ → ℕ → (depth takes : List ℕ) → Bool
+staysBy x l depth takes = has (under (at takes x)) (at depth x - 1) l
+
+-- the words after it, the call and the word that is put back: r at exit of what was lent; whose the lock is, whichever it was, is said elsewhere
+pub record UnlockWords (pr : Protocol) (h : Head) (n : ℕ) (maximum released kept saved : List ℕ) (r : Unlocked) (kept₂ saved₂ : List ℕ) : Type 0 where
   pub call : r .call ≡ callsFor (newest (at saved (h .running))) (h .next .0)
   pub back : r .back .0 ≡ newest (at saved (h .running))
-  pub words : (lazy : ℕ) → wordsOn (r .turn) (lazy + (if r .call then 1 else 0)) kept₂ saved₂ owner₂
-      ≡ afterUnlock pr n maximum released l (wordsOn (turnOf h) lazy kept saved owner)
+  pub words : (lazy l : ℕ) (more : Bool) (owner : List ℕ)
+      → wordsOn (r .turn) (lazy + (if r .call then 1 else 0)) kept₂ saved₂ (set owner l (leftOf more (at owner l)))
+      ≡ afterUnlock pr n maximum released more l (wordsOn (turnOf h) lazy kept saved owner)
 
 abbrev pub unlockTested : ℕ → ℕ → ℕ → (depth takes : List ℕ) → Tested
 unlockTested x m l depth takes = firstTrue (unlockOrder (leb maxTasks x) (leb m l) (eqb (at depth x) 0 || not (eqb (newest (at takes x)) l)))
@@ -89,8 +93,9 @@ pub record UnlockDone (pr : Protocol) (h : Head) (n l : ℕ) (maximum released k
   pub counted : Counted h r (callsFor (backOf (wordsWith h kept saved owner)) (h .next .0)) (differs (h .user .0) (backOf (wordsWith h kept saved owner)))
   pub count : depth₂ ≡ set depth (h .running) (at depth (h .running) - 1)
   pub row : takes₂ ≡ set takes (h .running) (under (at takes (h .running)))
-  pub section : units₂ ≡ set units l 0
-  pub words : wordsWith (r .head) kept₂ saved₂ owner₂ ≡ afterUnlock pr n maximum released l (wordsWith h kept saved owner)
+  pub section : units₂ ≡ set units l (leftOf (staysBy (h .running) l depth takes) (at units l))
+  pub words : wordsWith (r .head) kept₂ saved₂ owner₂
+      ≡ afterUnlock pr n maximum released (staysBy (h .running) l depth takes) l (wordsWith h kept saved owner)
 
 abbrev pub UnlockAnswered : Protocol → Head → ℕ → ℕ → ℕ → (maximum released kept depth takes saved units owner : List ℕ) → Acted
     → (kept₂ depth₂ takes₂ saved₂ units₂ owner₂ : List ℕ) → Type 0

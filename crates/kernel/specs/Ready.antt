@@ -39,7 +39,7 @@ pub record ReleaseReady (h : Head) (n : ℕ) (released kept : List ℕ) (t : ℕ
   pub few : n ≤ maxTasks
   pub arrives : t < n → at released t ≡ 0 → Arrives h n kept t
 
--- the running task's rows are no longer than its number of open locks
+-- the running task's rows are no longer than its number of takes
 pub record AcquireReady (h : Head) (m : ℕ) (depth takes saved : List ℕ) : Type 0 where
   pub counts : Counts h
   pub few : m ≤ maxLocks

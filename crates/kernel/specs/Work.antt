@@ -1,4 +1,4 @@
--- RULES 9.7: what work does, as the code goes about it: task by task, and along the row of the running task's open locks. Assumes nothing.
+-- RULES 9.7: what work does, as the code goes about it: task by task, and along the row of the running task's takes. Assumes nothing.
 use mathlib.Core.Path.{_≡_}
 use mathlib.Core.Bool.{Bool, true, false, _&&_, _||_}
 use mathlib.Core.List.{List}
@@ -9,7 +9,6 @@ use Rattle.rules.specs.Numbers.Capacity.{maxDelay}
 use Rattle.rules.specs.Numbers.Choice.{if_then_else_}
 use Rattle.rules.specs.Numbers.Place.{at}
 use Rattle.rules.specs.Numbers.Row.{newest, under, has}
-use Rattle.rules.specs.Soundness.Sound.{distinct}
 
 -- the delay d of a task of release number y and base q after a units by one of base b
 unfoldable pub waitedBy : ℕ → ℕ → ℕ → ℕ → ℕ → ℕ
@@ -23,13 +22,16 @@ unfoldable pub pastRow : List ℕ → List ℕ → ℕ → ℕ → ℕ → Bool
 pastRow limit units a row zero = false
 pastRow limit units a row (suc k) = ltb (at limit (newest row)) (at units (newest row) + a) || pastRow limit units a (under row) k
 
--- the units after a more for each of the k newest
+-- the units after a more for the section of lock l, unless an older take of it counts them
+unfoldable pub bumped : List ℕ → (older : Bool) → ℕ → ℕ → List ℕ
+bumped units older l a = if older then units else set units l (min maxDelay (at units l + a))
+
+-- and after a more for the lock of each of the k newest, once: at its oldest take
 unfoldable pub chargedRow : List ℕ → ℕ → ℕ → ℕ → List ℕ
 chargedRow units a row zero = units
-chargedRow units a row (suc k) = chargedRow (set units (newest row) (min maxDelay (at units (newest row) + a))) a (under row) k
+chargedRow units a row (suc k) = chargedRow (bumped units (has (under row) k (newest row)) (newest row) a) a (under row) k
 
--- the k newest of a row are locks below m, none of them twice, and each has room for a units more
+-- the k newest of a row are of locks below m, and each of these has room for a units more
 pub record Laden (m : ℕ) (units : List ℕ) (a row k : ℕ) : Type 0 where
   pub known : (l : ℕ) → has row k l ≡ true → l < m
-  pub once : distinct row k ≡ true
   pub room : (l : ℕ) → has row k l ≡ true → at units l + a ≤ maxDelay

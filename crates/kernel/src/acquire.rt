@@ -11,12 +11,12 @@ use rules::capacity::MAX_LOCKS;
 use rules::capacity::MAX_TASKS;
 use rules::state::Head;
 ghost use Prim.Native.Nat.{_^_, _<_};
-ghost use Rattle.rules.specs.Numbers.Capacity.{maxLocks, maxOpen, maxTasks};
+ghost use Rattle.rules.specs.Numbers.Capacity.{maxLocks, maxTakes, maxTasks};
 ghost use Rattle.rules.specs.Numbers.Place.{at};
 ghost use Rattle.kernel.specs.Parts.{AcquireAnswered, AcquireDone};
 ghost use Rattle.kernel.specs.Ready.{AcquireReady, Counts};
 
-// The running task has lock l open, and its word is saved and raised.
+// The running task has a take of lock l more, and its word is saved and raised.
 fn accept(
     h: Head,
     ceiling: &[u8; MAX_LOCKS],
@@ -27,7 +27,7 @@ fn accept(
     l: u8,
 ) -> Acted
     requires { ⌜ Counts h × (h .running < maxTasks) × (l < maxLocks) ⌝ }
-    requires { ⌜ (at (now depth) (h .running) < maxOpen) × (at (now takes) (h .running) < 256 ^ 7) × (at (now saved) (h .running) < 256 ^ 7) ⌝ }
+    requires { ⌜ (at (now depth) (h .running) < maxTakes) × (at (now takes) (h .running) < 256 ^ 7) × (at (now saved) (h .running) < 256 ^ 7) ⌝ }
     ensures { λ r. ⌜ AcquireDone h l
         (now (ceiling .entry)) (now (depth .entry)) (now (takes .entry)) (now (saved .entry)) (now (owner .entry))
         r (now (depth .exit)) (now (takes .exit)) (now (saved .exit)) (now (owner .exit)) ⌝ }
@@ -42,7 +42,7 @@ fn accept(
     accepted_with_word(h, after, false, after.user)
 }
 
-// 12, 13, 15 to 18, or it is accepted.
+// 12, 13, 15, 17, 18, or it is accepted.
 pub fn acquire(
     h: Head,
     m: usize,

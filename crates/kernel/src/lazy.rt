@@ -157,21 +157,17 @@ pub fn after_unlock(
     kept: &mut [u8; MAX_TASKS],
     tree: &mut [u64; PLACES],
     saved: &mut [u64; MAX_TASKS],
-    owner: &mut [u8; MAX_LOCKS],
-    l: u8,
 ) -> Unlocked
-    requires { ⌜ (h .running < maxTasks) × (l < maxLocks) × (n ≤ maxTasks) × (length (now kept) ≡ maxTasks) ⌝ }
+    requires { ⌜ (h .running < maxTasks) × (n ≤ maxTasks) × (length (now kept) ≡ maxTasks) ⌝ }
     requires { ⌜ now tree ≡ tournamentOf n (now released) (now kept) ⌝ }
-    ensures { λ r. ⌜ UnlockWords protocol h n l (now (maximum .entry)) (now (released .entry)) (now (kept .entry)) (now (saved .entry)) (now (owner .entry))
-        r (now (kept .exit)) (now (saved .exit)) (now (owner .exit)) ⌝ }
+    ensures { λ r. ⌜ UnlockWords protocol h n (now (maximum .entry)) (now (released .entry)) (now (kept .entry)) (now (saved .entry))
+        r (now (kept .exit)) (now (saved .exit)) ⌝ }
     ensures { λ r. ⌜ now (tree .exit) ≡ tournamentOf n (now (released .entry)) (now (kept .exit)) ⌝ }
 {
     let x = h.running as usize;
-    let y = l as usize;
     let row = saved[x];
     let back = newest_word(row);
     saved[x] = under_of(row);
-    owner[y] = 0;
     let next = h.next;
     if calls_for(back, next) {
         let found = found_word(maximum, h.running, back);

@@ -6,11 +6,11 @@ use figures::row::newest_of;
 use figures::row::under_of;
 use rules::answer::Tested;
 use rules::capacity::MAX_LOCKS;
-use rules::capacity::MAX_OPEN;
+use rules::capacity::MAX_TAKES;
 use rules::capacity::MAX_TASKS;
 use rules::refusal::Refusal;
 ghost use mathlib.Core.Path.{_≡_};
-ghost use mathlib.Core.Bool.{_||_, not};
+ghost use mathlib.Core.Bool.{_&&_, _||_, not};
 ghost use Prim.Native.Nat.{_+_, _≤_, _<_};
 ghost use lib.Dec.{eqb};
 ghost use lib.ListN.{length};
@@ -34,12 +34,15 @@ pub fn release_refusal(n: usize, released: &[u32; MAX_TASKS], t: u8) -> Tested
     Tested::Passed
 }
 
-// Whether an owner's byte, the task plus one, is that of task x.
-fn owned_by(o: u8, x: usize) -> bool
+// Whether a lock is open for another task than x, by its owner's byte: the task plus one, or 0 for none.
+fn open_elsewhere(o: u8, x: usize) -> bool
     requires { ⌜ x < maxTasks ⌝ }
-    ensures { λ r. ⌜ r ≡ eqb o (x + 1) ⌝ }
+    ensures { λ r. ⌜ r ≡ (not (eqb o 0) && not (eqb o (x + 1))) ⌝ }
 {
-    place_of(o) == x + 1
+    if o == 0 {
+        return false;
+    }
+    place_of(o) != x + 1
 }
 
 // Task x runs, and a place past the last one is nobody. A lock is open for its owner alone.
@@ -64,19 +67,16 @@ pub fn acquire_refusal(
     if !has_bit(uses[x], l) {
         return Tested::Refused(Refusal::NotDeclared);
     }
-    if owned_by(owner[y], x) {
-        return Tested::Refused(Refusal::AlreadyOpen);
-    }
-    if owner[y] != 0 {
+    if open_elsewhere(owner[y], x) {
         return Tested::Refused(Refusal::OpenElsewhere);
     }
-    if MAX_OPEN <= depth[x] {
+    if MAX_TAKES <= depth[x] {
         return Tested::Refused(Refusal::RowFull);
     }
     Tested::Passed
 }
 
-// Whether lock l is not the newest of a row of k.
+// Whether the newest of a row of k takes is not of lock l, or there is none.
 fn older(k: u8, row: u64, l: u8) -> bool
     ensures { λ r. ⌜ r ≡ (eqb k 0 || not (eqb (newest row) l)) ⌝ }
 {

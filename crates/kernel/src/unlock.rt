@@ -4,6 +4,7 @@ use crate::counts::accepted_with_word;
 use crate::counts::refused;
 use crate::lazy::after_unlock;
 use crate::refusals::unlock_refusal;
+use figures::row::has_lock;
 use figures::row::under_of;
 use rules::answer::Tested;
 use rules::capacity::MAX_LOCKS;
@@ -13,14 +14,29 @@ use rules::state::Head;
 use tournament::tree::PLACES;
 ghost use mathlib.Core.Path.{_≡_};
 ghost use Prim.Native.Nat.{_≤_, _<_};
-ghost use lib.ListN.{length};
+ghost use lib.ListN.{length, set};
 ghost use Rattle.rules.specs.Numbers.Capacity.{maxLocks, maxTasks};
 ghost use Rattle.rules.specs.Numbers.Place.{at};
+ghost use Rattle.rules.specs.Schedulers.FiguresAfter.{leftOf};
 ghost use Rattle.tournament.specs.Keys.{tournamentOf};
 ghost use Rattle.kernel.specs.Parts.{UnlockAnswered, UnlockDone};
 ghost use Rattle.kernel.specs.Ready.{Counts, UnlockReady};
 
-// Lock l, the running task's newest, is closed, and the saved word is back.
+// The section of lock l is over, unless the lock stays open: it has no units, and nobody has it open.
+fn end_section(units: &mut [u16; MAX_LOCKS], owner: &mut [u8; MAX_LOCKS], stays: bool, l: u8)
+    requires { ⌜ l < maxLocks ⌝ }
+    ensures { λ _. ⌜ (now (units .exit) ≡ set (now (units .entry)) l (leftOf stays (at (now (units .entry)) l)))
+        × (now (owner .exit) ≡ set (now (owner .entry)) l (leftOf stays (at (now (owner .entry)) l))) ⌝ }
+{
+    if stays {
+        return;
+    }
+    let y = l as usize;
+    units[y] = 0;
+    owner[y] = 0;
+}
+
+// The running task's newest take, which is of lock l, is given back, and the saved word is back.
 fn accept(
     protocol: Protocol,
     h: Head,
@@ -46,24 +62,12 @@ fn accept(
     ensures { λ r. ⌜ now (tree .exit) ≡ tournamentOf n (now (released .entry)) (now (kept .exit)) ⌝ }
 {
     let x = h.running as usize;
-    let y = l as usize;
-    let k = depth[x];
-    depth[x] = k - 1;
-    let row = takes[x];
-    takes[x] = under_of(row);
-    units[y] = 0;
-    let unlocked = after_unlock(
-        protocol,
-        h,
-        n,
-        maximum,
-        released,
-        kept,
-        tree,
-        saved,
-        owner,
-        l,
-    );
+    let k = depth[x] - 1;
+    depth[x] = k;
+    let row = under_of(takes[x]);
+    takes[x] = row;
+    end_section(units, owner, has_lock(row, k, l), l);
+    let unlocked = after_unlock(protocol, h, n, maximum, released, kept, tree, saved);
     let after = unlocked.turn;
     accepted_with_word(h, after, unlocked.call, unlocked.back)
 }

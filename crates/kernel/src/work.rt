@@ -6,6 +6,7 @@ use crate::counts::turn_of;
 use crate::refusals::work_refusal;
 use figures::priority::exceeds;
 use figures::priority::kernel_of;
+use figures::row::has_lock;
 use figures::row::newest_of;
 use figures::row::under_of;
 use rules::answer::Tested;
@@ -16,10 +17,10 @@ use rules::priority::KernelPriority;
 use rules::state::Head;
 ghost use mathlib.Core.Path.{_≡_};
 ghost use Prim.Native.Nat.{_+_, _≤_, _<_, min};
-ghost use lib.ListN.{length, set};
+ghost use lib.ListN.{length};
 ghost use Rattle.rules.specs.Numbers.Capacity.{maxDelay, maxLocks, maxTasks};
 ghost use Rattle.rules.specs.Numbers.Place.{at, renewed};
-ghost use Rattle.kernel.specs.Work.{chargedRow, waited, waitedBy};
+ghost use Rattle.kernel.specs.Work.{bumped, chargedRow, waited, waitedBy};
 ghost use Rattle.kernel.specs.Parts.{WorkAnswered, WorkDone};
 ghost use Rattle.kernel.specs.Ready.{Counts, Waiting, WorkReady};
 
@@ -85,12 +86,14 @@ fn waits(
     }
 }
 
-// A units more for the section of lock l.
-fn bump(units: &mut [u16; MAX_LOCKS], l: u8, a: u16)
+// A units more for the section of lock l, unless an older take of it counts them.
+fn bump(units: &mut [u16; MAX_LOCKS], older: bool, l: u8, a: u16)
     requires { ⌜ length (now units) ≡ maxLocks ⌝ }
-    ensures { λ _. ⌜ (now (units .exit) ≡ set (now (units .entry)) l (min maxDelay (at (now (units .entry)) l + a)))
-        × (length (now (units .exit)) ≡ maxLocks) ⌝ }
+    ensures { λ _. ⌜ (now (units .exit) ≡ bumped (now (units .entry)) older l a) × (length (now (units .exit)) ≡ maxLocks) ⌝ }
 {
+    if older {
+        return;
+    }
     let y = l as usize;
     if y >= MAX_LOCKS {
         return;
@@ -99,7 +102,7 @@ fn bump(units: &mut [u16; MAX_LOCKS], l: u8, a: u16)
     units[y] = stick(u, a);
 }
 
-// The same for each of the k newest locks of a row.
+// The same for the lock of each of the k newest takes of a row: it counts at its oldest take.
 fn charge(units: &mut [u16; MAX_LOCKS], row: u64, k: u8, a: u16)
     requires { ⌜ length (now units) ≡ maxLocks ⌝ }
     ensures { λ _. ⌜ now (units .exit) ≡ chargedRow (now (units .entry)) a row k ⌝ }
@@ -108,13 +111,13 @@ fn charge(units: &mut [u16; MAX_LOCKS], row: u64, k: u8, a: u16)
     let mut c = k;
     while c > 0 {
         let l = newest_of(left);
-        bump(units, l, a);
         left = under_of(left);
         c -= 1;
+        bump(units, has_lock(left, c, l), l, a);
     }
 }
 
-// The running task works a units: they count for each of its open sections, and as delay for every
+// The running task works a units: they count once for each lock that it has open, and as delay for every
 // released task of greater base.
 fn accept(
     h: Head,

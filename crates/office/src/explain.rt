@@ -138,7 +138,7 @@ fn word_in(xs: &[u16], i: usize) -> u64
     0
 }
 
-// The newest lock of a row at a place.
+// The lock of the newest take of a row at a place.
 fn newest_in(rows: &[u64], i: usize) -> u64
     ensures { λ r. ⌜ r ≡ newest (at (now (rows .entry)) i) ⌝ }
 {

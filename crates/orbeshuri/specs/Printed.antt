@@ -15,7 +15,7 @@ use Rattle.rules.specs.Schedulers.Figures.{holds, priorityOf, rankOf}
 use Rattle.rules.specs.Schedulers.Elect.{earlier, earliest, elected}
 use Rattle.rules.specs.Schedulers.EventRefusals.{elsewhere, notNewest, pastLimit, testsOf}
 use Rattle.rules.specs.Schedulers.EventRefusals.{releaseOrder, acquireOrder, unlockOrder, workOrder, finishOrder, refusalOf}
-use Rattle.rules.specs.Schedulers.FiguresAfter.{differs, eagerCalls, charged, delayed, figuresAfter}
+use Rattle.rules.specs.Schedulers.FiguresAfter.{differs, eagerCalls, staysOpen, leftOf, charged, delayed, figuresAfter}
 use Rattle.rules.specs.Schedulers.Protocol.{secondWord}
 use Rattle.rules.specs.Schedulers.Lazy.{callsFor, cutTo, entering, runsOn, switched, stays, afterRelease, afterAcquire, restored, leaves, afterUnlock}
 use Rattle.rules.specs.Schedulers.Lazy.{wordsAfter, lazyCall}
@@ -55,7 +55,7 @@ unfolding book block blockByFirst bookOfRefused blockOfRefused
     useFault useAbove masksOf planOf
     recordChecks loadChecks sizeOf bodyAt layoutFault contentsChecks eventChecks checkOf checkedAs
     has priority saves holds priorityOf rankOf earlier earliest elected elsewhere notNewest pastLimit testsOf releaseOrder acquireOrder unlockOrder workOrder
-    finishOrder refusalOf differs eagerCalls charged delayed figuresAfter
+    finishOrder refusalOf differs eagerCalls staysOpen leftOf charged delayed figuresAfter
     secondWord callsFor cutTo entering runsOn switched stays afterRelease afterAcquire restored leaves afterUnlock
     wordsAfter lazyCall keptOf savedOf ownerOf
     taskObeys lockObeys spareObeys obeys rowTest ownTest numberNew numberTest taskTest lockTest runsTest secondTest headTest spareTest soundTest

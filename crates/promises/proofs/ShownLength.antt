@@ -9,7 +9,7 @@ use lib.Dec.{eqb, ltb}
 use lib.ListN.{length, drop, length-append}
 use lib.Seq.{getD-drop}
 use borrow.Author.Tests.{eqb-true, ltb-true}
-use Rattle.rules.specs.Numbers.Capacity.{nobody, maxTasks, maxLocks, maxUses, maxEvents, maxAccepted, maxOpen}
+use Rattle.rules.specs.Numbers.Capacity.{nobody, maxTasks, maxLocks, maxUses, maxEvents, maxAccepted, maxTakes}
 use Rattle.rules.specs.Numbers.Choice.{if_then_else_}
 use Rattle.rules.specs.Numbers.Place.{at}
 use Rattle.rules.specs.Numbers.Refusal.{numberOf}
@@ -150,9 +150,9 @@ meaning-long Refusal.NobodyRuns = omega arith
 meaning-long Refusal.Unknown = omega arith
 meaning-long Refusal.AlreadyReleased = omega arith
 meaning-long Refusal.NotDeclared = omega arith
-meaning-long Refusal.AlreadyOpen = omega arith
 meaning-long Refusal.OpenElsewhere = omega arith
-meaning-long Refusal.RowFull = omega (arith, filled-long 5 (ascii "the running task has @ locks open") (maxOpen ∷ []) (one-few maxOpen (omega arith)))
+meaning-long Refusal.RowFull =
+    omega (arith, filled-long 5 (ascii "the running task has @ takes that it has not given back") (maxTakes ∷ []) (one-few maxTakes (omega arith)))
 meaning-long Refusal.NotNewest = omega arith
 meaning-long Refusal.NoWork = omega arith
 meaning-long Refusal.PastLimit = omega arith

@@ -7,7 +7,7 @@ use native.Mathlib.Omega.{arith}
 use lib.Dec.{eqb, leb, ltb}
 use lib.ListN.{length, drop}
 use borrow.Author.Tests.{eqb-true, not-false, ne-eqb, lt-leb}
-use Rattle.rules.specs.Numbers.Capacity.{nobody, maxTasks, maxLocks, maxUses, maxEvents, maxAccepted, maxOpen}
+use Rattle.rules.specs.Numbers.Capacity.{nobody, maxTasks, maxLocks, maxUses, maxEvents, maxAccepted, maxTakes}
 use Rattle.rules.specs.Numbers.Choice.{if_then_else_}
 use Rattle.rules.specs.Numbers.Place.{at}
 use Rattle.rules.specs.Numbers.Refusal.{numberOf}
@@ -367,9 +367,8 @@ meaning-quiet Refusal.NobodyRuns = refl
 meaning-quiet Refusal.Unknown = refl
 meaning-quiet Refusal.AlreadyReleased = refl
 meaning-quiet Refusal.NotDeclared = refl
-meaning-quiet Refusal.AlreadyOpen = refl
 meaning-quiet Refusal.OpenElsewhere = refl
-meaning-quiet Refusal.RowFull = filled-quiet (ascii "the running task has @ locks open") (maxOpen ∷ []) refl
+meaning-quiet Refusal.RowFull = filled-quiet (ascii "the running task has @ takes that it has not given back") (maxTakes ∷ []) refl
 meaning-quiet Refusal.NotNewest = refl
 meaning-quiet Refusal.NoWork = refl
 meaning-quiet Refusal.PastLimit = refl

@@ -1,13 +1,16 @@
--- Demands 2 and 3, and that the kernel cuts nothing, said of a run of `step` from a fresh start; the last of every state that `sound` accepts. Assumes nothing.
+-- Demands 2 and 3, that the kernel cuts nothing, that a take of an open lock raises nothing and that sections count their work, said of a run of `step` from
+-- a fresh start; the second of every state that `sound` accepts. Assumes nothing.
 use mathlib.Core.Path.{_≡_, sym, _∙_, ap, subst}
 use mathlib.Core.Bool.{Bool, true}
 use mathlib.Core.List.{List}
 use Prim.Native.Nat.{ℕ, zero, suc}
 use native.Mathlib.Omega.{arith}
+use Rattle.rules.specs.Numbers.Place.{at}
 use Rattle.rules.specs.Books.Plan.{Obeys}
 use Rattle.rules.specs.Schedulers.Figures.{holds}
 use Rattle.rules.specs.Replays.Step.{stepOf}
 use Rattle.rules.specs.Demands.History.{eventAt, lazyAt}
+use Rattle.rules.specs.Demands.Job.{ownTotal}
 use Rattle.rules.specs.Demands.Demand2.{Demand2}
 use Rattle.rules.specs.Demands.Fair.{Between}
 use Rattle.rules.specs.Demands.Maximum.{Uncut}
@@ -19,7 +22,9 @@ use Rattle.rules.specs.declared.event.Event.{Event}
 use Rattle.rules.specs.declared.answer.Stepped.{Stepped}
 use Rattle.rules.proofs.Demands.Demand2.{demand2}
 use Rattle.rules.proofs.Demands.Maximum.{maximum}
+use Rattle.rules.proofs.Demands.Again.{taken-at}
 use Rattle.rules.proofs.Demands.Fair.{fair, between}
+use Rattle.rules.proofs.Demands.Sections.{sections-counted}
 use Rattle.rules.proofs.Demands.Jobs.{lateAt, delays-same, delay-counted}
 use Rattle.rules.proofs.Soundness.SoundTest.{sound-is}
 use Rattle.sound.proofs.sound.Reads as sound
@@ -46,6 +51,9 @@ module _ (pr : Protocol) {p : Plan} (O : Obeys p) (es : List Event) where
         atMost = E .atMost;
         word = E .word;
         uncut = maximum .fresh pr p O es (suc k);
+        again = λ l h. taken-at pr O es (suc k) l h;
+        sections = λ x l a S. let e : at (lazyAt pr p es (suc k) .units) l ≡ ownTotal p es x a (suc k) = sections-counted O es pr .units (suc k) x l a S in
+            (e, omega (arith, e, sections-counted O es pr .within (suc k) x l a S));
         oneHolder = subst (λ f. (x y l : ℕ) → holds f x l ≡ true → holds f y l ≡ true → x ≡ y) (sym (E .figures)) (E .oneHolder);
         lazy = E .lazy;
         eager = E .eager;

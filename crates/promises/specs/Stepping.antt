@@ -1,4 +1,4 @@
--- RULES 14.2, 14.3, 14.6, 14.7: a run of `step` from a fresh start by either protocol, call by call, and what is promised of each answer. Assumes nothing.
+-- RULES 14.2, 14.3, 14.6 to 14.9: a run of `step` from a fresh start by either protocol, call by call, and what is promised of each answer. Assumes nothing.
 use mathlib.Core.Path.{_≡_}
 use mathlib.Core.Logic.{_≢_}
 use mathlib.Core.Bool.{true}
@@ -9,8 +9,10 @@ use Rattle.rules.specs.Numbers.Answer.{answerNumber, answerCalls, testedNumber}
 use Rattle.rules.specs.Schedulers.Eager.{eagerTest}
 use Rattle.rules.specs.Schedulers.Figures.{figuresOf, holds, rankOf}
 use Rattle.rules.specs.Demands.History.{eventAt, eagerAt, runnerAt, acceptedAt, lazyCount, eagerCount, delayCount}
+use Rattle.rules.specs.Demands.Job.{Section, ownTotal}
 use Rattle.rules.specs.Demands.Demand2.{Covers, Outranked, OwnWord, OwnCall}
 use Rattle.rules.specs.Demands.Maximum.{Uncut}
+use Rattle.rules.specs.Demands.Again.{TakenAgain}
 use Rattle.rules.specs.declared.plan.Plan.{Plan}
 use Rattle.rules.specs.declared.protocol.Protocol.{Protocol}
 use Rattle.rules.specs.declared.state.State.{State}
@@ -42,6 +44,10 @@ pub record StepAt (pr : Protocol) (p : Plan) (es : List Event) (k : ℕ) (r : St
   pub word : OwnWord pr p es (suc k) (r .state .head .next .0)
   -- and no event has the kernel cut anything there
   pub uncut : Uncut pr p (r .state)
+  -- a lock that the running task has open there can be taken again, and that raises nothing and calls nobody
+  pub again : (l : ℕ) → holds (figuresOf (r .state)) (r .state .head .running) l ≡ true → TakenAgain pr p (r .state) l
+  -- the units of a section that goes on there are what its task worked since it began, and within the limit of its lock
+  pub sections : (x l a : ℕ) → Section p es x l a (suc k) → (at (r .state .units) l ≡ ownTotal p es x a (suc k)) × (at (r .state .units) l ≤ at (p .limit) l)
   -- no lock has two holders; both call counts and each delay are the history's, the lazy calls are no more than the eager ones, and no delay passes the
   -- bound that `plan::bound` gives
   pub oneHolder : (x y l : ℕ) → holds (figuresOf (r .state)) x l ≡ true → holds (figuresOf (r .state)) y l ≡ true → x ≡ y

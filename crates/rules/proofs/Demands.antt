@@ -9,8 +9,10 @@ pub mod Calls
 pub mod Demand2
 pub mod Fair
 pub mod Maximum
+pub mod Again
 pub mod Oldest
 pub mod Late
+pub mod Sections
 pub mod Jobs
 pub mod WorstCase
 pub mod WorstRun

@@ -10,8 +10,8 @@ pub const MAX_USES: usize = 6400;
 
 pub const MAX_EVENTS: usize = 12000;
 
-// Locks that one task may have open at a time.
-pub const MAX_OPEN: u8 = 8;
+// Takes that one task may have at a time, of one lock or of several.
+pub const MAX_TAKES: u8 = 8;
 
 // Events that are accepted before a state is exhausted.
 pub const MAX_ACCEPTED: u32 = 1000000;

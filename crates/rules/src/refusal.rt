@@ -1,7 +1,9 @@
 ghost use mathlib.Core.Path.{_≡_};
-ghost use Rattle.rules.specs.Numbers.Refusal.{numberOf};
+ghost use Prim.Native.Nat.{_<_};
+ghost use Rattle.rules.specs.Numbers.Refusal.{numberOf, placeOf};
 
-// Why a book, a plan, a state or an event is refused, in the order of the numbers of RULES 5.1.
+// Why a book, a plan, a state or an event is refused, in the order of the numbers of RULES 5.1. There is
+// none for 16, which is withdrawn.
 pub enum Refusal {
     ShortBook,
     WrongCount,
@@ -18,7 +20,6 @@ pub enum Refusal {
     Unknown,
     AlreadyReleased,
     NotDeclared,
-    AlreadyOpen,
     OpenElsewhere,
     RowFull,
     NotNewest,
@@ -29,9 +30,9 @@ pub enum Refusal {
     AboveMaximum,
 }
 
-// Its number.
-pub fn number(why: Refusal) -> u8
-    ensures { λ r. ⌜ r ≡ numberOf why ⌝ }
+// Its place among them, from 1.
+fn place(why: Refusal) -> u8
+    ensures { λ r. ⌜ (r ≡ placeOf why) × (r < 100) ⌝ }
 {
     match why {
         Refusal::ShortBook => 1,
@@ -49,14 +50,25 @@ pub fn number(why: Refusal) -> u8
         Refusal::Unknown => 13,
         Refusal::AlreadyReleased => 14,
         Refusal::NotDeclared => 15,
-        Refusal::AlreadyOpen => 16,
-        Refusal::OpenElsewhere => 17,
-        Refusal::RowFull => 18,
-        Refusal::NotNewest => 19,
-        Refusal::NoWork => 20,
-        Refusal::PastLimit => 21,
-        Refusal::StillOpen => 22,
-        Refusal::ShortBuffer => 23,
-        Refusal::AboveMaximum => 24,
+        Refusal::OpenElsewhere => 16,
+        Refusal::RowFull => 17,
+        Refusal::NotNewest => 18,
+        Refusal::NoWork => 19,
+        Refusal::PastLimit => 20,
+        Refusal::StillOpen => 21,
+        Refusal::ShortBuffer => 22,
+        Refusal::AboveMaximum => 23,
     }
+}
+
+// Its number: its place, and one more from where 16 would stand. Written out by cases it would be a
+// table of jumps in every answer for C, and a step would copy its state once more.
+pub fn number(why: Refusal) -> u8
+    ensures { λ r. ⌜ r ≡ numberOf why ⌝ }
+{
+    let k = place(why);
+    if k < 16 {
+        return k;
+    }
+    k + 1
 }

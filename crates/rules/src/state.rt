@@ -18,9 +18,10 @@ pub struct Head {
 }
 
 // RULES 7.1: the whole state, by value. Of a task: its release number (0 where it is not released), the
-// priority that the kernel keeps for it, its delay, how many locks it has open, these locks and the
-// words saved when they were taken. Of a lock: its section's units, and the task that has it open,
-// plus one, or 0. A row of open locks or of saved words is a number in base 256, newest first.
+// priority that the kernel keeps for it, its delay, how many takes it has, the row of them and the
+// words saved at them. Of a lock: its section's units, and the task that has it open,
+// plus one, or 0. A row of takes, each by its lock, or of saved words is a number in base 256,
+// newest first.
 #[repr(C)]
 pub struct State {
     pub head: Head,

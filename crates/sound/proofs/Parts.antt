@@ -7,7 +7,7 @@ use native.Mathlib.Omega.{arith}
 use lib.Dec.{eqb, leb, ltb}
 use lib.ListN.{length, drop}
 use borrow.Author.Tests.{lt-ltb, le-ltb, lt-leb, le-leb, not-true, not-false}
-use Rattle.rules.specs.Numbers.Capacity.{maxTasks, maxOpen, maxDelay, maxAccepted}
+use Rattle.rules.specs.Numbers.Capacity.{maxTasks, maxTakes, maxDelay, maxAccepted}
 use Rattle.rules.specs.Numbers.Choice.{if_then_else_, allTrue}
 use Rattle.rules.specs.Numbers.Place.{at, greatest, zeros}
 use Rattle.rules.specs.Numbers.Row.{priority, saves}
@@ -50,18 +50,18 @@ kept-waits kept rank a b runs r e p q h = h ∙ ap₂ eqb p (q ∙ sym (if-false
 -- ---- by their parts
 
 module _ (accepted running m : ℕ) (base ceiling uses released kept delay depth takes saved owner : List ℕ) (x k : ℕ) (opened : k ≡ at depth x) where
-  pub task-deep : maxOpen < k → false ≡ taskBy accepted running m base ceiling uses released kept delay depth takes saved owner x
+  pub task-deep : maxTakes < k → false ≡ taskBy accepted running m base ceiling uses released kept delay depth takes saved owner x
   unfolding taskBy
-  task-deep l = rw (← opened) (all-fails (leb k maxOpen) _ (lt-leb k maxOpen l))
+  task-deep l = rw (← opened) (all-fails (leb k maxTakes) _ (lt-leb k maxTakes l))
 
-  pub task-parts : (r a b c d e f : Bool) (row rank : ℕ) → k ≤ maxOpen → r ≡ allTrue (a ∷ b ∷ c ∷ d ∷ e ∷ f ∷ []) → row ≡ at takes x
+  pub task-parts : (r a b c d e f : Bool) (row rank : ℕ) → k ≤ maxTakes → r ≡ allTrue (a ∷ b ∷ c ∷ d ∷ e ∷ f ∷ []) → row ≡ at takes x
       → a ≡ rowTest m (at uses x) row k → b ≡ ownTest owner x row k → c ≡ numberTest accepted released k x → d ≡ leb (at delay x) maxDelay
       → rank ≡ rankBy ceiling (at base x) (at released x) row k → e ≡ eqb (at kept x) (keptBy (eqb x running) rank)
       → f ≡ eqb (at saved x) (saves (at ceiling) (at base x) row k)
       → r ≡ taskBy accepted running m base ceiling uses released kept delay depth takes saved owner x
   unfolding taskBy
   task-parts r a b c d e f row rank l q t A B C D R E F =
-      rw (← opened, ← t, ← A, ← B, ← C, ← D, ← R, ← E, ← F) (all-next (leb k maxOpen) r _ (le-leb k maxOpen l) q)
+      rw (← opened, ← t, ← A, ← B, ← C, ← D, ← R, ← E, ← F) (all-next (leb k maxTakes) r _ (le-leb k maxTakes l) q)
 
 pub lock-parts : (n : ℕ) (limit depth takes units owner : List ℕ) (l o : ℕ) (r named : Bool) → o ≡ at owner l → named ≡ ownerNamed n depth takes o l
     → r ≡ allTrue (named ∷ leb (at units l) (at limit l) ∷ (if eqb o 0 then eqb (at units l) 0 else true) ∷ [])

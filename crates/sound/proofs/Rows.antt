@@ -1,4 +1,4 @@
--- The ways through a row of open locks. Assumes nothing.
+-- The ways through a row of takes. Assumes nothing.
 use mathlib.Core.Path.{_≡_, refl, sym, _∙_, ap, ap₂, subst}
 use mathlib.Core.Bool.{Bool, true, false, not}
 use mathlib.Core.List.{List, [], _∷_}
@@ -10,7 +10,7 @@ use borrow.Author.Tests.{eq-eqb, ne-eqb, lt-ltb, le-ltb, not-true, not-false}
 use Rattle.rules.specs.Numbers.Choice.{allTrue}
 use Rattle.rules.specs.Numbers.Place.{at}
 use Rattle.rules.specs.Numbers.Mask.{hasBit}
-use Rattle.rules.specs.Numbers.Row.{newest, under, pushed, has, priority, saves}
+use Rattle.rules.specs.Numbers.Row.{newest, under, pushed, priority, saves}
 use Rattle.rules.specs.Soundness.SoundTest.{rowTest, ownTest}
 use Rattle.rules.proofs.Numbers.Row.{priority-none, priority-suc, places-pushed}
 use Rattle.rules.proofs.Numbers.Choice.{all-fails, all-next, all-last}
@@ -63,7 +63,7 @@ saves-fit k below word r n few f b w =
 
 module _ (m uses row k rest left : ℕ) (same : rowTest m uses rest left ≡ rowTest m uses row k) where
   row-parts : (l u : ℕ) → (left ≡ 0 → ⊥) → l ≡ newest rest → u ≡ under rest
-      → allTrue (ltb l m ∷ hasBit uses l ∷ not (has u (left - 1) l) ∷ rowTest m uses u (left - 1) ∷ []) ≡ rowTest m uses row k
+      → allTrue (ltb l m ∷ hasBit uses l ∷ rowTest m uses u (left - 1) ∷ []) ≡ rowTest m uses row k
   unfolding rowTest
   row-parts l u n e d = rw (e, d) (sym (ap (rowTest m uses rest) (one-more left n)) ∙ same)
 
@@ -74,16 +74,11 @@ module _ (m uses row k rest left : ℕ) (same : rowTest m uses rest left ≡ row
   row-undeclared l t n e h d f =
       all-next (ltb l m) false _ (lt-ltb l m h) (all-fails (hasBit uses l) _ (sym d ∙ not-true t f)) ∙ row-parts l (under rest) n e refl
 
-  module _ (l u : ℕ) (t b : Bool) (n : left ≡ 0 → ⊥) (e : l ≡ newest rest) (h : l < m) (d : t ≡ hasBit uses l) (f : not t ≡ false) (g : u ≡ under rest) where
-    pub row-twice : b ≡ has u (left - 1) l → b ≡ true → false ≡ rowTest m uses row k
-    row-twice q w =
-        all-next (ltb l m) false _ (lt-ltb l m h) (all-next (hasBit uses l) false _ (sym d ∙ not-false t f)
-        (all-fails (not (has u (left - 1) l)) _ (ap not (sym q ∙ w)))) ∙ row-parts l u n e g
-
-    pub row-next : b ≡ has u (left - 1) l → b ≡ false → rowTest m uses u (left - 1) ≡ rowTest m uses row k
-    row-next q w =
-        all-next (ltb l m) _ _ (lt-ltb l m h) (all-next (hasBit uses l) _ _ (sym d ∙ not-false t f)
-        (all-next (not (has u (left - 1) l)) _ _ (ap not (sym q ∙ w)) (all-last (rowTest m uses u (left - 1)) _ refl))) ∙ row-parts l u n e g
+  pub row-next : (l u : ℕ) (t : Bool) → (left ≡ 0 → ⊥) → l ≡ newest rest → l < m → t ≡ hasBit uses l → not t ≡ false → u ≡ under rest
+      → rowTest m uses u (left - 1) ≡ rowTest m uses row k
+  row-next l u t n e h d f g =
+      all-next (ltb l m) _ _ (lt-ltb l m h) (all-next (hasBit uses l) _ _ (sym d ∙ not-false t f) (all-last (rowTest m uses u (left - 1)) _ refl))
+      ∙ row-parts l u n e g
 
   pub row-ends : left ≡ 0 → eqb rest 0 ≡ rowTest m uses row k
   unfolding rowTest

@@ -4,7 +4,7 @@ use mathlib.Core.List.{List, [], _∷_}
 use Prim.Native.Nat.{ℕ, _-_}
 use lib.Dec.{eqb, leb, ltb}
 use lib.ListN.{drop}
-use Rattle.rules.specs.Numbers.Capacity.{maxOpen, maxDelay, maxAccepted}
+use Rattle.rules.specs.Numbers.Capacity.{maxTakes, maxDelay, maxAccepted}
 use Rattle.rules.specs.Numbers.Choice.{if_then_else_, allTrue}
 use Rattle.rules.specs.Numbers.Place.{at, every, greatest, zeros}
 use Rattle.rules.specs.Numbers.Row.{has, priority, saves}
@@ -14,7 +14,7 @@ use Rattle.rules.specs.declared.state.Head.{Head}
 
 -- ---- a task
 
--- the rank of a task of this base, this release number and this row of k open locks
+-- the rank of a task of this base, this release number and this row of k takes
 unfoldable pub rankBy : List ℕ → ℕ → ℕ → ℕ → ℕ → ℕ
 rankBy ceiling base number row k = if ltb 0 number then priority (at ceiling) base row k else 0
 
@@ -25,7 +25,7 @@ keptBy runs rank = if runs then 0 else rank
 unfoldable pub taskBy : ℕ → ℕ → ℕ → List ℕ → List ℕ → List ℕ → List ℕ → List ℕ → List ℕ → List ℕ → List ℕ → List ℕ → List ℕ → ℕ → Bool
 taskBy accepted running m base ceiling uses released kept delay depth takes saved owner x =
     allTrue
-    (leb (at depth x) maxOpen
+    (leb (at depth x) maxTakes
     ∷ rowTest m (at uses x) (at takes x) (at depth x)
     ∷ ownTest owner x (at takes x) (at depth x)
     ∷ numberTest accepted released (at depth x) x

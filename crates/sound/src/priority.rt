@@ -1,5 +1,5 @@
-// The priority of a task with a row of open locks, and the words that were saved when they were
-// taken: both fall on the number open.
+// The priority of a task with a row of takes, and the words that were saved at them: both fall on the
+// number of takes.
 use figures::priority::raised;
 use figures::priority::user_of;
 use figures::row::newest_of;
@@ -10,7 +10,7 @@ use rules::priority::UserPriority;
 ghost use mathlib.Core.Path.{_≡_};
 ghost use Prim.Native.Nat.{_≤_, _<_, _^_};
 ghost use lib.ListN.{length};
-ghost use Rattle.rules.specs.Numbers.Capacity.{maxLocks, maxOpen};
+ghost use Rattle.rules.specs.Numbers.Capacity.{maxLocks, maxTakes};
 ghost use Rattle.rules.specs.Numbers.Place.{at};
 ghost use Rattle.rules.specs.Numbers.Row.{priority, saves};
 
@@ -26,7 +26,7 @@ fn ceiling_at(ceiling: &[u8; MAX_LOCKS], l: u8) -> u8
     0
 }
 
-// RULES 7.3: without open locks the base; else the newest ceiling, or what the locks under it give,
+// RULES 7.3: without takes the base; else the newest one's ceiling, or what the takes under it give,
 // whichever is greater.
 pub fn row_priority(base: UserPriority, ceiling: &[u8; MAX_LOCKS], row: u64, k: u8) -> UserPriority
     requires { ⌜ length (now ceiling) ≡ maxLocks ⌝ }
@@ -40,9 +40,9 @@ pub fn row_priority(base: UserPriority, ceiling: &[u8; MAX_LOCKS], row: u64, k: 
     raised(user_of(top), below)
 }
 
-// Beside each open lock the priority under it.
+// Beside each take the priority under it.
 pub fn row_saves(base: UserPriority, ceiling: &[u8; MAX_LOCKS], row: u64, k: u8) -> u64
-    requires { ⌜ (length (now ceiling) ≡ maxLocks) × (k ≤ maxOpen) ⌝ }
+    requires { ⌜ (length (now ceiling) ≡ maxLocks) × (k ≤ maxTakes) ⌝ }
     ensures { λ r. ⌜ (r ≡ saves (at (now (ceiling .entry))) (base .0) row k) × (r < 256 ^ k) ⌝ }
 {
     if k == 0 {

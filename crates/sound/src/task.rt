@@ -8,12 +8,11 @@ use figures::priority::kernel_of;
 use figures::priority::recorded;
 use figures::priority::same_record;
 use figures::priority::user_of;
-use figures::row::has_lock;
 use figures::row::newest_of;
 use figures::row::under_of;
 use rules::capacity::MAX_DELAY;
 use rules::capacity::MAX_LOCKS;
-use rules::capacity::MAX_OPEN;
+use rules::capacity::MAX_TAKES;
 use rules::capacity::MAX_TASKS;
 use rules::priority::UserPriority;
 ghost use mathlib.Core.Path.{_≡_};
@@ -21,13 +20,13 @@ ghost use mathlib.Core.Bool.{_&&_, not};
 ghost use Prim.Native.Nat.{_≤_, _<_};
 ghost use lib.Dec.{eqb};
 ghost use lib.ListN.{length};
-ghost use Rattle.rules.specs.Numbers.Capacity.{maxLocks, maxOpen, maxTasks};
+ghost use Rattle.rules.specs.Numbers.Capacity.{maxLocks, maxTakes, maxTasks};
 ghost use Rattle.rules.specs.Numbers.Place.{at, every};
 ghost use Rattle.rules.specs.Numbers.Row.{saves};
 ghost use Rattle.rules.specs.Soundness.SoundTest.{numberNew, numberTest, ownTest, rowTest};
 ghost use Rattle.sound.specs.Lent.{keptBy, taskBy};
 
-// Each of the k newest of a row is one of m locks, declared, and stands once; after them there is 0.
+// Each of the k newest of a row is of one of m locks, declared; after them there is 0.
 fn row_sound(m: usize, uses: u32, row: u64, k: u8) -> bool
     ensures { λ r. ⌜ r ≡ rowTest m uses row k ⌝ }
 {
@@ -43,9 +42,6 @@ fn row_sound(m: usize, uses: u32, row: u64, k: u8) -> bool
         }
         rest = under_of(rest);
         left -= 1;
-        if has_lock(rest, left, l) {
-            return false;
-        }
     }
     rest == 0
 }
@@ -104,7 +100,7 @@ fn number_new(released: &[u32; MAX_TASKS], y: u32, x: usize) -> bool
     new
 }
 
-// A task is not released and has no lock open, or its release number is in range and no earlier
+// A task is not released and has no takes, or its release number is in range and no earlier
 // task's.
 fn number_sound(accepted: u32, released: &[u32; MAX_TASKS], depth: u8, x: usize) -> bool
     requires { ⌜ x < maxTasks ⌝ }
@@ -132,7 +128,7 @@ fn kept_sound(kept: u8, runs: bool, rank: UserPriority) -> bool
 
 // What is saved for a task of this base is what its row gives.
 fn saved_sound(ceiling: &[u8; MAX_LOCKS], base: u8, row: u64, k: u8, saved: u64) -> bool
-    requires { ⌜ (length (now ceiling) ≡ maxLocks) × (k ≤ maxOpen) ⌝ }
+    requires { ⌜ (length (now ceiling) ≡ maxLocks) × (k ≤ maxTakes) ⌝ }
     ensures { λ r. ⌜ r ≡ eqb saved (saves (at (now (ceiling .entry))) base row k) ⌝ }
 {
     let words = row_saves(user_of(base), ceiling, row, k);
@@ -161,7 +157,7 @@ fn task_sound(
         x ⌝ }
 {
     let k = depth[x];
-    if MAX_OPEN < k {
+    if MAX_TAKES < k {
         return false;
     }
     let row = takes[x];

@@ -1,7 +1,7 @@
 -- RULES 19.6: what the number of a refusal means, in words. Assumes nothing.
 use mathlib.Core.List.{List, [], _∷_}
 use Prim.Native.Nat.{ℕ}
-use Rattle.rules.specs.Numbers.Capacity.{maxTasks, maxLocks, maxUses, maxEvents, maxOpen, maxAccepted}
+use Rattle.rules.specs.Numbers.Capacity.{maxTasks, maxLocks, maxUses, maxEvents, maxTakes, maxAccepted}
 use Rattle.rules.specs.declared.refusal.Refusal.{Refusal}
 use Rattle.page.specs.Ascii.{ascii}
 use Rattle.page.specs.Says.{says}
@@ -23,10 +23,9 @@ meaningOf Refusal.NobodyRuns = ascii "nobody runs who could do it"
 meaningOf Refusal.Unknown = ascii "the plan has no such task or lock"
 meaningOf Refusal.AlreadyReleased = ascii "the task is released already"
 meaningOf Refusal.NotDeclared = ascii "the running task may not use the lock"
-meaningOf Refusal.AlreadyOpen = ascii "the running task has the lock open"
 meaningOf Refusal.OpenElsewhere = ascii "another task has the lock open"
-meaningOf Refusal.RowFull = says "the running task has @ locks open" (maxOpen ∷ [])
-meaningOf Refusal.NotNewest = ascii "the lock is not the newest that the running task has open"
+meaningOf Refusal.RowFull = says "the running task has @ takes that it has not given back" (maxTakes ∷ [])
+meaningOf Refusal.NotNewest = ascii "the newest take of the running task is not of this lock"
 meaningOf Refusal.NoWork = ascii "the work is 0 units"
 meaningOf Refusal.PastLimit = ascii "the work would take an open section past its limit"
 meaningOf Refusal.StillOpen = ascii "the task finishes with a lock open"

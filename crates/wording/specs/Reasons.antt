@@ -21,11 +21,11 @@ callLine n before lock after user =
 unfoldable pub stopLine : ℕ → Refusal → List ℕ
 stopLine n why = says "event @: refused @: " (n ∷ numberOf why ∷ []) ++ meaningOf why ++ ascii "\n"
 
--- the lock that was to be given back is not the newest of so many, and the work passes a limit
+-- the lock that was to be given back is not that of the newest of so many takes, and the work passes a limit
 unfoldable pub newestReason : (running depth newest named : ℕ) → List ℕ
 newestReason running depth newest named =
     if eqb depth 0 then says "task @ has no lock open, and lock @ was to be given back\n" (running ∷ named ∷ [])
-    else says "the newest lock of task @ is @, and lock @ was to be given back\n" (running ∷ newest ∷ named ∷ [])
+    else says "the newest take of task @ is of lock @, and lock @ was to be given back\n" (running ∷ newest ∷ named ∷ [])
 
 unfoldable pub pastReason : (running units limit past amount : ℕ) → List ℕ
 pastReason running units limit past amount =
@@ -48,7 +48,6 @@ reasonOf Refusal.NobodyRuns f = ascii "every task that was released has finished
 reasonOf Refusal.Unknown f = says "the plan has @ tasks and @ locks, counted from 0\n" (f .tasks ∷ f .locks ∷ [])
 reasonOf Refusal.AlreadyReleased f = says "task @ has not finished since its release\n" (f .named ∷ [])
 reasonOf Refusal.NotDeclared f = says "the plan gives task @ no use of lock @\n" (f .running ∷ f .named ∷ [])
-reasonOf Refusal.AlreadyOpen f = says "task @ took lock @ and has not given it back\n" (f .running ∷ f .named ∷ [])
 reasonOf Refusal.OpenElsewhere f = says "task @ took lock @ and has not given it back\n" (f .holder ∷ f .named ∷ [])
 reasonOf Refusal.RowFull f = says "task @ may have no more\n" (f .running ∷ [])
 reasonOf Refusal.NotNewest f = newestReason (f .running) (f .depth) (f .newest) (f .named)

@@ -4,7 +4,7 @@ use page::put_text;
 use rules::capacity::MAX_ACCEPTED;
 use rules::capacity::MAX_EVENTS;
 use rules::capacity::MAX_LOCKS;
-use rules::capacity::MAX_OPEN;
+use rules::capacity::MAX_TAKES;
 use rules::capacity::MAX_TASKS;
 use rules::capacity::MAX_USES;
 use rules::refusal::Refusal;
@@ -40,8 +40,13 @@ fn put_exhausted(out: &mut [u8], i: usize) -> usize
 fn put_row_full(out: &mut [u8], i: usize) -> usize
     ensures { λ r. ⌜ page (now (out .exit)) r ≡ typed (page (now (out .entry)) i) (meaningOf Refusal.RowFull) ⌝ }
 {
-    let numbers = [MAX_OPEN as u64];
-    put_says(out, i, b"the running task has @ locks open", &numbers)
+    let numbers = [MAX_TAKES as u64];
+    put_says(
+        out,
+        i,
+        b"the running task has @ takes that it has not given back",
+        &numbers,
+    )
 }
 
 pub fn put_meaning(out: &mut [u8], i: usize, why: Refusal) -> usize
@@ -91,13 +96,12 @@ pub fn put_meaning(out: &mut [u8], i: usize, why: Refusal) -> usize
         Refusal::Unknown => put_text(out, i, b"the plan has no such task or lock"),
         Refusal::AlreadyReleased => put_text(out, i, b"the task is released already"),
         Refusal::NotDeclared => put_text(out, i, b"the running task may not use the lock"),
-        Refusal::AlreadyOpen => put_text(out, i, b"the running task has the lock open"),
         Refusal::OpenElsewhere => put_text(out, i, b"another task has the lock open"),
         Refusal::RowFull => put_row_full(out, i),
         Refusal::NotNewest => put_text(
             out,
             i,
-            b"the lock is not the newest that the running task has open",
+            b"the newest take of the running task is not of this lock",
         ),
         Refusal::NoWork => put_text(out, i, b"the work is 0 units"),
         Refusal::PastLimit => put_text(

@@ -11,7 +11,7 @@ ghost use Rattle.page.specs.Says.{filled};
 ghost use Rattle.wording.specs.Reasons.{callLine, stopLine, newestReason, pastReason, reasonOf};
 
 // What the state that refused an event has to say: who runs, the task or lock that the event names and its units, how many
-// tasks and locks the plan has, who has that lock open; of the running task how many locks it has open, its newest, and
+// tasks and locks the plan has, who has that lock open; of the running task how many takes it has, the newest one's lock, and
 // the least lock whose limit the work would pass, with the units of its section and its limit.
 pub struct Facts {
     pub running: u64,
@@ -97,7 +97,7 @@ fn put_newest(out: &mut [u8], i: usize, running: u64, depth: u64, newest: u64, n
     put_says(
         out,
         i,
-        b"the newest lock of task @ is @, and lock @ was to be given back\n",
+        b"the newest take of task @ is of lock @, and lock @ was to be given back\n",
         &numbers,
     )
 }
@@ -145,13 +145,6 @@ pub fn put_reason(out: &mut [u8], i: usize, why: Refusal, f: Facts) -> usize
             out,
             i,
             b"the plan gives task @ no use of lock @\n",
-            f.running,
-            f.named,
-        ),
-        Refusal::AlreadyOpen => put_two(
-            out,
-            i,
-            b"task @ took lock @ and has not given it back\n",
             f.running,
             f.named,
         ),

@@ -139,16 +139,16 @@ module _ {pr : Protocol} {p : Plan} {s : State} (F : Follows pr p s) (word : ℕ
   due Finish z = refl
   due Tick z = refl
 
-lazy-after : (pr : Protocol) (p : Plan) (released : List ℕ) (w : Words) (e : Event)
-    → wordsAfter pr p released w e .lazy ≡ w .lazy + (if lazyCall w e then 1 else 0)
+lazy-after : (pr : Protocol) (p : Plan) (f : Figures) (released : List ℕ) (w : Words) (e : Event)
+    → wordsAfter pr p f released w e .lazy ≡ w .lazy + (if lazyCall w e then 1 else 0)
 unfolding wordsAfter afterRelease stays afterAcquire afterUnlock leaves entering restored switched runsOn lazyCall if_then_else_
-lazy-after pr p released w (Release t) = by-test (ltb (cutTo (at (p .maximum) (w .running)) (w .user)) (at (p .base) t)) (λ e. rw e (omega arith))
+lazy-after pr p f released w (Release t) = by-test (ltb (cutTo (at (p .maximum) (w .running)) (w .user)) (at (p .base) t)) (λ e. rw e (omega arith))
     (λ e. rw e (omega arith))
-lazy-after pr p released w (Acquire l) = omega arith
-lazy-after pr p released w (Unlock l) = by-test (callsFor (backOf w) (w .next)) (λ e. rw e) (λ e. rw e)
-lazy-after pr p released w (Work a) = omega arith
-lazy-after pr p released w Finish = omega arith
-lazy-after pr p released w Tick = omega arith
+lazy-after pr p f released w (Acquire l) = omega arith
+lazy-after pr p f released w (Unlock l) = by-test (callsFor (backOf w) (w .next)) (λ e. rw e) (λ e. rw e)
+lazy-after pr p f released w (Work a) = omega arith
+lazy-after pr p f released w Finish = omega arith
+lazy-after pr p f released w Tick = omega arith
 
 -- ---- along a list
 
@@ -161,7 +161,7 @@ module _ {pr : Protocol} {p : Plan} {s : State} (F : Follows pr p s) (word : ℕ
       → answered t s (afterOf pr p s e) (lazyCall (wordsOf s) e) .state .head .lazy ≡ s .head .lazy + (if passes t then callsDue pr p g word e else 0)
   unfolding answered afterOf passes if_then_else_
   counted-by e Tested.Passed z =
-      lazy-after pr p (figuresAfter p g (s .head .running) e .released) (wordsOf s) e ∙ ap (λ b. s .head .lazy + b) (due F word i e z)
+      lazy-after pr p g (figuresAfter p g (s .head .running) e .released) (wordsOf s) e ∙ ap (λ b. s .head .lazy + b) (due F word i e z)
   counted-by e (Tested.Refused why) z = omega arith
 
   counted-one : (e : Event) → stepOf pr p s e .state .head .lazy ≡ s .head .lazy + (if passes (eagerTest p g e) then callsDue pr p g word e else 0)
@@ -189,8 +189,8 @@ module _ {p : Plan} {s : State} (F : Follows First p s) where
       ≡ (if passes t && K e then answered t s (afterOf First p s e) (lazyCall (wordsOf s) e) .state .head .user .0 else s .head .next .0)
   unfolding answered afterOf passes secondWord if_then_else_
   kernel-by e Tested.Passed z = by-test (enters (lazyCall (wordsOf s) e) e)
-      (λ q. entered First p (figuresAfter p h (s .head .running) e .released) (wordsOf s) e q .next ∙ sym (if-true (K e) _ _ (same-entry e z ∙ q)))
-      (λ q. left First p (figuresAfter p h (s .head .running) e .released) (wordsOf s) e q .next ∙ sym (if-false (K e) _ _ (same-entry e z ∙ q)))
+      (λ q. entered First p h (figuresAfter p h (s .head .running) e .released) (wordsOf s) e q .next ∙ sym (if-true (K e) _ _ (same-entry e z ∙ q)))
+      (λ q. left First p h (figuresAfter p h (s .head .running) e .released) (wordsOf s) e q .next ∙ sym (if-false (K e) _ _ (same-entry e z ∙ q)))
   kernel-by e (Tested.Refused why) z = refl
 
   kernel-one : (e : Event) → stepOf First p s e .state .head .next .0

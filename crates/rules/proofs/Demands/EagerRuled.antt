@@ -66,7 +66,7 @@ pub pays : (p : Plan) (f : Figures) (x l : ℕ) → holds f x l ≡ true → at 
 unfolding holds priorityOf
 pays p f x l h = priority-has (at (p .ceiling)) (at (p .base) x) (at (f .takes) x) (at (f .depth) x) l h
 
--- who has a lock open has at least one
+-- who has a lock open has at least one take
 holder-depth : (f : Figures) (x l : ℕ) → holds f x l ≡ true → 0 < at (f .depth) x
 holder-depth f x l h = ⊎-elim (λ z. untrue (sym h ∙ none-depth f x l z)) (λ o. o) (eq-zero-or-pos (at (f .depth) x))
 

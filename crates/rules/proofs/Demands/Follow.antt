@@ -2,7 +2,7 @@
 -- is at least every other released task's priority. Assumes nothing.
 use mathlib.Core.Path.{_≡_, refl, sym, _∙_, ap, ap₂, subst, fun-ext}
 use mathlib.Core.Logic.{_≢_, ⊎-elim}
-use mathlib.Core.Bool.{true, false}
+use mathlib.Core.Bool.{Bool, true, false}
 use mathlib.Core.List.{List}
 use Prim.Native.Nat.{ℕ, zero, suc, _≤_, _<_}
 use native.Mathlib.Numerals.{add-one}
@@ -16,7 +16,7 @@ use Rattle.rules.specs.Books.Plan.{Obeys}
 use Rattle.rules.specs.Schedulers.Figures.{Figures, figuresOf, freshFigures, rankOf}
 use Rattle.rules.specs.Schedulers.Elect.{elected}
 use Rattle.rules.specs.Schedulers.EventRefusals.{refusalOf}
-use Rattle.rules.specs.Schedulers.FiguresAfter.{figuresAfter}
+use Rattle.rules.specs.Schedulers.FiguresAfter.{staysOpen, figuresAfter}
 use Rattle.rules.specs.Schedulers.Eager.{runningOf, settle, eagerTest, eagerStep}
 use Rattle.rules.specs.Schedulers.Protocol.{secondWord}
 use Rattle.rules.specs.Schedulers.Lazy.{Words, wordsOf, callsFor, entering, bestKept, backOf, runsOn, switched, stays, afterRelease}
@@ -55,9 +55,9 @@ elected-same released key key′ n h = ap (λ k. elected released k n) (fun-ext 
 -- ---- the second word, event by event
 
 -- an entry to the kernel sets it by the protocol's rule, and nothing else sets it
-module _ (pr : Protocol) (p : Plan) (released : List ℕ) (w : Words) where
+module _ (pr : Protocol) (p : Plan) (f : Figures) (released : List ℕ) (w : Words) where
   abbrev after : Event → Words
-  after e = wordsAfter pr p released w e
+  after e = wordsAfter pr p f released w e
 
   pub record Entered (v : Words) : Type 0 where
     pub next : v .next ≡ secondWord pr (v .user) (bestKept (v .kept) (p .tasks))
@@ -74,7 +74,7 @@ module _ (pr : Protocol) (p : Plan) (released : List ℕ) (w : Words) where
   unfolding wordsAfter afterRelease afterUnlock leaves enters lazyCall
   entered (Release t) h = either Entered (ltb (entering (p .maximum) w .user) (at (p .base) t)) _ _ (switch-entered _ _) (stay-entered _ _)
   entered (Acquire l) h = untrue (sym h)
-  entered (Unlock l) h = subst Entered (sym (if-true (callsFor (backOf w) (w .next)) _ (restored l 0 w) h)) (switch-entered _ _)
+  entered (Unlock l) h = subst Entered (sym (if-true (callsFor (backOf w) (w .next)) _ (restored (staysOpen f (w .running) l) l 0 w) h)) (switch-entered _ _)
   entered (Work a) h = untrue (sym h)
   entered Finish h = switch-entered _ _
   entered Tick h = stay-entered _ _
@@ -135,8 +135,8 @@ module _ {pr : Protocol} {p : Plan} {s : State} (F : Follows pr p s) where
   found : entering (p .maximum) w ≡ w
   found = enters-same O (S .sound .figures) (S .sound .words)
 
-  found-back : (l : ℕ) → entering (p .maximum) (restored l 1 w) ≡ restored l 1 w
-  found-back l = calls-same O (S .sound .figures) (S .sound .words) l 1
+  found-back : (stays : Bool) (l : ℕ) → entering (p .maximum) (restored stays l 1 w) ≡ restored stays l 1 w
+  found-back stays l = calls-same O (S .sound .figures) (S .sound .words) stays l 1
 
   -- both schedulers test an event alike
   pub same-test : (e : Event) → eagerTest p f e ≡ refusalOf p f r e
@@ -184,7 +184,7 @@ module _ {pr : Protocol} {p : Plan} {s : State} (F : Follows pr p s) where
     who-unlock : {l : ℕ} (o : Givable p f r l) → Ruled p (figuresAfter p f r (Unlock l))
         → afterOf pr p s (Unlock l) .head .running ≡ runningOf p (figuresAfter p f r (Unlock l))
     unfolding afterOf wordsAfter afterUnlock leaves restored switched runsOn runningOf figuresAfter
-    who-unlock {l} o R′ = rw (found-back l) (by-test (callsFor (backOf w) (w .next))
+    who-unlock {l} o R′ = rw (found-back (staysOpen f r l) l) (by-test (callsFor (backOf w) (w .next))
         (λ e. ap (λ (v : Words). v .running) (if-true (callsFor (backOf w) (w .next)) _ _ e)
         ∙ elected-same (at (f .released)) _ (rankOf p (figuresAfter p f r (Unlock l))) (p .tasks) (SoundWords.give-kept (scene S room) (o .runs) o))
         (λ e. ap (λ (v : Words). v .running) (if-false (callsFor (backOf w) (w .next)) _ _ e)
@@ -230,7 +230,7 @@ module _ {pr : Protocol} {p : Plan} {s : State} (F : Follows pr p s) where
     g = figuresAfter p f r e
 
     abbrev v : Words
-    v = wordsAfter pr p (g .released) w e
+    v = wordsAfter pr p f (g .released) w e
 
     after-words : SoundWords pr p g v
     unfolding afterOf
@@ -262,19 +262,19 @@ module _ {pr : Protocol} {p : Plan} {s : State} (F : Follows pr p s) where
 
     covers-after : Covers p g (v .running) (v .next)
     covers-after = by-test (enters (lazyCall w e) e)
-        (λ h. subst (Covers p g (v .running)) (sym (entered pr p (g .released) w e h .next))
+        (λ h. subst (Covers p g (v .running)) (sym (entered pr p f (g .released) w e h .next))
         (entry-either (Covers p g (v .running)) pr (v .user) (bestKept (v .kept) (p .tasks)) top-covers kept-covers))
         (λ h y n o.
-        let l : Left pr p (g .released) w v = left pr p (g .released) w e h in
+        let l : Left pr p f (g .released) w v = left pr p f (g .released) w e h in
         let m : y ≢ r = λ i. n (i ∙ sym (l .running)) in
         let same : Same f g y = others-stay e z h y m in
         omega (arith, l .next, same-priority p same, F .covers y m (omega (arith, same .released))))
 
     most-after : v .next ≤ v .user
     most-after = by-test (enters (lazyCall w e) e)
-        (λ h. subst (λ n. n ≤ v .user) (sym (entered pr p (g .released) w e h .next))
+        (λ h. subst (λ n. n ≤ v .user) (sym (entered pr p f (g .released) w e h .next))
         (entry-either (λ n. n ≤ v .user) pr (v .user) (bestKept (v .kept) (p .tasks)) (omega arith) kept-most))
-        (λ h. let l : Left pr p (g .released) w v = left pr p (g .released) w e h in omega (arith, l .next, l .user (F .atMost)))
+        (λ h. let l : Left pr p f (g .released) w v = left pr p f (g .released) w e h in omega (arith, l .next, l .user (F .atMost)))
 
   follow-by : (e : Event) (t : Tested) → refusalOf p f r e ≡ t → Follows pr p (answered t s (afterOf pr p s e) (lazyCall w e) .state)
   unfolding answered afterOf

@@ -1,32 +1,32 @@
 -- The work of lower tasks in a job, by places in the history. Assumes nothing.
 use mathlib.Core.Path.{_≡_, refl, sym, _∙_, ap, subst}
-use mathlib.Core.Logic.{_⊎_, inl, inr, ⊎-elim, _↔_}
+use mathlib.Core.Logic.{_⊎_, ⊎-elim, _↔_}
 use mathlib.Core.Bool.{true, _&&_}
 use mathlib.Core.List.{List}
 use Prim.Native.Nat.{ℕ, zero, suc, _+_, _≤_, _<_}
 use native.Mathlib.Nat.{eq-or-lt-of-le, le-of-suc-le-suc}
 use native.Mathlib.Omega.{arith}
 use lib.Dec.{ltb}
-use borrow.Author.Tests.{ltb-true, lt-ltb, le-ltb}
+use borrow.Author.Tests.{ltb-true, lt-ltb}
 use Rattle.rules.specs.Numbers.Capacity.{maxTasks}
 use Rattle.rules.specs.Numbers.Choice.{if_then_else_}
-use Rattle.rules.specs.Numbers.Place.{at, sum}
+use Rattle.rules.specs.Numbers.Place.{at}
 use Rattle.rules.specs.Books.Event.{kindOf, amountOf}
 use Rattle.rules.specs.Books.Plan.{Obeys}
 use Rattle.rules.specs.Schedulers.Figures.{Figures, holds, priorityOf}
 use Rattle.rules.specs.Schedulers.FiguresAfter.{figuresAfter}
 use Rattle.rules.specs.Demands.History.{eventAt, eagerAt, lazyAt, runnerAt, acceptedAt, delayNext, delayCount}
-use Rattle.rules.specs.Demands.Job.{Accepted, Does, Section, Job, LowerWork, lowerUnits, lowerTotal}
-use Rattle.rules.specs.Demands.Demand3.{OneSection, Demand3, SectionsAreOpen}
+use Rattle.rules.specs.Demands.Job.{Accepted, Does, HasOpen, Job, LowerWork, lowerUnits, lowerTotal}
+use Rattle.rules.specs.Demands.Demand3.{OneSection, Demand3}
 use Rattle.rules.specs.declared.plan.Plan.{Plan}
 use Rattle.rules.specs.declared.protocol.Protocol.{Protocol}
 use Rattle.rules.specs.declared.event.Event.{Event}
-use Rattle.rules.specs.declared.event.Event.the-variants.{Release, Acquire, Unlock, Finish}
-use Rattle.rules.proofs.Numbers.Choice.{if-true, if-false, by-test, untrue, and-true, true-and, lt-or-le}
-use Rattle.rules.proofs.Numbers.Place.{below, zero-past, cleared}
+use Rattle.rules.specs.declared.event.Event.the-variants.{Release, Acquire, Finish}
+use Rattle.rules.proofs.Numbers.Choice.{if-true, if-false, by-test, and-true, true-and, lt-or-le}
+use Rattle.rules.proofs.Numbers.Place.{zero-past, cleared, after-none, after-more}
 use Rattle.rules.proofs.Books.Obeyed.{few-tasks}
 use Rattle.rules.proofs.Schedulers.FiguresKept as SoundFigures
-use Rattle.rules.proofs.Schedulers.FiguresKept.{inside, fresh-shut}
+use Rattle.rules.proofs.Schedulers.FiguresKept.{inside}
 use Rattle.rules.proofs.Schedulers.Rules.{base-priority}
 use Rattle.rules.proofs.Demands.Urgency as Urgency
 use Rattle.rules.proofs.Demands.Urgency.{Best}
@@ -34,7 +34,8 @@ use Rattle.rules.proofs.Demands.EagerRuled.{standing, good, stage, runs
 use Rattle.rules.proofs.Demands.Follow.{same-figures}
 use Rattle.rules.proofs.Demands.Late.{Late, lockBy, blocks-open, late-step, late-fresh}
 use Rattle.rules.proofs.Demands.History.{each, roomAt, allowedAt, allowedFor, next}
-use Rattle.rules.proofs.Demands.OneEvent.{other-kind, works, stays-out, was-open, stays-open, taken-open, was-urgent, delay-one, delay-adds, stays-off}
+use Rattle.rules.proofs.Demands.Sections.{open-now, found}
+use Rattle.rules.proofs.Demands.OneEvent.{other-kind, works, stays-out, was-urgent, delay-one, delay-adds, stays-off}
 
 module _ {p : Plan} (O : Obeys p) (es : List Event) where
   pub lateAt : (k : ℕ) → Late p (eagerAt p es k)
@@ -67,47 +68,6 @@ module _ {p : Plan} (O : Obeys p) (es : List Event) where
       (λ q w. J .still k g (omega arith) (record { does = record { event = q; accepted = a }; runs = w }))) (λ _. o))
       (eq-or-lt-of-le (le-of-suc-le-suc (J .since)))
 
-  -- ---- sections
-
-  open-back : (k x l : ℕ) → holds (eagerAt p es (suc k)) x l ≡ true → (Does p es k x (Unlock l) → ⊥)
-      × ((holds (eagerAt p es k) x l ≡ true) ⊎ Does p es k x (Acquire l))
-  open-back k x l = each p es (λ f. holds f x l ≡ true → (Does p es k x (Unlock l) → ⊥) × ((holds (eagerAt p es k) x l ≡ true) ⊎ Does p es k x (Acquire l))) k
-      (λ a h. let (n, w) = was-open O (ruledAt O es k) (roomAt p es k a) (eventAt es k) (allowedAt p es k a) x l h in
-      (λ D. n (D .does .event) (D .runs), ⊎-elim inl (λ (e, r). inr (record { does = record { event = e; accepted = a }; runs = r })) w))
-      (λ n h. (λ D. untrue (sym (D .does .accepted) ∙ n), inl h))
-
-  -- an open lock is that of an open section
-  found : (k x l : ℕ) → holds (eagerAt p es k) x l ≡ true → (a : ℕ) × Section p es x l a k
-  unfolding eagerAt
-  found zero x l h = untrue (sym h ∙ fresh-shut x l)
-  found (suc k) x l h = let (n, w) = open-back k x l h in ⊎-elim
-      (λ o. let (a, S) = found k x l o in (
-        a,
-        record {
-          begun = S .begun;
-          since = omega (arith, S .since);
-          still = λ j g q. below (λ j. a < j → Does p es j x (Unlock l) → ⊥) k (λ j q s. S .still j s q) (λ _. n) j q g;
-        },
-      ))
-      (λ D. (k, record { begun = D; since = omega arith; still = λ j g q. absurd (omega arith) })) w
-
-  -- and the other way round
-  opened : (x l a k : ℕ) → Section p es x l a k → holds (eagerAt p es k) x l ≡ true
-  opened x l a zero S = absurd (omega (arith, S .since))
-  opened x l a (suc k) S = ⊎-elim
-      (λ e. subst (λ k. holds (eagerAt p es (suc k)) x l ≡ true) e
-      (rw (next p es (S .begun .does), ← S .begun .runs) (taken-open O (ruledAt O es a) (roomAt p es a (S .begun .does .accepted)) l
-      (allowedFor p es (S .begun .does)))))
-      (λ g. let h : holds (eagerAt p es k) x l ≡ true = opened x l a k (record { begun = S .begun; since = g; still = λ j q s. S .still j q (omega arith) }) in
-      each p es (λ f. holds f x l ≡ true) k
-      (λ b. stays-open O (ruledAt O es k) (roomAt p es k b) (eventAt es k) (allowedAt p es k b) x l h
-      (λ q w. S .still k g (omega arith) (record { does = record { event = q; accepted = b }; runs = w })))
-      (λ _. h))
-      (eq-or-lt-of-le (le-of-suc-le-suc (S .since)))
-
-  pub sections-are-open : SectionsAreOpen p es
-  sections-are-open k x l = (found k x l, λ (a, S). opened x l a k S)
-
   -- ---- who holds up whom
 
   -- at place k task x is urgent enough to hold up t
@@ -122,24 +82,24 @@ module _ {p : Plan} (O : Obeys p) (es : List Event) where
     locked : (k : ℕ) → Urgent t x k → (holds (eagerAt p es k) x (by t x k) ≡ true) × (at (p .base) t ≤ at (p .ceiling) (by t x k))
     locked k h = blocks-open O (ruledAt O es k) t x (record { lower = lo; urgent = h })
 
-    -- who holds up t at a place k of its job did so at each place j of it before k, by the same lock, and has not unlocked it
-    back : (i k : ℕ) → Job p es t i k → Urgent t x k → (j : ℕ) → i < j → j ≤ k
-        → Urgent t x j × (by t x k ≡ by t x j) × ((m : ℕ) → m < k → j ≤ m → Does p es m x (Unlock (by t x j)) → ⊥)
+    -- who holds up t at a place k of its job did so at each place j of it before k, by the same lock
+    back : (i k : ℕ) → Job p es t i k → Urgent t x k → (j : ℕ) → i < j → j ≤ k → Urgent t x j × (by t x k ≡ by t x j)
     back i zero J h j a b = absurd (omega (arith, J .since))
     back i (suc k) J h j a b = ⊎-elim
-        (λ e. subst (λ j. Urgent t x j × (by t x (suc k) ≡ by t x j) × ((m : ℕ) → m < suc k → j ≤ m → Does p es m x (Unlock (by t x j)) → ⊥)) (sym e)
-        (h, refl, λ m q s. absurd (omega arith)))
+        (λ e. subst (λ j. Urgent t x j × (by t x (suc k) ≡ by t x j)) (sym e) (h, refl))
         (λ g. let K : Job p es t i k = narrow J k (omega arith) (omega arith) in
         let (h′, q) = each p es (λ f. at (p .base) t ≤ priorityOf p f x → Urgent t x k × (lockBy p f x t ≡ by t x k)) k
         (λ a. was-urgent O (ruledAt O es k) (roomAt p es k a) (eventAt es k) (allowedAt p es k a) t x (job-out t i k K)) (λ _ h. (h, refl)) h in
-        let (u, v, w) = back i k K h′ j a (omega arith) in
-        let (o, _) = locked (suc k) h in (
-          u,
-          q ∙ v,
-          below (λ m. j ≤ m → Does p es m x (Unlock (by t x j)) → ⊥) k w
-              (λ _. open-back k x (by t x j) (subst (λ l. holds (eagerAt p es (suc k)) x l ≡ true) (q ∙ v) o) .0),
-        ))
+        let (u, v) = back i k K h′ j a (omega arith) in
+        (u, q ∙ v))
         (eq-or-lt-of-le b)
+
+    -- and has had it open since
+    open-since : (i k : ℕ) → Job p es t i k → Urgent t x k → (j : ℕ) → i < j → j ≤ k → HasOpen p es x (by t x (suc i)) j
+    open-since i k J h j a b =
+        let (u, v) = back i k J h j a b in
+        let (_, w) = back i k J h (suc i) (omega arith) (omega arith) in
+        open-now O es j x (by t x (suc i)) (subst (λ l. holds (eagerAt p es j) x l ≡ true) (sym v ∙ w) (locked j u .0))
 
   -- a lower task that works in a job holds it up
   holds-up : {t i k x u : ℕ} → LowerWork p es t i k x u → Urgent t x k
@@ -162,7 +122,7 @@ module _ {p : Plan} (O : Obeys p) (es : List Event) where
     unfolding kindOf
     one-section k x u M =
         let (o, v) = locked t x (M .lower) (suc i) (since M) in
-        let (a, S) = found (suc i) x (by t x (suc i)) o in
+        let (a, S) = found O es (suc i) x (by t x (suc i)) (open-now O es (suc i) x (by t x (suc i)) o) in
         let ahead : a < i = ⊎-elim (λ q. other-kind (Acquire (by t x (suc i))) (Release t) (omega arith)
         (sym (S .begun .does .event) ∙ ap (eventAt es) q ∙ B .event)) (λ q. q) (eq-or-lt-of-le (le-of-suc-le-suc (S .since))) in
         record {
@@ -172,13 +132,14 @@ module _ {p : Plan} (O : Obeys p) (es : List Event) where
           earlier = ahead;
           high = v;
           all = λ k y u W.
-              let q : y ≡ x = Urgency.only (good (ruledAt O es (suc i))) t y x (W .lower) (M .lower) (since W) (since M) in
-              let (_, _, w) = back t x (M .lower) i k (W .job) (subst (λ y. Urgent t y k) q (holds-up W)) (suc i) (omega arith) (W .job .since) in (
+              let q : y ≡ x = Urgency.only (good (ruledAt O es (suc i))) t y x (W .lower) (M .lower) (since W) (since M) in (
                 q,
                 record {
                   begun = S .begun;
+                  closed = S .closed;
                   since = omega (arith, ahead, W .job .since);
-                  still = λ j b d D. ⊎-elim (λ s. S .still j b s D) (λ s. w j d s D) (lt-or-le j (suc i));
+                  still = λ j b d. ⊎-elim (λ s. S .still j b (omega arith))
+                      (λ s. open-since t x (M .lower) i k (W .job) (subst (λ y. Urgent t y k) q (holds-up W)) j s d) (lt-or-le j (suc i));
                 },
               );
         }
@@ -212,25 +173,16 @@ module _ {p : Plan} (O : Obeys p) (es : List Event) where
           ∙ ap amountOf (W .works .does .event),
     )
 
-    total-none : (k : ℕ) → k ≤ suc i → lowerTotal p es t i k ≡ 0
-    unfolding lowerTotal sum
-    total-none zero h = refl
-    total-none (suc k) h = omega (arith, total-none k (omega arith), if-false (ltb i k) (lowerUnits p es t k) 0 (le-ltb i k (omega arith)))
-
-    total-more : (k : ℕ) → i < k → lowerTotal p es t i (suc k) ≡ lowerTotal p es t i k + lowerUnits p es t k
-    unfolding lowerTotal sum
-    total-more k h = ap (λ v. lowerTotal p es t i k + v) (if-true (ltb i k) (lowerUnits p es t k) 0 (lt-ltb i k h))
-
     begins : at (eagerAt p es (suc i) .delay) t ≡ 0
     begins = rw (next p es B) (SoundFigures.release-delay (stage O (ruledAt O es i) (roomAt p es i (B .accepted))) (allowedFor p es B) (runnerAt p es i))
 
     counted : (k : ℕ) → Job p es t i k → at (eagerAt p es k .delay) t ≡ lowerTotal p es t i k
-    unfolding lowerUnits
+    unfolding lowerUnits lowerTotal
     counted zero J = absurd (omega (arith, J .since))
     counted (suc k) J = ⊎-elim
-        (λ e. subst (λ k. at (eagerAt p es (suc k) .delay) t ≡ lowerTotal p es t i (suc k)) e (begins ∙ sym (total-none (suc i) (omega arith))))
+        (λ e. subst (λ k. at (eagerAt p es (suc k) .delay) t ≡ lowerTotal p es t i (suc k)) e (begins ∙ sym (after-none (lowerUnits p es t) i (suc i) (omega arith))))
         (λ g. let K : Job p es t i k = narrow J k g (omega arith) in
-        rw (total-more k g) (each p es (λ f. at (f .delay) t ≡ lowerTotal p es t i k + lowerUnits p es t k) k
+        rw (after-more (lowerUnits p es t) i k g) (each p es (λ f. at (f .delay) t ≡ lowerTotal p es t i k + lowerUnits p es t k) k
         (λ a. delay-one O (ruledAt O es k) (roomAt p es k a) (lateAt k) (eventAt es k) (allowedAt p es k a) t
         ∙ ap (delayNext p (eagerAt p es k) (eventAt es k) t) (counted k K)
         ∙ delay-adds O (ruledAt O es k) (roomAt p es k a) (eventAt es k) (allowedAt p es k a) t (lowerTotal p es t i k) (job-out t i k K)

@@ -1,7 +1,7 @@
 -- The delay of a task never passes the units of the section that holds it up, nor the bound. Assumes nothing.
 use mathlib.Core.Path.{_≡_, refl, sym, _∙_, ap, ap₂, subst, subst₂}
 use mathlib.Core.Logic.{_≢_, _⊎_, inl, inr, ⊎-elim}
-use mathlib.Core.Bool.{true, false}
+use mathlib.Core.Bool.{true}
 use Prim.Native.Nat.{ℕ, zero, _+_, _≤_, _<_}
 use native.Mathlib.Omega.{arith}
 use lib.Seq.{getD-set-other}
@@ -17,7 +17,7 @@ use Rattle.rules.specs.declared.plan.Plan.{Plan}
 use Rattle.rules.specs.declared.answer.Tested.{Tested}
 use Rattle.rules.specs.declared.event.Event.{Event}
 use Rattle.rules.specs.declared.event.Event.the-variants.{Release, Acquire, Unlock, Work, Finish, Tick}
-use Rattle.rules.proofs.Numbers.Choice.{by-test, untrue, at-or}
+use Rattle.rules.proofs.Numbers.Choice.{by-test, at-or}
 use Rattle.rules.proofs.Numbers.Place.{zero-past, cleared, greatest-all, greatest-least}
 use Rattle.rules.proofs.Books.Obeyed.{few-locks}
 use Rattle.rules.proofs.Schedulers.Passed.{Releasable, Takeable, Givable, Workable, Finishable, Allowed, passed-room, allowed}
@@ -183,12 +183,12 @@ module _ {p : Plan} (O : Obeys p) {f : Figures} (R : Ruled p f) where
       late = λ t. at-or (λ x. 0 < at (f .released) t → Blocks p g t x → at (f .delay) t ≤ at (g .units) (lockBy p g x t)) r
           (λ u B. let h : at (p .base) t ≤ priorityOf p f r = below-runner r t b u in
           let e : lockBy p g r t ≡ lockBy p f r t = give-oldest A (b .out) o (at (p .base) t) (B .urgent) in
-          let n : lockBy p g r t ≢ l = λ q. untrue (sym (oldest-open p g r (at (p .base) t) (B .lower) (B .urgent) .0) ∙ ap (holds g r) q ∙ gone) in
-          rw (kept-units (lockBy p g r t) n, e) (L .late t r u (record { lower = B .lower; urgent = h })))
+          rw (SoundFigures.give-section A (b .out) o (lockBy p g r t) (oldest-open p g r (at (p .base) t) (B .lower) (B .urgent) .0), e)
+          (L .late t r u (record { lower = B .lower; urgent = h })))
           (λ x m u B. let B′ : Blocks p f t x = record { lower = B .lower; urgent = omega (arith, B .urgent, same-priority p (same x m)) } in
           let e : lockBy p g x t ≡ lockBy p f x t = same-oldest p (same x m) (at (p .base) t) in
           let n : lockBy p f x t ≢ l = λ q. m (R .figured .alone x r l (subst (λ v. holds f x v ≡ true) q (blocks-open t x B′ .0)) mine) in
-          rw (e, kept-units (lockBy p f x t) n) (L .late t x u B′));
+          rw (e, SoundFigures.give-units A (b .out) o (lockBy p f x t) n) (L .late t x u B′));
       bounded = L .bounded;
     }
       where
@@ -203,12 +203,6 @@ module _ {p : Plan} (O : Obeys p) {f : Figures} (R : Ruled p f) where
 
         mine : holds f r l ≡ true
         mine = SoundFigures.give-mine A (b .out) o
-
-        gone : holds g r l ≡ false
-        gone = SoundFigures.give-gone A (b .out) o
-
-        kept-units : (v : ℕ) → v ≢ l → at (g .units) v ≡ at (f .units) v
-        kept-units v n = getD-set-other (f .units) l v 0 0 n
 
     module _ {a : ℕ} (o : Workable p f r a) where
       b : Best (standing p f) r

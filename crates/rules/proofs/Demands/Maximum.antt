@@ -9,7 +9,7 @@ use borrow.Author.Tests.{le-ltb}
 use Rattle.rules.specs.Numbers.Capacity.{maxTasks}
 use Rattle.rules.specs.Numbers.Place.{at}
 use Rattle.rules.specs.Schedulers.Figures.{Figures, figuresOf, priorityOf}
-use Rattle.rules.specs.Schedulers.FiguresAfter.{eagerCalls, delayed, figuresAfter}
+use Rattle.rules.specs.Schedulers.FiguresAfter.{staysOpen, eagerCalls, delayed, figuresAfter}
 use Rattle.rules.specs.Schedulers.Lazy.{Words, wordsOf, backOf, entering, restored, afterUnlock, wordsAfter, enters, lazyCall}
 use Rattle.rules.specs.Soundness.Sound.{Sound}
 use Rattle.rules.specs.Replays.Step.{afterOf}
@@ -62,15 +62,16 @@ module _ (pr : Protocol) {p : Plan} {s : State} (S : Sound pr p s) where
   entry : entering (p .maximum) w ≡ entering (replicate maxTasks 255) w
   entry = enters-same (S .plan) (S .figures) (S .words) ∙ sym (entering-same (replicate maxTasks 255) w (wide (w .user) user-low))
 
-  call : (l : ℕ) → entering (p .maximum) (restored l 1 w) ≡ entering (replicate maxTasks 255) (restored l 1 w)
+  call : (stays : Bool) (l : ℕ) → entering (p .maximum) (restored stays l 1 w) ≡ entering (replicate maxTasks 255) (restored stays l 1 w)
   unfolding restored
-  call l = calls-same (S .plan) (S .figures) (S .words) l 1 ∙ sym (entering-same (replicate maxTasks 255) (restored l 1 w) (wide (backOf w) back-low))
+  call stays l = calls-same (S .plan) (S .figures) (S .words) stays l 1
+      ∙ sym (entering-same (replicate maxTasks 255) (restored stays l 1 w) (wide (backOf w) back-low))
 
   same-after : (e : Event) → afterOf pr p s e ≡ afterOf pr (unbounded p) s e
   unfolding afterOf figuresAfter eagerCalls priorityOf delayed wordsAfter afterUnlock
   same-after (Release t) = rw entry
   same-after (Acquire l) = refl
-  same-after (Unlock l) = rw (call l)
+  same-after (Unlock l) = rw (call (staysOpen (figuresOf s) (w .running) l) l)
   same-after (Work a) = refl
   same-after Finish = rw entry
   same-after Tick = rw entry

@@ -15,12 +15,12 @@ use Rattle.rules.proofs.Numbers.Row.{under-pushed, has-newest, has-unde
 use Rattle.rules.proofs.Schedulers.FiguresKept.{Same}
 
 module _ (ceiling : ℕ → ℕ) (base : ℕ) where
-  -- of a row of k locks the oldest of ceiling q or more
+  -- of a row of k takes the lock of the oldest one of ceiling q or more
   unfoldable pub oldest : ℕ → ℕ → ℕ → ℕ
   oldest q row zero = 0
   oldest q row (suc k) = if leb q (priority ceiling base (under row) k) then oldest q (under row) k else newest row
 
-  -- the row under the newest lock decides it, where that row is urgent enough
+  -- the row under the newest take decides it, where that row is urgent enough
   pub oldest-under : (q row k : ℕ) → q ≤ priority ceiling base (under row) k → oldest q row (suc k) ≡ oldest q (under row) k
   unfolding oldest
   oldest-under q row k h = if-true (leb q (priority ceiling base (under row) k)) (oldest q (under row) k) (newest row)
@@ -41,7 +41,7 @@ module _ (ceiling : ℕ → ℕ) (base : ℕ) where
       (λ e. rw (if-false (leb q (priority ceiling base (under row) k)) (oldest q (under row) k) (newest row) e)
       (has-newest row k, omega (arith, leb-false q (priority ceiling base (under row) k) e)))
 
--- task x's oldest open lock of ceiling q or more
+-- the lock of task x's oldest take of ceiling q or more
 unfoldable pub oldestOf : Plan → Figures → ℕ → ℕ → ℕ
 oldestOf p f x q = oldest (at (p .ceiling)) (at (p .base) x) q (at (f .takes) x) (at (f .depth) x)
 

@@ -1,7 +1,7 @@
--- What one accepted event of the eager scheduler does to a job, an open lock, who holds up whom, and a delay. Assumes nothing.
+-- What one accepted event of the eager scheduler does to a job, a row of takes, the units of a section, who holds up whom, and a delay. Assumes nothing.
 use mathlib.Core.Path.{_≡_, refl, sym, _∙_, ap, ap₂, subst}
-use mathlib.Core.Logic.{_≢_, _⊎_, inl, inr, ⊎-elim}
-use mathlib.Core.Bool.{Bool, true, _&&_, _||_}
+use mathlib.Core.Logic.{_≢_}
+use mathlib.Core.Bool.{Bool, true, false, _&&_}
 use Prim.Native.Nat.{ℕ, _+_, _≤_, _<_}
 use native.Mathlib.Omega.{arith}
 use lib.Dec.{ltb, eqb}
@@ -17,14 +17,16 @@ use Rattle.rules.specs.Schedulers.Figures.{Figures, holds, priorityOf}
 use Rattle.rules.specs.Schedulers.FiguresAfter.{delayed, figuresAfter}
 use Rattle.rules.specs.Schedulers.Eager.{runningOf}
 use Rattle.rules.specs.Demands.History.{delayNext}
+use Rattle.rules.specs.Demands.Job.{takesLock, givesBack}
 use Rattle.rules.specs.declared.plan.Plan.{Plan}
 use Rattle.rules.specs.declared.event.Event.{Event}
 use Rattle.rules.specs.declared.event.Event.the-variants.{Release, Acquire, Unlock, Work, Finish, Tick}
-use Rattle.rules.proofs.Numbers.Choice.{if-true, if-false, by-test, either, untrue, and-true, true-and, or-true, at-or}
-use Rattle.rules.proofs.Schedulers.Passed.{Takeable, Workable, Allowed}
+use Rattle.rules.proofs.Numbers.Choice.{if-true, if-false, by-test, either, untrue, not-so, and-true, true-and, at-or}
+use Rattle.rules.proofs.Numbers.Row.{copies}
+use Rattle.rules.proofs.Schedulers.Passed.{Workable, Allowed}
 use Rattle.rules.proofs.Schedulers.FiguresKept as SoundFigures
 use Rattle.rules.proofs.Schedulers.FiguresKept.{Stage}
-use Rattle.rules.proofs.Schedulers.Rules.{base-priority, Counts, delayed-more, delayed-same}
+use Rattle.rules.proofs.Schedulers.Rules.{base-priority, charged-open, charged-closed, Counts, delayed-more, delayed-same}
 use Rattle.rules.proofs.Demands.Urgency.{Best}
 use Rattle.rules.proofs.Demands.EagerRuled.{standing, Ruled, stage, runs-best, runner-out}
 use Rattle.rules.proofs.Demands.Oldest.{oldest, oldestOf}
@@ -56,9 +58,14 @@ plain-same p f g x t h l u = (
 nothing : (b : Bool) (c : ℕ) → c ≡ c + (if b then 0 else 0)
 nothing b c = either (λ v. c ≡ c + v) b 0 0 (omega arith) (omega arith)
 
--- an unlock names its lock
-same-lock : (l v : ℕ) → Unlock l ≡ Unlock v → l ≡ v
-same-lock l v e = cc
+no-more : (b : Bool) → _≡_ {A = ℕ} (if b && false then 1 else 0) 0
+unfolding if_then_else_
+no-more true = refl
+no-more false = refl
+
+-- how often lock l stands in the row of task x
+abbrev pub inRow : Figures → ℕ → ℕ → ℕ
+inRow g x l = copies (at (g .takes) x) (at (g .depth) x) l
 
 module _ {p : Plan} (O : Obeys p) {f : Figures} (R : Ruled p f) (room : f .accepted < maxAccepted) where
   abbrev r : ℕ
@@ -79,55 +86,67 @@ module _ {p : Plan} (O : Obeys p) {f : Figures} (R : Ruled p f) (room : f .accep
   stays-out Finish o t u n = omega (arith, getD-set-other (f .released) r t 0 0 (λ q. n refl (sym q)))
   stays-out Tick o t u n = u
 
-  -- ---- an open lock
+  -- ---- takes
 
-  -- a lock that is open afterwards was not given back, and was open or is taken
-  pub was-open : (e : Event) → Allowed p f r e → (x l : ℕ) → holds (figuresAfter p f r e) x l ≡ true
-      → (e ≡ Unlock l → r ≡ x → ⊥) × ((holds f x l ≡ true) ⊎ ((e ≡ Acquire l) × (r ≡ x)))
-  unfolding figuresAfter holds kindOf
-  was-open (Release y) o x l h = (other-kind (Release y) (Unlock l) (omega arith), inl h)
-  was-open (Acquire v) o x l h = at-or (λ x. holds (figuresAfter p f r (Acquire v)) x l ≡ true
-      → (Acquire v ≡ Unlock l → r ≡ x → ⊥) × ((holds f x l ≡ true) ⊎ ((Acquire v ≡ Acquire l) × (r ≡ x)))) r
-      (λ h. (
-        other-kind (Acquire v) (Unlock l) (omega arith),
-        ⊎-elim (λ e. inr (ap Acquire (eqb-true v l e), refl)) (λ e. inl e)
-            (or-true (eqb v l) (holds f r l) (sym (SoundFigures.take-holds A out o l) ∙ h)),
-      ))
-      (λ y n h. (other-kind (Acquire v) (Unlock l) (omega arith), inl (sym (SoundFigures.take-others A out o y l n) ∙ h))) x h
+  -- a row that stays, of a task that does not run, has neither a take more nor one less
+  row-others : (g : Figures) (y l : ℕ) (given taken : Bool) → y ≢ r → at (g .depth) y ≡ at (f .depth) y → at (g .takes) y ≡ at (f .takes) y
+      → inRow g y l + (if eqb r y && given then 1 else 0) ≡ inRow f y l + (if eqb r y && taken then 1 else 0)
+  row-others g y l given taken n d t = rw (ne-eqb r y (λ q. n (sym q)), t, d)
+
+  -- an event adds a take where it is one, and leaves one less where it gives one back; the rows of the others stay
+  pub row-counts : (e : Event) → Allowed p f r e → (x l : ℕ)
+      → inRow (figuresAfter p f r e) x l + (if eqb r x && givesBack l e then 1 else 0) ≡ inRow f x l + (if eqb r x && takesLock l e then 1 else 0)
+  unfolding figuresAfter takesLock givesBack
+  row-counts (Release y) o x l = rw (no-more (eqb r x))
+  row-counts (Acquire v) o x l = at-or (λ x. inRow (figuresAfter p f r (Acquire v)) x l + (if eqb r x && false then 1 else 0)
+      ≡ inRow f x l + (if eqb r x && eqb v l then 1 else 0)) r
+      (rw (no-more (eqb r r), eq-eqb r r refl) (omega (arith, SoundFigures.take-copies A (runner-out O R (o .runs)) o l)))
+      (λ y n. row-others (figuresAfter p f r (Acquire v)) y l false (eqb v l) n (SoundFigures.take-helds A (runner-out O R (o .runs)) o y n)
+      (SoundFigures.take-rows A (runner-out O R (o .runs)) o y n)) x
+  row-counts (Unlock v) o x l = at-or (λ x. inRow (figuresAfter p f r (Unlock v)) x l + (if eqb r x && eqb v l then 1 else 0)
+      ≡ inRow f x l + (if eqb r x && false then 1 else 0)) r
+      (rw (no-more (eqb r r), eq-eqb r r refl) (omega (arith, SoundFigures.give-copies A (runner-out O R (o .runs)) o l)))
+      (λ y n. row-others (figuresAfter p f r (Unlock v)) y l (eqb v l) false n (SoundFigures.give-helds A (runner-out O R (o .runs)) o y n)
+      (SoundFigures.give-rows A (runner-out O R (o .runs)) o y n)) x
+  row-counts (Work a) o x l = rw (no-more (eqb r x))
+  row-counts Finish o x l = rw (no-more (eqb r x))
+  row-counts Tick o x l = rw (no-more (eqb r x))
+
+  -- ---- units
+
+  -- of a lock that task x has open before an event and after it, the units grow by what x works
+  pub units-one : (e : Event) → Allowed p f r e → (x l : ℕ) → holds f x l ≡ true → holds (figuresAfter p f r e) x l ≡ true
+      → at (figuresAfter p f r e .units) l ≡ at (f .units) l + (if eqb r x then amountOf e else 0)
+  unfolding figuresAfter amountOf
+  units-one (Release y) o x l h k = nothing (eqb r x) (at (f .units) l)
+  units-one (Acquire v) o x l h k = nothing (eqb r x) (at (f .units) l)
+  units-one (Unlock v) o x l h k = at-or (λ x. holds f x l ≡ true → holds g x l ≡ true → at (g .units) l ≡ at (f .units) l + (if eqb r x then 0 else 0)) r
+      (λ h k. SoundFigures.give-section A out o l k ∙ nothing (eqb r r) (at (f .units) l))
+      (λ y n h k. SoundFigures.give-units A out o l
+      (λ q. n (R .figured .alone y r l h (subst (λ v. holds f r v ≡ true) (sym q) (SoundFigures.give-mine A out o))))
+      ∙ nothing (eqb r y) (at (f .units) l)) x h k
     where
+      g : Figures
+      g = figuresAfter p f r (Unlock v)
+
       out : 0 < at (f .released) r
       out = runner-out O R (o .runs)
-  was-open (Unlock v) o x l h = (
-    λ e q. untrue (sym h ∙ ap (λ y. holds (figuresAfter p f r (Unlock v)) y l) (sym q) ∙ ap (holds (figuresAfter p f r (Unlock v)) r) (sym (same-lock v l e))
-        ∙ SoundFigures.give-gone A (runner-out O R (o .runs)) o),
-    inl (SoundFigures.give-open A (runner-out O R (o .runs)) o x l h),
-  )
-  was-open (Work a) o x l h = (other-kind (Work a) (Unlock l) (omega arith), inl h)
-  was-open Finish o x l h = (other-kind Finish (Unlock l) (omega arith), inl h)
-  was-open Tick o x l h = (other-kind Tick (Unlock l) (omega arith), inl h)
-
-  -- a lock that is open stays so until its task unlocks it
-  pub stays-open : (e : Event) → Allowed p f r e → (x l : ℕ) → holds f x l ≡ true → (e ≡ Unlock l → r ≡ x → ⊥) → holds (figuresAfter p f r e) x l ≡ true
-  unfolding figuresAfter holds
-  stays-open (Release y) o x l h n = h
-  stays-open (Acquire v) o x l h n = at-or (λ x. holds f x l ≡ true → holds (figuresAfter p f r (Acquire v)) x l ≡ true) r
-      (λ h. SoundFigures.take-holds A out o l ∙ by-test (eqb v l) (λ e. rw e) (λ e. rw e h)) (λ y m h. SoundFigures.take-others A out o y l m ∙ h) x h
+  units-one (Work a) o x l h k = at-or (λ x. holds f x l ≡ true → holds g x l ≡ true → at (g .units) l ≡ at (f .units) l + (if eqb r x then a else 0)) r
+      (λ h k. SoundFigures.work-units A out o l ∙ charged-open f r a l h ∙ ap (λ v. at (f .units) l + v) (sym (if-true (eqb r r) a 0 (eq-eqb r r refl))))
+      (λ y n h k. omega (
+        arith,
+        SoundFigures.work-units A out o l,
+        charged-closed f r a l (not-so (holds f r l) (λ m. n (R .figured .alone y r l h m))),
+        if-false (eqb r y) a 0 (ne-eqb r y (λ q. n (sym q))),
+      )) x h k
     where
+      g : Figures
+      g = figuresAfter p f r (Work a)
+
       out : 0 < at (f .released) r
       out = runner-out O R (o .runs)
-  stays-open (Unlock v) o x l h n = at-or (λ x. holds f x l ≡ true → (Unlock v ≡ Unlock l → r ≡ x → ⊥) → holds (figuresAfter p f r (Unlock v)) x l ≡ true) r
-      (λ h n. ⊎-elim (λ e. absurd (n (ap Unlock (eqb-true v l e)) refl)) (λ e. e)
-      (or-true (eqb v l) (holds (figuresAfter p f r (Unlock v)) r l) (sym (SoundFigures.give-holds A out o l) ∙ h)))
-      (λ y m h n. SoundFigures.give-others A out o y l m ∙ h) x h n
-    where
-      out : 0 < at (f .released) r
-      out = runner-out O R (o .runs)
-  stays-open (Work a) o x l h n = h
-  stays-open Finish o x l h n = h
-  stays-open Tick o x l h n = h
-
-  pub taken-open : (l : ℕ) → Takeable p f r l → holds (figuresAfter p f r (Acquire l)) r l ≡ true
-  taken-open l o = SoundFigures.take-holds A (runner-out O R (o .runs)) o l ∙ ap (λ t. t || holds f r l) (eq-eqb l l refl)
+  units-one Finish o x l h k = nothing (eqb r x) (at (f .units) l)
+  units-one Tick o x l h k = nothing (eqb r x) (at (f .units) l)
 
   -- ---- who holds up whom
 

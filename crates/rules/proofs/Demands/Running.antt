@@ -38,6 +38,7 @@ use Rattle.rules.proofs.Demands.Maximum.{maximum}
 use Rattle.rules.proofs.Demands.Demand2.{demand2}
 use Rattle.rules.proofs.Demands.Fair.{fair}
 use Rattle.rules.proofs.Demands.History.{passedAt, all-counted}
+use Rattle.rules.proofs.Demands.Sections.{sections-counted}
 use Rattle.rules.proofs.Demands.Jobs.{lateAt, delays-same, delay-counted, demand3}
 use Rattle.rules.proofs.Replays.RowBytes.{row-length, row-other, row-running, row-user, row-next, row-call}
 use Rattle.rules.proofs.Replays.OneStep.{step-accepts, step-refused, step-call}
@@ -229,6 +230,7 @@ module _ (pr : Protocol) {p : Plan} (O : Obeys p) (es : List Event) (rows : List
           eager = ap (λ (s : State). s .head .eager) (E .state) ∙ D .eager;
           fair = subst (λ (s : State). s .head .lazy ≤ s .head .eager) (sym (E .state)) (fair O es pr a .reported);
           jobs = demand3 pr O es;
+          sections = sections-counted O es pr;
           delays = λ t. delay-said t ∙ delay-counted O es pr a t;
           bounded = λ t. omega (arith, delay-said t, delays-same O es pr a t, lateAt O es a .bounded t);
           counted = λ t i J. delay-said t ∙ demand3 pr O es t i (J .begun) .counted a J;

@@ -127,7 +127,6 @@ module _ {p : Plan} (O : Obeys p) (t u l : ℕ) (ht : t < p .tasks) (hu : u < p 
     runs = nu;
     known = hl;
     declared = ul;
-    closed = none-depth (f 1) u l held1;
     free = not-elsewhere O (R 1) u l b1 hl ul;
     room = omega (arith, held1);
   }

@@ -7,12 +7,12 @@ use Prim.Native.Nat.{ℕ, zero, suc, _+_, _-_, _≤_, _<_, min, max}
 use native.Mathlib.Numerals.{add-one}
 use native.Mathlib.Nat.{le-antisymm, eq-or-lt-of-le, le-of-suc-le-suc, not-suc-le-zero}
 use native.Mathlib.Omega.{arith}
-use lib.Dec.{eqb}
+use lib.Dec.{eqb, ltb}
 use lib.ListN.{length, getD, set, take, drop, length-set, replicate, length-replicate}
 use lib.Seq.{set-getD, getD-set-same, getD-set-other, getD-take, length-take-le, ext-getD}
-use borrow.Author.Tests.{eqb-true, eq-eqb}
+use borrow.Author.Tests.{eqb-true, eq-eqb, lt-ltb, le-ltb}
 use Rattle.rules.specs.Numbers.Choice.{if_then_else_}
-use Rattle.rules.specs.Numbers.Place.{at, every, any, count, greatest, firstFrom, from, tabulate, renewed, zeros}
+use Rattle.rules.specs.Numbers.Place.{at, every, any, count, sum, sumAfter, greatest, firstFrom, from, tabulate, renewed, zeros}
 use Rattle.rules.proofs.Numbers.Choice.{if-true, if-false, by-test, untrue, and-true, or-false, at-or, lt-or-le}
 
 -- below n + 1: n itself, or below n
@@ -221,6 +221,18 @@ module _ (f : ℕ → Bool) where
   pub passed-ends : (n i : ℕ) → PassedSoFar n i → n ≤ i → i ≡ firstFrom f 0 n
   unfolding firstFrom
   passed-ends n i e l = let q : n - i ≡ 0 = omega arith in rw q at (e .1)
+
+-- ---- the sum after a place
+
+module _ (f : ℕ → ℕ) (i : ℕ) where
+  pub after-none : (n : ℕ) → n ≤ suc i → sumAfter i f n ≡ 0
+  unfolding sumAfter sum
+  after-none zero h = refl
+  after-none (suc k) h = omega (arith, after-none k (omega arith), if-false (ltb i k) (f k) 0 (le-ltb i k (omega arith)))
+
+  pub after-more : (n : ℕ) → i < n → sumAfter i f (suc n) ≡ sumAfter i f n + f n
+  unfolding sumAfter sum
+  after-more n h = ap (λ v. sumAfter i f n + v) (if-true (ltb i n) (f n) 0 (lt-ltb i n h))
 
 -- ---- greatest
 

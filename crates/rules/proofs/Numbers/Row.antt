@@ -1,14 +1,14 @@
 -- Laws of a row: what is pushed is the newest, and the old row stands under it. Assumes nothing.
 use mathlib.Core.Path.{_≡_, refl, sym, _∙_, ap, ap₂}
 use mathlib.Core.Logic.{_⊎_, inl, inr, ⊎-elim}
-use mathlib.Core.Bool.{Bool, true, false, not, _||_}
-use Prim.Native.Nat.{ℕ, zero, suc, _^_, _≤_, _<_, max}
+use mathlib.Core.Bool.{true, false, _||_}
+use Prim.Native.Nat.{ℕ, zero, suc, _+_, _^_, _≤_, _<_, max}
 use native.Mathlib.Omega.{arith}
 use lib.Dec.{eqb}
 use borrow.Author.Tests.{eqb-true, eq-eqb}
+use Rattle.rules.specs.Numbers.Choice.{if_then_else_}
 use Rattle.rules.specs.Numbers.Row.{newest, under, pushed, has, priority, saves}
-use Rattle.rules.specs.Soundness.Sound.{distinct}
-use Rattle.rules.proofs.Numbers.Choice.{by-test, untrue, and-true, or-true}
+use Rattle.rules.proofs.Numbers.Choice.{by-test, untrue, or-true}
 
 pub newest-pushed : (row x : ℕ) → x < 256 → newest (pushed row x) ≡ x
 newest-pushed row x h = omega arith
@@ -49,19 +49,35 @@ places-pushed row k x h b = omega arith
 pub places-under : (row k : ℕ) → row < 256 ^ suc k → under row < 256 ^ k
 places-under row k b = omega arith
 
--- ---- no lock stands twice
+-- ---- how often a lock stands in a row
 
-pub distinct-pushed : (row k x : ℕ) → x < 256 → has row k x ≡ false → distinct row k ≡ true → distinct (pushed row x) (suc k) ≡ true
-unfolding distinct
-distinct-pushed row k x h n d = rw (newest-pushed row x h, under-pushed row x h, n, d)
+-- among the k newest of the row
+unfoldable pub copies : ℕ → ℕ → ℕ → ℕ
+copies row zero l = 0
+copies row (suc k) l = (if eqb (newest row) l then 1 else 0) + copies (under row) k l
 
-pub distinct-under : (row k : ℕ) → distinct row (suc k) ≡ true → (has (under row) k (newest row) ≡ false) × (distinct (under row) k ≡ true)
-unfolding distinct
-distinct-under row k d = let (a, b) = and-true (not (has (under row) k (newest row))) (distinct (under row) k) d in (flip (has (under row) k (newest row)) a, b)
-  where
-    flip : (t : Bool) → not t ≡ true → t ≡ false
-    flip true e = sym e
-    flip false e = refl
+pub copies-none : (row l : ℕ) → copies row 0 l ≡ 0
+unfolding copies
+copies-none row l = refl
+
+pub copies-suc : (row k l : ℕ) → copies row (suc k) l ≡ (if eqb (newest row) l then 1 else 0) + copies (under row) k l
+unfolding copies
+copies-suc row k l = refl
+
+pub copies-pushed : (row k x l : ℕ) → x < 256 → copies (pushed row x) (suc k) l ≡ (if eqb x l then 1 else 0) + copies row k l
+copies-pushed row k x l h =
+    copies-suc (pushed row x) k l ∙ ap₂ (λ a b. (if eqb a l then 1 else 0) + copies b k l) (newest-pushed row x h) (under-pushed row x h)
+
+-- a lock is among them exactly where it stands there at least once
+pub has-copies : (row k l : ℕ) → has row k l ≡ true → 0 < copies row k l
+unfolding copies has if_then_else_
+has-copies row zero l h = untrue (sym h)
+has-copies row (suc k) l h = by-test (eqb (newest row) l) (λ e. rw e (omega arith)) (λ e. rw e (omega (arith, has-copies (under row) k l (rw e at h))))
+
+pub copies-has : (row k l : ℕ) → 0 < copies row k l → has row k l ≡ true
+unfolding copies has if_then_else_
+copies-has row zero l h = absurd (omega arith)
+copies-has row (suc k) l h = by-test (eqb (newest row) l) (λ e. rw e) (λ e. rw e (copies-has (under row) k l (omega (arith, rw e at h))))
 
 -- ---- the priority of a row
 

@@ -8,26 +8,26 @@ use native.Mathlib.Nat.{eq-zero-or-pos}
 use native.Mathlib.Numerals.{add-one}
 use native.Mathlib.Omega.{arith}
 use lib.Dec.{eqb, ltb}
-use lib.ListN.{set, replicate, length-set, length-replicate}
+use lib.ListN.{replicate, length-set, length-replicate}
 use lib.Seq.{getD-set-same, getD-set-other}
 use borrow.Author.Tests.{eqb-true, ltb-false, eq-eqb, ne-eqb}
-use Rattle.rules.specs.Numbers.Capacity.{maxTasks, maxLocks, maxOpen, maxAccepted, maxDelay, nobody}
+use Rattle.rules.specs.Numbers.Capacity.{maxTasks, maxLocks, maxTakes, maxAccepted, maxDelay, nobody}
 use Rattle.rules.specs.Numbers.Choice.{if_then_else_}
 use Rattle.rules.specs.Numbers.Place.{at}
 use Rattle.rules.specs.Numbers.Row.{under, pushed, has, priority}
 use Rattle.rules.specs.Books.Plan.{Obeys}
 use Rattle.rules.specs.Schedulers.Figures.{Figures, Sized, freshFigures, holds, priorityOf, rankOf}
 use Rattle.rules.specs.Schedulers.EventRefusals.{elsewhere, pastLimit, refusalOf}
-use Rattle.rules.specs.Schedulers.FiguresAfter.{differs, eagerCalls, charged, delayed, figuresAfter}
-use Rattle.rules.specs.Soundness.Sound.{distinct, SoundFigures}
+use Rattle.rules.specs.Schedulers.FiguresAfter.{differs, eagerCalls, staysOpen, leftOf, charged, delayed, figuresAfter}
+use Rattle.rules.specs.Soundness.Sound.{SoundFigures}
 use Rattle.rules.specs.declared.plan.Plan.{Plan}
 use Rattle.rules.specs.declared.answer.Tested.{Tested}
 use Rattle.rules.specs.declared.event.Event.{Event}
 use Rattle.rules.specs.declared.event.Event.the-variants.{Release, Acquire, Unlock, Work, Finish, Tick}
 use Rattle.rules.proofs.Numbers.Choice.{by-test, either, untrue, not-so, true-and, or-false, or-true, at-or, lt-or-le}
 use Rattle.rules.proofs.Numbers.Place.{any-false, length-renewed, renewed-rest, renewed-at, zero-past}
-use Rattle.rules.proofs.Numbers.Row.{has-none, has-pushed, places-pushed, places-under, distinct-pushed, distinct-under}
-use Rattle.rules.proofs.Schedulers.Rules.{charged-open, charged-closed, delayed-cases, delayed-same}
+use Rattle.rules.proofs.Numbers.Row.{copies, has-none, has-pushed, copies-pushed, copies-suc, places-pushed, places-under}
+use Rattle.rules.proofs.Schedulers.Rules.{left-same, left-none, left-most, charged-open, charged-closed, delayed-cases, delayed-same}
 use Rattle.rules.proofs.Books.Obeyed.{few-tasks, few-locks}
 use Rattle.rules.proofs.Schedulers.Passed.{Releasable, Takeable, Givable, Workable, Finishable, Allowed, passed-room, allowed}
 
@@ -149,7 +149,6 @@ pub fresh-shut : (x l : ℕ) → holds freshFigures x l ≡ false
 fresh-shut x l = none-depth freshFigures x l (zero-past maxTasks x)
 
 pub fresh-figured : (p : Plan) → SoundFigures p freshFigures
-unfolding distinct
 fresh-figured p = record {
   events = omega arith;
   numbers = λ x. omega (arith, task x);
@@ -159,7 +158,6 @@ fresh-figured p = record {
   known = λ x l h. untrue (sym h ∙ fresh-shut x l);
   declared = λ x l h. untrue (sym h ∙ fresh-shut x l);
   resting = λ x z. task x;
-  once = λ x. ap (distinct (at (replicate maxTasks 0) x)) (task x);
   alone = λ x y l h. untrue (sym h ∙ fresh-shut x l);
   limits = λ l. omega (arith, zero-past maxLocks l);
   delays = λ x. omega (arith, task x);
@@ -201,7 +199,6 @@ module _ {p : Plan} {f : Figures} (A : Stage p f) where
     known = F .known;
     declared = F .declared;
     resting = F .resting;
-    once = F .once;
     alone = F .alone;
     limits = F .limits;
     delays = F .delays;
@@ -250,7 +247,6 @@ module _ {p : Plan} {f : Figures} (A : Stage p f) where
       declared = F .declared;
       resting = at-or (λ x. at released x ≡ 0 → at (f .depth) x ≡ 0) t (λ z. absurd (omega (arith, release-number r)))
           (λ x n z. F .resting x (omega (arith, release-others r x n)));
-      once = F .once;
       alone = F .alone;
       limits = F .limits;
       delays = at-or (λ x. at (figuresAfter p f r (Release t) .delay) x ≤ maxDelay) t (omega (arith, release-delay r))
@@ -282,7 +278,6 @@ module _ {p : Plan} {f : Figures} (A : Stage p f) where
       known = F .known;
       declared = F .declared;
       resting = at-or (λ x. at released x ≡ 0 → at (f .depth) x ≡ 0) r (λ z. o .closed) (λ x n z. F .resting x (omega (arith, others x n)));
-      once = F .once;
       alone = F .alone;
       limits = F .limits;
       delays = F .delays;
@@ -330,16 +325,17 @@ module _ {p : Plan} {f : Figures} (A : Stage p f) where
       unfolding holds
       take-others x v n = ap₂ (λ a b. has a b v) (take-rows x n) (take-helds x n)
 
+      -- there is one take of it more
+      pub take-copies : (v : ℕ) → copies (at (figuresAfter p f r (Acquire l) .takes) r) (at (figuresAfter p f r (Acquire l) .depth) r) v
+          ≡ (if eqb l v then 1 else 0) + copies (at (f .takes) r) (at (f .depth) r) v
+      take-copies v = ap₂ (λ a b. copies a b v) take-row take-depth ∙ copies-pushed (at (f .takes) r) (at (f .depth) r) l v lock-byte
+
       -- nobody else has the lock open
-      only : (y : ℕ) → y ≢ r → holds f y l ≡ true → ⊥
+      pub only : (y : ℕ) → y ≢ r → holds f y l ≡ true → ⊥
       unfolding elsewhere
       only y n h =
           untrue (sym (true-and (not (eqb y r)) (holds f y l) (ap not (ne-eqb y r n)) h)
           ∙ any-false (λ x. not (eqb x r) && holds f x l) (p .tasks) (o .free) y (inside F y (holder-out F y l h)))
-
-      shut : has (at (f .takes) r) (at (f .depth) r) l ≡ false
-      unfolding holds
-      shut = o .closed
 
       -- the lock is r's, or was held before
       was : (x v : ℕ) → holds (figuresAfter p f r (Acquire l)) x v ≡ true → ((x ≡ r) × (l ≡ v)) ⊎ (holds f x v ≡ true)
@@ -357,13 +353,10 @@ module _ {p : Plan} {f : Figures} (A : Stage p f) where
         numbers = λ x. omega (arith, F .numbers x);
         differ = F .differ;
         eager = omega (arith, F .eager, calls-moved p f r (Acquire l), eager-once p f g r (Acquire l));
-        depth = at-or (λ x. at (g .depth) x ≤ maxOpen) r (omega (arith, take-depth, o .room)) (λ x n. omega (arith, take-helds x n, F .depth x));
+        depth = at-or (λ x. at (g .depth) x ≤ maxTakes) r (omega (arith, take-depth, o .room)) (λ x n. omega (arith, take-helds x n, F .depth x));
         known = λ x v h. ⊎-elim (λ (a, b). omega (arith, o .known)) (λ k. F .known x v k) (was x v h);
         declared = λ x v h. ⊎-elim (λ (a, b). rw (a, ← b) (o .declared)) (λ k. F .declared x v k) (was x v h);
         resting = at-or (λ x. at (f .released) x ≡ 0 → at (g .depth) x ≡ 0) r (λ z. absurd (omega arith)) (λ x n z. take-helds x n ∙ F .resting x z);
-        once = at-or (λ x. distinct (at (g .takes) x) (at (g .depth) x) ≡ true) r
-            (ap₂ distinct take-row take-depth ∙ distinct-pushed (at (f .takes) r) (at (f .depth) r) l lock-byte shut (F .once r))
-            (λ x n. ap₂ distinct (take-rows x n) (take-helds x n) ∙ F .once x);
         alone = λ x y v h k. ⊎-elim
             (λ (a, b). ⊎-elim (λ (c, d). a ∙ sym c) (λ q. a ∙ sym (holder y (rw (← b) at q))) (was y v k))
             (λ q. ⊎-elim (λ (c, d). holder x (rw (← d) at q) ∙ sym c) (λ s. F .alone x y v q s) (was y v k)) (was x v h);
@@ -386,7 +379,7 @@ module _ {p : Plan} {f : Figures} (A : Stage p f) where
     -- ---- unlock
 
     module _ {l : ℕ} (o : Givable p f r l) where
-      -- one lock less
+      -- one take less
       pub less : ℕ
       less = at (f .depth) r - 1
 
@@ -416,19 +409,42 @@ module _ {p : Plan} {f : Figures} (A : Stage p f) where
           ap (λ k. has (at (f .takes) r) k v) give-was
           ∙ ap₂ (λ a b. eqb a v || b) (o .newest) (sym (ap₂ (λ a b. has a b v) give-row give-depth))
 
+      -- there is one take of it less
+      pub give-copies : (v : ℕ) → copies (at (f .takes) r) (at (f .depth) r) v
+          ≡ (if eqb l v then 1 else 0) + copies (at (figuresAfter p f r (Unlock l) .takes) r) (at (figuresAfter p f r (Unlock l) .depth) r) v
+      give-copies v =
+          ap (λ k. copies (at (f .takes) r) k v) give-was ∙ copies-suc (at (f .takes) r) less v
+          ∙ ap₂ (λ a b. (if eqb a v then 1 else 0) + b) (o .newest) (sym (ap₂ (λ a b. copies a b v) give-row give-depth))
+
       pub give-others : (x v : ℕ) → x ≢ r → holds (figuresAfter p f r (Unlock l)) x v ≡ holds f x v
       unfolding holds
       give-others x v n = ap₂ (λ a b. has a b v) (give-rows x n) (give-helds x n)
 
-      -- the lock was r's, and is r's no more
+      -- the lock was r's, and whether it stays so is what the rest of the row says
       pub give-mine : holds f r l ≡ true
       give-mine = give-holds l ∙ ap (λ t. t || holds (figuresAfter p f r (Unlock l)) r l) (eq-eqb l l refl)
 
-      pub give-gone : holds (figuresAfter p f r (Unlock l)) r l ≡ false
-      unfolding holds
-      give-gone =
-          ap₂ (λ a b. has a b l) give-row give-depth ∙ ap (has (under (at (f .takes) r)) less) (sym (o .newest))
-          ∙ distinct-under (at (f .takes) r) less (ap (distinct (at (f .takes) r)) (sym give-was) ∙ F .once r) .0
+      pub give-stays : holds (figuresAfter p f r (Unlock l)) r l ≡ staysOpen f r l
+      unfolding holds staysOpen less
+      give-stays = ap₂ (λ a b. has a b l) give-row give-depth
+
+      pub give-rest : staysOpen f r l ≡ has (under (at (f .takes) r)) less l
+      unfolding staysOpen less
+      give-rest = refl
+
+      -- the units of l are left where it stays open, and those of every other lock stay
+      pub give-left : at (figuresAfter p f r (Unlock l) .units) l ≡ leftOf (staysOpen f r l) (at (f .units) l)
+      unfolding figuresAfter
+      give-left = getD-set-same (f .units) l (leftOf (staysOpen f r l) (at (f .units) l)) 0 (omega (arith, Z .units, few-locks O, o .known))
+
+      pub give-units : (v : ℕ) → v ≢ l → at (figuresAfter p f r (Unlock l) .units) v ≡ at (f .units) v
+      unfolding figuresAfter
+      give-units v n = getD-set-other (f .units) l v (leftOf (staysOpen f r l) (at (f .units) l)) 0 n
+
+      -- so do those of what r has open
+      pub give-section : (v : ℕ) → holds (figuresAfter p f r (Unlock l)) r v ≡ true → at (figuresAfter p f r (Unlock l) .units) v ≡ at (f .units) v
+      give-section = at-or (λ v. holds (figuresAfter p f r (Unlock l)) r v ≡ true → at (figuresAfter p f r (Unlock l) .units) v ≡ at (f .units) v) l
+          (λ h. give-left ∙ left-same (staysOpen f r l) (at (f .units) l) (sym give-stays ∙ h)) (λ v n h. give-units v n)
 
       -- what is open was open
       pub give-open : (x v : ℕ) → holds (figuresAfter p f r (Unlock l)) x v ≡ true → holds f x v ≡ true
@@ -446,19 +462,17 @@ module _ {p : Plan} {f : Figures} (A : Stage p f) where
         numbers = λ x. omega (arith, F .numbers x);
         differ = F .differ;
         eager = omega (arith, F .eager, calls-moved p f r (Unlock l), eager-once p f g r (Unlock l));
-        depth = at-or (λ x. at (g .depth) x ≤ maxOpen) r (omega (arith, give-depth, give-was, F .depth r)) (λ x n. omega (arith, give-helds x n, F .depth x));
+        depth = at-or (λ x. at (g .depth) x ≤ maxTakes) r (omega (arith, give-depth, give-was, F .depth r)) (λ x n. omega (arith, give-helds x n, F .depth x));
         known = λ x v h. F .known x v (give-open x v h);
         declared = λ x v h. F .declared x v (give-open x v h);
         resting = at-or (λ x. at (f .released) x ≡ 0 → at (g .depth) x ≡ 0) r (λ z. absurd (omega arith)) (λ x n z. give-helds x n ∙ F .resting x z);
-        once = at-or (λ x. distinct (at (g .takes) x) (at (g .depth) x) ≡ true) r
-            (ap₂ distinct give-row give-depth ∙ distinct-under (at (f .takes) r) less (ap (distinct (at (f .takes) r)) (sym give-was) ∙ F .once r) .1)
-            (λ x n. ap₂ distinct (give-rows x n) (give-helds x n) ∙ F .once x);
         alone = λ x y v h k. F .alone x y v (give-open x v h) (give-open y v k);
-        limits = at-or (λ v. at (set (f .units) l 0) v ≤ at (p .limit) v) l (omega (arith, cleared))
-            (λ v n. omega (arith, getD-set-other (f .units) l v 0 0 n, F .limits v));
+        limits = at-or (λ v. at (g .units) v ≤ at (p .limit) v) l (omega (arith, give-left, left-most (staysOpen f r l) (at (f .units) l), F .limits l))
+            (λ v n. omega (arith, give-units v n, F .limits v));
         delays = F .delays;
-        closed = at-or (λ v. ((x : ℕ) → holds g x v ≡ false) → at (set (f .units) l 0) v ≡ 0) l (λ h. cleared)
-            (λ v n h. getD-set-other (f .units) l v 0 0 n ∙ F .closed v (at-or (λ x. holds f x v ≡ false) r
+        closed = at-or (λ v. ((x : ℕ) → holds g x v ≡ false) → at (g .units) v ≡ 0) l
+            (λ h. give-left ∙ left-none (staysOpen f r l) (at (f .units) l) (sym give-stays ∙ h r))
+            (λ v n h. give-units v n ∙ F .closed v (at-or (λ x. holds f x v ≡ false) r
             (give-holds v ∙ rw (ne-eqb l v (λ e. n (sym e))) (h r)) (λ x m. sym (give-others x v m) ∙ h x)));
         places = at-or (λ x. at (g .takes) x < 256 ^ at (g .depth) x) r
             (rw (give-row, give-depth) (places-under (at (f .takes) r) less (subst (λ k. at (f .takes) r < 256 ^ k) give-was (F .places r))))
@@ -468,9 +482,6 @@ module _ {p : Plan} {f : Figures} (A : Stage p f) where
         where
           g : Figures
           g = figuresAfter p f r (Unlock l)
-
-          cleared : at (set (f .units) l 0) l ≡ 0
-          cleared = getD-set-same (f .units) l 0 0 (omega (arith, Z .units, few-locks O, o .known))
 
     -- ---- work
 
@@ -522,7 +533,6 @@ module _ {p : Plan} {f : Figures} (A : Stage p f) where
         known = F .known;
         declared = F .declared;
         resting = F .resting;
-        once = F .once;
         alone = F .alone;
         limits = work-within;
         delays = work-stuck;

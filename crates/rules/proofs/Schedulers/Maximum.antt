@@ -1,6 +1,7 @@
 -- In a sound state no word is above the maximum of its task: not a priority, not the user word, and not the word that an unlock puts back. So an entry to the
 -- kernel cuts nothing. Assumes nothing.
 use mathlib.Core.Path.{_≡_, refl, _∙_, ap}
+use mathlib.Core.Bool.{Bool}
 use mathlib.Core.Logic.{⊎-elim}
 use Prim.Native.Nat.{ℕ, zero, suc, _≤_, _<_}
 use native.Mathlib.Nat.{eq-zero-or-pos}
@@ -32,7 +33,7 @@ module _ {p : Plan} (O : Obeys p) {f : Figures} (F : SoundFigures p f) where
   pub rank-most : (x : ℕ) → rankOf p f x ≤ at (p .maximum) x
   rank-most x = ⊎-elim (λ z. omega (arith, rank-in p f x z)) (λ o. omega (arith, rank-out p f x o, priority-most x o)) (eq-zero-or-pos (at (f .released) x))
 
-  -- a saved word is a priority under the newest lock
+  -- a saved word is a priority under the newest take
   saved-most : (x k : ℕ) → at (f .depth) x ≡ k → newest (savedOf p f x) ≤ at (p .maximum) x
   unfolding savedOf priorityOf
   saved-most x zero e = omega (
@@ -63,6 +64,6 @@ module _ {p : Plan} (O : Obeys p) {f : Figures} (F : SoundFigures p f) where
     pub enters-same : entering (p .maximum) w ≡ w
     enters-same = entering-same (p .maximum) w user-most
 
-    pub calls-same : (l calls : ℕ) → entering (p .maximum) (restored l calls w) ≡ restored l calls w
+    pub calls-same : (stays : Bool) (l calls : ℕ) → entering (p .maximum) (restored stays l calls w) ≡ restored stays l calls w
     unfolding restored
-    calls-same l calls = entering-same (p .maximum) (restored l calls w) back-most
+    calls-same stays l calls = entering-same (p .maximum) (restored stays l calls w) back-most

@@ -6,20 +6,20 @@ use Prim.Native.Nat.{ℕ, _<_}
 use native.Mathlib.Omega.{arith}
 use lib.Dec.{eqb}
 use borrow.Author.Tests.{eqb-true, eqb-false, ltb-false, leb-false, not-false, lt-leb, le-ltb, ne-eqb, eq-eqb}
-use Rattle.rules.specs.Numbers.Capacity.{maxOpen, maxAccepted, nobody}
+use Rattle.rules.specs.Numbers.Capacity.{maxTakes, maxAccepted, nobody}
 use Rattle.rules.specs.Numbers.Choice.{if_then_else_}
 use Rattle.rules.specs.Numbers.Place.{at}
 use Rattle.rules.specs.Numbers.Refusal.{numberOf, firstTrue, testFor}
 use Rattle.rules.specs.Numbers.Row.{newest}
 use Rattle.rules.specs.Books.Plan.{declares}
-use Rattle.rules.specs.Schedulers.Figures.{Figures, holds}
+use Rattle.rules.specs.Schedulers.Figures.{Figures}
 use Rattle.rules.specs.Schedulers.EventRefusals.{elsewhere, notNewest, pastLimit, testsOf, releaseOrder, acquireOrder}
 use Rattle.rules.specs.Schedulers.EventRefusals.{unlockOrder, workOrder, finishOrder, allTests, refusalOf}
 use Rattle.rules.specs.declared.plan.Plan.{Plan}
 use Rattle.rules.specs.declared.answer.Tested.{Tested}
 use Rattle.rules.specs.declared.event.Event.{Event}
 use Rattle.rules.specs.declared.event.Event.the-variants.{Release, Acquire, Unlock, Work, Finish, Tick}
-use Rattle.rules.specs.declared.refusal.Refusal.the-variants.{Exhausted, NobodyRuns, Unknown, AlreadyReleased, NotDeclared, AlreadyOpen}
+use Rattle.rules.specs.declared.refusal.Refusal.the-variants.{Exhausted, NobodyRuns, Unknown, AlreadyReleased, NotDeclared}
 use Rattle.rules.specs.declared.refusal.Refusal.the-variants.{OpenElsewhere, RowFull, NotNewest, NoWork, PastLimit, StillOpen}
 use Rattle.rules.proofs.Numbers.Choice.{or-false}
 use Rattle.rules.proofs.Numbers.Order.{none-holds}
@@ -32,9 +32,8 @@ pub record Takeable (p : Plan) (f : Figures) (r l : ℕ) : Type 0 where
   pub runs : r ≢ nobody
   pub known : l < p .locks
   pub declared : declares p r l ≡ true
-  pub closed : holds f r l ≡ false
   pub free : elsewhere f (p .tasks) r l ≡ false
-  pub room : at (f .depth) r < maxOpen
+  pub room : at (f .depth) r < maxTakes
 
 pub record Givable (p : Plan) (f : Figures) (r l : ℕ) : Type 0 where
   pub runs : r ≢ nobody
@@ -76,9 +75,8 @@ module _ (p : Plan) (f : Figures) (r : ℕ) where
         runs = eqb-false r nobody (clean NobodyRuns);
         known = leb-false (p .locks) l (clean Unknown);
         declared = not-false (declares p r l) (clean NotDeclared);
-        closed = clean AlreadyOpen;
         free = clean OpenElsewhere;
-        room = leb-false maxOpen (at (f .depth) r) (clean RowFull);
+        room = leb-false maxTakes (at (f .depth) r) (clean RowFull);
       }
   allowed (Unlock l) z =
       let clean = none-holds (allTests p f r (Unlock l)) z in
@@ -106,9 +104,8 @@ module _ (p : Plan) (f : Figures) (r : ℕ) where
         ne-eqb r nobody (o .runs),
         lt-leb (p .locks) l (o .known),
         o .declared,
-        o .closed,
         o .free,
-        lt-leb maxOpen (at (f .depth) r) (o .room),
+        lt-leb maxTakes (at (f .depth) r) (o .room),
       )
   accepts (Unlock l) h o =
       rw (

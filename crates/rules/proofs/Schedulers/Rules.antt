@@ -14,7 +14,7 @@ use Rattle.rules.specs.Numbers.Row.{priority}
 use Rattle.rules.specs.Books.Plan.{declares}
 use Rattle.rules.specs.Schedulers.Figures.{Figures, holds, priorityOf, rankOf}
 use Rattle.rules.specs.Schedulers.Elect.{earlier}
-use Rattle.rules.specs.Schedulers.FiguresAfter.{charged, delayed}
+use Rattle.rules.specs.Schedulers.FiguresAfter.{leftOf, charged, delayed}
 use Rattle.rules.specs.Schedulers.Protocol.{secondWord}
 use Rattle.rules.specs.Schedulers.Lazy.{Words, callsFor, cutTo, entering}
 use Rattle.rules.specs.Soundness.Sound.{keptOf, SoundSecond}
@@ -112,6 +112,19 @@ uncut maximum user h = if-false (ltb maximum user) maximum user (le-ltb maximum 
 pub entering-same : (maximum : List ℕ) (w : Words) → w .user ≤ at maximum (w .running) → entering maximum w ≡ w
 unfolding entering
 entering-same maximum w h = rw (uncut (at maximum (w .running)) (w .user) h)
+
+-- ---- RULES 9.6: what an unlock leaves of a section's units and of its lock's owner
+
+pub left-same : (stays : Bool) (v : ℕ) → stays ≡ true → leftOf stays v ≡ v
+unfolding leftOf
+left-same stays v e = if-true stays v 0 e
+
+pub left-none : (stays : Bool) (v : ℕ) → stays ≡ false → leftOf stays v ≡ 0
+unfolding leftOf
+left-none stays v e = if-false stays v 0 e
+
+pub left-most : (stays : Bool) (v : ℕ) → leftOf stays v ≤ v
+left-most stays v = by-test stays (λ e. omega (arith, left-same stays v e)) (λ e. omega (arith, left-none stays v e))
 
 -- ---- RULES 9.7: work counts for each open section
 

@@ -19,7 +19,7 @@ use Rattle.rules.specs.Numbers.Row.{newest, under, pushed, priority, sav
 use Rattle.rules.specs.Books.Plan.{Obeys}
 use Rattle.rules.specs.Schedulers.Figures.{Figures, holds, priorityOf, rankOf}
 use Rattle.rules.specs.Schedulers.Elect.{elected}
-use Rattle.rules.specs.Schedulers.FiguresAfter.{differs, eagerCalls, figuresAfter}
+use Rattle.rules.specs.Schedulers.FiguresAfter.{differs, eagerCalls, staysOpen, leftOf, figuresAfter}
 use Rattle.rules.specs.Schedulers.Protocol.{secondWord}
 use Rattle.rules.specs.Schedulers.Lazy.{Words, WordsSized, callsFor, entering, bestKept, backOf, runsOn, switched, stays}
 use Rattle.rules.specs.Schedulers.Lazy.{afterRelease, afterAcquire, restored, leaves, afterUnlock, wordsAfter}
@@ -32,7 +32,7 @@ use Rattle.rules.proofs.Numbers.Choice.{if-true, if-false, by-test, unt
 use Rattle.rules.proofs.Numbers.Place.{greatest-ext, cleared}
 use Rattle.rules.proofs.Numbers.Row.{priority-pushed, saves-newest, saves-under, saves-pushed}
 use Rattle.rules.proofs.Schedulers.Rules.{no-call, rank-out, rank-in, base-priority, plain-priority, kept-other, kept-own}
-use Rattle.rules.proofs.Schedulers.Rules.{entry-sound, stays-sound}
+use Rattle.rules.proofs.Schedulers.Rules.{entry-sound, stays-sound, left-same, left-none}
 use Rattle.rules.proofs.Schedulers.Elect.{elected-lead, elected-some, elected-one}
 use Rattle.rules.proofs.Books.Obeyed.{few-tasks, few-locks, base-some, base-byte, ceiling-byte}
 use Rattle.rules.proofs.Schedulers.Passed.{Releasable, Takeable, Givable, Finishable, Allowed}
@@ -229,7 +229,7 @@ module _ {pr : Protocol} {p : Plan} {f : Figures} {w : Words} (B : Scene pr p f 
         (λ x n. getD-set-other newcomer r x (w .user) 0 n ∙ newcomer-rank x n)
 
     release-worded : SoundFigures p (figuresAfter p f r (Release t)) → SoundWords pr p (figuresAfter p f r (Release t))
-        (wordsAfter pr p (figuresAfter p f r (Release t) .released) w (Release t))
+        (wordsAfter pr p f (figuresAfter p f r (Release t) .released) w (Release t))
     unfolding wordsAfter afterRelease figuresAfter savedOf ownerOf holds newcomer stays
     release-worded G = rw found (by-test (ltb (w .user) (at (p .base) t))
         (λ e. subst (SoundWords pr p g) (sym (if-true (ltb (w .user) (at (p .base) t)) _ _ e))
@@ -267,7 +267,7 @@ module _ {pr : Protocol} {p : Plan} {f : Figures} {w : Words} (B : Scene pr p f 
       same x n = record { released = getD-set-other (f .released) r x 0 0 n; depth = refl; takes = refl }
 
   finish-worded : Finishable f r → SoundFigures p (figuresAfter p f r Finish)
-      → SoundWords pr p (figuresAfter p f r Finish) (wordsAfter pr p (figuresAfter p f r Finish .released) w Finish)
+      → SoundWords pr p (figuresAfter p f r Finish) (wordsAfter pr p f (figuresAfter p f r Finish .released) w Finish)
   unfolding wordsAfter figuresAfter savedOf ownerOf holds
   finish-worded o G = rw found (switch-worded pr O G w (set (w .kept) r 0) finish-kept (W .saved)
       (λ l. W .owner l ∙ sym (owner-same f g l (p .tasks) (λ x q. refl))) (omega (arith, W .lazy)))
@@ -302,7 +302,7 @@ module _ {pr : Protocol} {p : Plan} {f : Figures} {w : Words} (B : Scene pr p f 
   work-worded a = still (figuresAfter p f r (Work a)) (λ x. record { released = refl; depth = refl; takes = refl }) (omega arith)
 
   tick-worded : SoundFigures p (figuresAfter p f r Tick)
-      → SoundWords pr p (figuresAfter p f r Tick) (wordsAfter pr p (figuresAfter p f r Tick .released) w Tick)
+      → SoundWords pr p (figuresAfter p f r Tick) (wordsAfter pr p f (figuresAfter p f r Tick .released) w Tick)
   unfolding wordsAfter stays figuresAfter
   tick-worded G =
       let U : SoundWords pr p (figuresAfter p f r Tick) w =
@@ -362,7 +362,7 @@ module _ {pr : Protocol} {p : Plan} {f : Figures} {w : Words} (B : Scene pr p f 
           ∙ saves-pushed (at (p .ceiling)) (at (p .base) r) (at (f .takes) r) (at (f .depth) r) l lock-byte
           ∙ ap₂ pushed (sym saved-r) (sym (user-priority n))
 
-      take-worded : SoundFigures p take → SoundWords pr p take (wordsAfter pr p (take .released) w (Acquire l))
+      take-worded : SoundFigures p take → SoundWords pr p take (wordsAfter pr p f (take .released) w (Acquire l))
       unfolding wordsAfter afterAcquire figuresAfter
       take-worded G = record {
         idle = W .idle;
@@ -406,7 +406,7 @@ module _ {pr : Protocol} {p : Plan} {f : Figures} {w : Words} (B : Scene pr p f 
       unfolding less
       saved-more = saved-r ∙ ap (saves (at (p .ceiling)) (at (p .base) r) (at (f .takes) r)) (SoundFigures.give-was A out o)
 
-      -- the word that is put back is the priority under the newest lock
+      -- the word that is put back is the priority under the newest take
       pub give-priority : backOf w ≡ priorityOf p give r
       unfolding priorityOf less
       give-priority =
@@ -425,9 +425,13 @@ module _ {pr : Protocol} {p : Plan} {f : Figures} {w : Words} (B : Scene pr p f 
           ap under saved-more ∙ saves-under (at (p .ceiling)) (at (p .base) r) (base-byte O r) (ceiling-byte O) (at (f .takes) r) less
           ∙ sym (ap₂ (saves (at (p .ceiling)) (at (p .base) r)) (SoundFigures.give-row A out o) (SoundFigures.give-depth A out o))
 
-      -- the lock is nobody's
-      nobodys : (x : ℕ) → holds give x l ≡ false
-      nobodys = at-or (λ x. holds give x l ≡ false) r (SoundFigures.give-gone A out o)
+      -- who has the lock open is who had it, where it stays open, and else nobody
+      same-owner : staysOpen f r l ≡ true → (x : ℕ) → holds give x l ≡ holds f x l
+      same-owner e = at-or (λ x. holds give x l ≡ holds f x l) r (SoundFigures.give-stays A out o ∙ e ∙ sym (SoundFigures.give-mine A out o))
+          (λ x m. SoundFigures.give-others A out o x l m)
+
+      nobodys : staysOpen f r l ≡ false → (x : ℕ) → holds give x l ≡ false
+      nobodys e = at-or (λ x. holds give x l ≡ false) r (SoundFigures.give-stays A out o ∙ e)
           (λ x m. SoundFigures.give-others A out o x l m ∙ not-so (holds f x l) (λ h. m (F .alone x r l h (SoundFigures.give-mine A out o))))
 
       others : (v : ℕ) → v ≢ l → (x : ℕ) → holds give x v ≡ holds f x v
@@ -440,10 +444,21 @@ module _ {pr : Protocol} {p : Plan} {f : Figures} {w : Words} (B : Scene pr p f 
           (getD-set-same (w .saved) r (under (at (w .saved) r)) 0 (omega (arith, r-place, Y .saved)) ∙ give-saved)
           (λ x m. getD-set-other (w .saved) r x (under (at (w .saved) r)) 0 m ∙ W .saved x ∙ sym (same-saved p (give-same x m)))
 
-      owner-give : (v : ℕ) → at (set (w .owner) l 0) v ≡ ownerOf give (p .tasks) v
-      owner-give = at-or (λ v. at (set (w .owner) l 0) v ≡ ownerOf give (p .tasks) v) l
-          (cleared (w .owner) l ∙ sym (owner-none give l (p .tasks) (λ x q. nobodys x)))
-          (λ v m. getD-set-other (w .owner) l v 0 0 m ∙ W .owner v ∙ sym (owner-same f give v (p .tasks) (λ x q. others v m x)))
+      -- the owner that is left
+      left : ℕ
+      left = leftOf (staysOpen f r l) (at (w .owner) l)
+
+      left-owner : left ≡ ownerOf give (p .tasks) l
+      unfolding left
+      left-owner = by-test (staysOpen f r l)
+          (λ e. left-same (staysOpen f r l) (at (w .owner) l) e ∙ W .owner l ∙ sym (owner-same f give l (p .tasks) (λ x q. same-owner e x)))
+          (λ e. left-none (staysOpen f r l) (at (w .owner) l) e ∙ sym (owner-none give l (p .tasks) (λ x q. nobodys e x)))
+
+      owner-give : (v : ℕ) → at (set (w .owner) l (leftOf (staysOpen f r l) (at (w .owner) l))) v ≡ ownerOf give (p .tasks) v
+      unfolding left
+      owner-give = at-or (λ v. at (set (w .owner) l left) v ≡ ownerOf give (p .tasks) v) l
+          (getD-set-same (w .owner) l left 0 (omega (arith, Y .owner, few-locks O, o .known)) ∙ left-owner)
+          (λ v m. getD-set-other (w .owner) l v left 0 m ∙ W .owner v ∙ sym (owner-same f give v (p .tasks) (λ x q. others v m x)))
 
       back-rank : backOf w ≡ rankOf p give r
       unfolding figuresAfter
@@ -457,11 +472,11 @@ module _ {pr : Protocol} {p : Plan} {f : Figures} {w : Words} (B : Scene pr p f 
           (getD-set-same (w .kept) r (backOf w) 0 (omega (arith, r-place, Y .kept)) ∙ back-rank)
           (λ x m. getD-set-other (w .kept) r x (backOf w) 0 m ∙ kept-give x m)
 
-      give-worded : SoundFigures p give → SoundWords pr p give (wordsAfter pr p (give .released) w (Unlock l))
+      give-worded : SoundFigures p give → SoundWords pr p give (wordsAfter pr p f (give .released) w (Unlock l))
       unfolding wordsAfter afterUnlock leaves restored figuresAfter
-      give-worded G = rw (calls-same O F W l 1) (by-test (callsFor (backOf w) (w .next))
+      give-worded G = rw (calls-same O F W (staysOpen f r l) l 1) (by-test (callsFor (backOf w) (w .next))
           (λ e. subst (SoundWords pr p give) (sym (if-true (callsFor (backOf w) (w .next)) _ _ e))
-          (switch-worded pr O G (restored l 1 w) (set (w .kept) r (backOf w)) give-kept saved-give owner-give (omega (arith, W .lazy))))
+          (switch-worded pr O G (restored (staysOpen f r l) l 1 w) (set (w .kept) r (backOf w)) give-kept saved-give owner-give (omega (arith, W .lazy))))
           (λ e. subst (SoundWords pr p give) (sym (if-false (callsFor (backOf w) (w .next)) _ _ e)) (record {
             idle = W .idle;
             runs = W .runs;
@@ -477,7 +492,7 @@ module _ {pr : Protocol} {p : Plan} {f : Figures} {w : Words} (B : Scene pr p f 
           stay = kept-by p give (w .kept) r own-zero kept-give
 
   pub worded-kept : (e : Event) → Allowed p f r e → SoundFigures p (figuresAfter p f r e)
-      → SoundWords pr p (figuresAfter p f r e) (wordsAfter pr p (figuresAfter p f r e .released) w e)
+      → SoundWords pr p (figuresAfter p f r e) (wordsAfter pr p f (figuresAfter p f r e .released) w e)
   unfolding wordsAfter
   worded-kept (Release t) o G = release-worded o G
   worded-kept (Acquire l) o G = take-worded (o .runs) o G

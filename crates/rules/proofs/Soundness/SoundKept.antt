@@ -13,7 +13,7 @@ use Rattle.rules.specs.Books.Plan.{Obeys}
 use Rattle.rules.specs.Schedulers.Figures.{Figures, figuresOf, freshFigures, rankOf}
 use Rattle.rules.specs.Schedulers.Elect.{elected}
 use Rattle.rules.specs.Schedulers.EventRefusals.{refusalOf}
-use Rattle.rules.specs.Schedulers.FiguresAfter.{figuresAfter}
+use Rattle.rules.specs.Schedulers.FiguresAfter.{staysOpen, leftOf, figuresAfter}
 use Rattle.rules.specs.Schedulers.Lazy.{Words, WordsSized, wordsOf, entering, runsOn, switched, stays}
 use Rattle.rules.specs.Schedulers.Lazy.{afterRelease, afterAcquire, restored, leaves, afterUnlock, wordsAfter}
 use Rattle.rules.specs.Schedulers.State.{freshOf}
@@ -46,12 +46,12 @@ unfolding switched runsOn
 switched-sized pr n released kept w Y e =
     record { kept = set-length kept (elected (at released) (at kept) n) 0 maxTasks e; saved = Y .saved; owner = Y .owner }
 
-restored-sized : (l c : ℕ) (w : Words) → WordsSized w → WordsSized (restored l c w)
+restored-sized : (stays : Bool) (l c : ℕ) (w : Words) → WordsSized w → WordsSized (restored stays l c w)
 unfolding restored
-restored-sized l c w Y = record {
+restored-sized stays l c w Y = record {
   kept = Y .kept;
   saved = set-length (w .saved) (w .running) (under (at (w .saved) (w .running))) maxTasks (Y .saved);
-  owner = set-length (w .owner) l 0 maxLocks (Y .owner);
+  owner = set-length (w .owner) l (leftOf stays (at (w .owner) l)) maxLocks (Y .owner);
 }
 
 entering-sized : (maximum : List ℕ) (w : Words) → WordsSized w → WordsSized (entering maximum w)
@@ -63,28 +63,29 @@ unfolding leaves
 leaves-sized pr n released w Y = switched-sized pr n released (set (w .kept) (w .running) (w .user)) w Y
     (set-length (w .kept) (w .running) (w .user) maxTasks (Y .kept))
 
-pub words-sized : (pr : Protocol) (p : Plan) (released : List ℕ) (w : Words) (e : Event) → WordsSized w → WordsSized (wordsAfter pr p released w e)
+pub words-sized : (pr : Protocol) (p : Plan) (f : Figures) (released : List ℕ) (w : Words) (e : Event) → WordsSized w
+    → WordsSized (wordsAfter pr p f released w e)
 unfolding wordsAfter afterRelease stays afterAcquire afterUnlock
-words-sized pr p released w (Release t) Y =
+words-sized pr p f released w (Release t) Y =
     let k : length (set (w .kept) t (at (p .base) t)) ≡ maxTasks = set-length (w .kept) t (at (p .base) t) maxTasks (Y .kept) in
     let v : Words = entering (p .maximum) w in
     either WordsSized _ _ _
     (switched-sized pr (p .tasks) released (set (set (w .kept) t (at (p .base) t)) (v .running) (v .user)) v (entering-sized (p .maximum) w Y)
     (set-length (set (w .kept) t (at (p .base) t)) (v .running) (v .user) maxTasks k))
     (record { kept = k; saved = entering-sized (p .maximum) w Y .saved; owner = entering-sized (p .maximum) w Y .owner })
-words-sized pr p released w (Acquire l) Y = record {
+words-sized pr p f released w (Acquire l) Y = record {
   kept = Y .kept;
   saved = set-length (w .saved) (w .running) (pushed (at (w .saved) (w .running)) (w .user)) maxTasks (Y .saved);
   owner = set-length (w .owner) l (w .running + 1) maxLocks (Y .owner);
 }
-words-sized pr p released w (Unlock l) Y =
+words-sized pr p f released w (Unlock l) Y =
     either WordsSized _ _ _
-    (leaves-sized pr (p .tasks) released _ (entering-sized (p .maximum) _ (restored-sized l 1 w Y)))
-    (restored-sized l 0 w Y)
-words-sized pr p released w (Work a) Y = Y
-words-sized pr p released w Finish Y = switched-sized pr (p .tasks) released (set (w .kept) (w .running) 0) _ (entering-sized (p .maximum) w Y)
+    (leaves-sized pr (p .tasks) released _ (entering-sized (p .maximum) _ (restored-sized (staysOpen f (w .running) l) l 1 w Y)))
+    (restored-sized (staysOpen f (w .running) l) l 0 w Y)
+words-sized pr p f released w (Work a) Y = Y
+words-sized pr p f released w Finish Y = switched-sized pr (p .tasks) released (set (w .kept) (w .running) 0) _ (entering-sized (p .maximum) w Y)
     (set-length (w .kept) (w .running) 0 maxTasks (Y .kept))
-words-sized pr p released w Tick Y = record { kept = Y .kept; saved = entering-sized (p .maximum) w Y .saved; owner = entering-sized (p .maximum) w Y .owner }
+words-sized pr p f released w Tick Y = record { kept = Y .kept; saved = entering-sized (p .maximum) w Y .saved; owner = entering-sized (p .maximum) w Y .owner }
 
 pub scene : {pr : Protocol} {p : Plan} {s : State} → SoundAndSized pr p s → s .head .accepted < maxAccepted → Scene pr p (figuresOf s) (wordsOf s)
 scene S room = record {
@@ -142,7 +143,7 @@ module _ {pr : Protocol} {p : Plan} {s : State} (S : SoundAndSized pr p s) where
       let G : SoundFigures p (figuresAfter p f r e) = figured-kept (X .plan) (S .figuresSized) (X .figures) r (X .words .runs) e z in
       record {
         figuresSized = sized-moved p f r e (S .figuresSized);
-        wordsSized = words-sized pr p (figuresAfter p f r e .released) (wordsOf s) e (S .wordsSized);
+        wordsSized = words-sized pr p f (figuresAfter p f r e .released) (wordsOf s) e (S .wordsSized);
         sound = record {
           plan = X .plan;
           figures = G;

@@ -8,13 +8,13 @@ use native.Mathlib.Numerals.{add-one}
 use native.Mathlib.Omega.{arith}
 use lib.Dec.{eqb, ltb}
 use borrow.Author.Tests.{eqb-true, eqb-false, leb-true, ltb-true, eq-eqb, ne-eqb, le-leb, lt-ltb, not-true}
-use Rattle.rules.specs.Numbers.Capacity.{maxOpen, maxAccepted, maxDelay, nobody}
+use Rattle.rules.specs.Numbers.Capacity.{maxTakes, maxAccepted, maxDelay, nobody}
 use Rattle.rules.specs.Numbers.Place.{at, every, greatest}
 use Rattle.rules.specs.Numbers.Row.{newest, under, has, saves}
 use Rattle.rules.specs.Books.Plan.{countFault, taskFault, lockFault, ceilingFault, maximumFault, aboveFault, declares, Obeys}
 use Rattle.rules.specs.Schedulers.Figures.{Figures, figuresOf, holds, rankOf}
 use Rattle.rules.specs.Schedulers.Lazy.{Words, wordsOf}
-use Rattle.rules.specs.Soundness.Sound.{distinct, SoundFigures, keptOf, savedOf, ownerOf, SoundSecond, SoundWords, Sound}
+use Rattle.rules.specs.Soundness.Sound.{SoundFigures, keptOf, savedOf, ownerOf, SoundSecond, SoundWords, Sound}
 use Rattle.rules.specs.Soundness.SoundTest.{taskObeys, lockObeys, spareObeys, obeys, rowTest, ownTest, numberNew}
 use Rattle.rules.specs.Soundness.SoundTest.{numberTest, taskTest, lockTest, runsTest, secondTest, headTest, spareTest, soundTest}
 use Rattle.rules.specs.declared.plan.Plan.{Plan}
@@ -141,50 +141,40 @@ module _ (p : Plan) (x : ℕ) where
   pub record RowOk (row k : ℕ) : Type 0 where
     pub known : (l : ℕ) → has row k l ≡ true → l < p .locks
     pub declared : (l : ℕ) → has row k l ≡ true → declares p x l ≡ true
-    pub once : distinct row k ≡ true
     pub places : row < 256 ^ k
 
   -- the newest is right, and so is the rest
-  row-more : (row k : ℕ) → RowOk (under row) k → newest row < p .locks → declares p x (newest row) ≡ true → not (has (under row) k (newest row)) ≡ true
-      → RowOk row (suc k)
-  unfolding distinct
-  row-more row k R a b c = record {
+  row-more : (row k : ℕ) → RowOk (under row) k → newest row < p .locks → declares p x (newest row) ≡ true → RowOk row (suc k)
+  row-more row k R a b = record {
     known = λ l h. ⊎-elim (λ q. omega (arith, a)) (λ q. R .known l q) (has-cases row k l h);
     declared = λ l h. ⊎-elim (λ q. subst (λ l. declares p x l ≡ true) q b) (λ q. R .declared l q) (has-cases row k l h);
-    once = true-and (not (has (under row) k (newest row))) (distinct (under row) k) c (R .once);
     places = omega (arith, R .places);
   }
 
   row-so : (row k : ℕ) → rowTest (p .locks) (at (p .uses) x) row k ≡ true → RowOk row k
-  unfolding rowTest distinct declares Each
+  unfolding rowTest declares Each
   row-so row zero e = record {
     known = λ l h. untrue (sym h ∙ has-none row l);
     declared = λ l h. untrue (sym h ∙ has-none row l);
-    once = refl;
     places = omega (arith, eqb-true row 0 e);
   }
-  row-so row (suc k) e = let (a, (b, (c, (d, _)))) = all-so _ e in row-more row k (row-so (under row) k d) (ltb-true _ _ a) b c
+  row-so row (suc k) e = let (a, (b, (c, _))) = all-so _ e in row-more row k (row-so (under row) k c) (ltb-true _ _ a) b
 
   so-row : (row k : ℕ) → RowOk row k → rowTest (p .locks) (at (p .uses) x) row k ≡ true
-  unfolding rowTest distinct declares Each
+  unfolding rowTest declares Each
   so-row row zero R = eq-eqb row 0 (omega (arith, R .places))
   so-row row (suc k) R =
-      let (c, d) = and-true (not (has (under row) k (newest row))) (distinct (under row) k) (R .once) in
       so-all _ (
         lt-ltb _ _ (R .known (newest row) (has-newest row k)),
         (
           R .declared (newest row) (has-newest row k),
           (
-            c,
-            (
-              so-row (under row) k (record {
-                known = λ l h. R .known l (has-under row k l h);
-                declared = λ l h. R .declared l (has-under row k l h);
-                once = d;
-                places = places-under row k (R .places);
-              }),
-              tt,
-            ),
+            so-row (under row) k (record {
+              known = λ l h. R .known l (has-under row k l h);
+              declared = λ l h. R .declared l (has-under row k l h);
+              places = places-under row k (R .places);
+            }),
+            tt,
           ),
         ),
       )
@@ -239,7 +229,7 @@ module _ (accepted : ℕ) (released : List ℕ) (depth x : ℕ) where
 
 module _ (p : Plan) (f : Figures) (w : Words) where
   record TaskOk (x : ℕ) : Type 0 where
-    depth : at (f .depth) x ≤ maxOpen
+    depth : at (f .depth) x ≤ maxTakes
     row : RowOk p x (at (f .takes) x) (at (f .depth) x)
     own : (l : ℕ) → holds f x l ≡ true → at (w .owner) l ≡ suc x
     resting : at (f .released) x ≡ 0 → at (f .depth) x ≡ 0
@@ -422,7 +412,7 @@ module _ (p : Plan) (s : State) where
     ),
   )
 
--- without open locks nothing is saved
+-- without takes nothing is saved
 pub unsaved-by : (p : Plan) (f : Figures) (x : ℕ) → at (f .depth) x ≡ 0 → savedOf p f x ≡ 0
 unfolding savedOf
 unsaved-by p f x z = ap (saves (at (p .ceiling)) (at (p .base) x) (at (f .takes) x)) z ∙ saves-none (at (p .ceiling)) (at (p .base) x) (at (f .takes) x)
@@ -462,17 +452,15 @@ module _ (pr : Protocol) (p : Plan) (s : State) where
     allowed x l h = T x (mine x l h .0) .row .declared l h
 
     figured : SoundFigures p f
-    unfolding distinct
     figured = record {
       events = H .events;
       numbers = each (λ x. at (f .released) x ≤ f .accepted) (λ x h. T x h .number) (λ x h. omega (arith, S .released x h));
       differ = λ x y o e. apart x y o e;
       eager = H .eager;
-      depth = each (λ x. at (f .depth) x ≤ maxOpen) (λ x h. T x h .depth) (λ x h. omega (arith, S .depth x h));
+      depth = each (λ x. at (f .depth) x ≤ maxTakes) (λ x h. T x h .depth) (λ x h. omega (arith, S .depth x h));
       known = known;
       declared = allowed;
       resting = each (λ x. at (f .released) x ≡ 0 → at (f .depth) x ≡ 0) (λ x h. T x h .resting) (λ x h z. S .depth x h);
-      once = each (λ x. distinct (at (f .takes) x) (at (f .depth) x) ≡ true) (λ x h. T x h .row .once) (λ x h. ap (distinct (at (f .takes) x)) (S .depth x h));
       alone = λ x y l h k. omega (arith, mine x l h .1, mine y l k .1);
       limits = λ l. ⊎-elim (λ h. L l h .1) (λ h. omega (arith, S .units l h)) (lt-or-le l (p .locks));
       delays = each (λ x. at (f .delay) x ≤ maxDelay) (λ x h. T x h .delay) (λ x h. omega (arith, S .delay x h));
@@ -523,7 +511,7 @@ module _ (pr : Protocol) (p : Plan) (s : State) where
     unfolding holds
     so-tasks x h = record {
       depth = X .figures .depth x;
-      row = record { known = X .figures .known x; declared = X .figures .declared x; once = X .figures .once x; places = X .figures .places x };
+      row = record { known = X .figures .known x; declared = X .figures .declared x; places = X .figures .places x };
       own = owned x;
       resting = X .figures .resting x;
       number = X .figures .numbers x;

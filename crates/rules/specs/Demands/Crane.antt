@@ -1,5 +1,5 @@
--- RULES 18.1, 18.2, 18.6 to 18.8 and 18.10: the crane plan and its runs P1 to P12, one for the calls, by both protocols, the plan with other users and other
--- maxima, and the kernel's cut, as one table under one claim. Assumes nothing.
+-- RULES 18.1, 18.2, 18.6 to 18.8 and 18.10 to 18.12: the crane plan and its runs P1 to P12, one for the calls, those with takes of an open lock, by both
+-- protocols, the plan with other users and other maxima, and the kernel's cut, as one table under one claim. Assumes nothing.
 use mathlib.Core.Bool.{Bool, true, false, _&&_}
 use mathlib.Core.List.{List, [], _∷_, _++_}
 use Prim.Native.Nat.{ℕ, suc}
@@ -19,11 +19,11 @@ use Rattle.rules.specs.Books.Bytes.{wordBytes, longBytes, bookOf}
 use Rattle.rules.specs.Books.Write.{wholeChecks, writeChecks, wroteAs, writeOf}
 use Rattle.rules.specs.Schedulers.State.{freshOf}
 use Rattle.rules.specs.Numbers.Row.{has, priority, saves}
-use Rattle.rules.specs.Schedulers.Figures.{holds, priorityOf, rankOf}
+use Rattle.rules.specs.Schedulers.Figures.{Figures, holds, priorityOf, rankOf}
 use Rattle.rules.specs.Schedulers.Elect.{earlier, earliest, elected}
 use Rattle.rules.specs.Schedulers.EventRefusals.{elsewhere, notNewest, pastLimit, testsOf, releaseOrder}
 use Rattle.rules.specs.Schedulers.EventRefusals.{acquireOrder, unlockOrder, workOrder, finishOrder, refusalOf}
-use Rattle.rules.specs.Schedulers.FiguresAfter.{differs, eagerCalls, charged, delayed, figuresAfter}
+use Rattle.rules.specs.Schedulers.FiguresAfter.{differs, eagerCalls, staysOpen, leftOf, charged, delayed, figuresAfter}
 use Rattle.rules.specs.Schedulers.Eager.{runningOf, settle, eagerTest, eagerStep}
 use Rattle.rules.specs.Schedulers.Protocol.{secondWord}
 use Rattle.rules.specs.Schedulers.Lazy.{Words, callsFor, cutTo, entering, runsOn, switched, stays, afterRelease, afterAcquire}
@@ -62,6 +62,10 @@ eventNumbers = 0x0001 ∷ 0x0002 ∷ 0x0101 ∷ 0x2_0004 ∷ 0x0003 ∷ 0x0005 �
 crane : Plan
 crane = planOf taskNumbers lockNumbers useNumbers
 
+-- RULES 18.11: the plan of the paper's run: a task at 1, and locks at 2 and 3
+paper : Plan
+paper = planOf (0x0301 ∷ 0x0202 ∷ 0x0303 ∷ []) (0x4_0002 ∷ 0x2_0003 ∷ []) (0x0000 ∷ 0x0100 ∷ 0x0001 ∷ 0x0102 ∷ [])
+
 -- the book of P1: contents, tasks, locks, uses, events
 unfoldable pub book : List ℕ
 book =
@@ -83,9 +87,9 @@ book =
 
 -- a case of the table
 data Case : Type 0 where
-  -- a list of events from a fresh start; a row for each (running, user word, next word, call; and by the first protocol, where running and user word are the
-  -- same, kernel word, call), or the number of the refusal that ends the run; and the end by both
-  run : List Event → List (List ℕ) → List ℕ → List ℕ → Case
+  -- a list of events of a plan from a fresh start; a row for each (running, user word, next word, call; and by the first protocol, where running and user word
+  -- are the same, kernel word, call), or the number of the refusal that ends the run; and the end by both
+  run : Plan → List Event → List (List ℕ) → List ℕ → List ℕ → Case
   -- the bounds of the four tasks
   bounds : List ℕ → Case
   -- a book by a protocol, its row bytes, and the end
@@ -113,9 +117,9 @@ rowOf : Answer → State → (State → List (List ℕ)) → List (List ℕ)
 rowOf (Answer.Accepted call) s rest = (s .head .running ∷ s .head .user .0 ∷ s .head .next .0 ∷ (if call then 1 else 0) ∷ []) ∷ rest s
 rowOf (Answer.Refused why) s rest = (numberOf why ∷ []) ∷ []
 
-rowsOf : Protocol → State → List Event → List (List ℕ)
-rowsOf pr s [] = []
-rowsOf pr s (e ∷ es) = rowOf (stepOf pr crane s e .answer) (stepOf pr crane s e .state) (λ t. rowsOf pr t es)
+rowsOf : Protocol → Plan → State → List Event → List (List ℕ)
+rowsOf pr p s [] = []
+rowsOf pr p s (e ∷ es) = rowOf (stepOf pr p s e .answer) (stepOf pr p s e .state) (λ t. rowsOf pr p t es)
 
 same : List ℕ → List ℕ → Bool
 same [] [] = true
@@ -131,13 +135,13 @@ sames pr (x ∷ xs) [] = false
 sames pr (x ∷ xs) (y ∷ ys) = same x (rowBy pr y) && sames pr xs ys
 
 -- the running task of the one scheduler is that of the other at place k
-agree : Protocol → List Event → ℕ → Bool
-agree pr es k = eqb (lazyAt pr crane es k .head .running) (runnerAt crane es k)
+agree : Protocol → Plan → List Event → ℕ → Bool
+agree pr p es k = eqb (lazyAt pr p es k .head .running) (runnerAt p es k)
 
 -- the run of a list by the one protocol, with its end in two parts
-ranRight : Protocol → List Event → List (List ℕ) → List ℕ → List ℕ → Bool
-ranRight pr es rows end rest =
-    sames pr (rowsOf pr freshOf es) rows && same (endOf (lazyAt pr crane es (length es))) (rowBy pr end ++ rest) && every (agree pr es) (suc (length es))
+ranRight : Protocol → Plan → List Event → List (List ℕ) → List ℕ → List ℕ → Bool
+ranRight pr p es rows end rest =
+    sames pr (rowsOf pr p freshOf es) rows && same (endOf (lazyAt pr p es (length es))) (rowBy pr end ++ rest) && every (agree pr p es) (suc (length es))
 
 -- a verdict has this number and place
 given : ℕ → ℕ → Verdict → Bool
@@ -159,12 +163,25 @@ wordsWith user second saved =
       owner = 1 ∷ 0 ∷ [];
     }
 
+-- beside figures in which task 0 has one take, of lock 0
+oneTake : Figures
+oneTake =
+    record {
+      accepted = 2;
+      eager = 0;
+      released = 1 ∷ 2 ∷ 0 ∷ 0 ∷ [];
+      delay = replicate 4 0;
+      depth = 1 ∷ 0 ∷ 0 ∷ 0 ∷ [];
+      takes = replicate 4 0;
+      units = replicate 2 0;
+    }
+
 wordsRight : Protocol → Words → Event → List ℕ
 wordsRight pr w e =
-    let v = wordsAfter pr crane (1 ∷ 2 ∷ 3 ∷ 3 ∷ []) w e in v .running ∷ v .user ∷ v .next ∷ v .lazy ∷ v .kept
+    let v = wordsAfter pr crane oneTake (1 ∷ 2 ∷ 3 ∷ 3 ∷ []) w e in v .running ∷ v .user ∷ v .next ∷ v .lazy ∷ v .kept
 
 right : Case → Bool
-right (run es rows end rest) = ranRight Second es rows end rest && ranRight First es rows end rest
+right (run p es rows end rest) = ranRight Second p es rows end rest && ranRight First p es rows end rest
 right (bounds bs) = same (tabulate 4 (boundOf crane)) bs
 right (replay pr b rows end) =
     let r = replayOf pr b (replicate (length rows) 0) in eqb (verdictNumber (r .verdict)) 0 && same (r .rows) rows && same (endOf (r .state)) end
@@ -196,61 +213,103 @@ cases =
     ∷ write eventNumbers 86 (0 ∷ 0 ∷ 84 ∷ []) (book ++ replicate 2 7)
     ∷ write eventNumbers 83 (23 ∷ 0 ∷ 0 ∷ []) (replicate 83 7)
     ∷ write (eventNumbers ++ 0x0007 ∷ []) 83 (8 ∷ 7 ∷ 0 ∷ []) (replicate 83 7)
-    ∷ run (Release 0 ∷ Acquire 0 ∷ Release 1 ∷ Work 2 ∷ Unlock 0 ∷ Finish ∷ Finish ∷ [])
+    ∷ run crane (Release 0 ∷ Acquire 0 ∷ Release 1 ∷ Work 2 ∷ Unlock 0 ∷ Finish ∷ Finish ∷ [])
     ((0 ∷ 1 ∷ 0 ∷ 0 ∷ 1 ∷ 0 ∷ []) ∷ (0 ∷ 5 ∷ 0 ∷ 0 ∷ 1 ∷ 0 ∷ []) ∷ (0 ∷ 5 ∷ 3 ∷ 0 ∷ 5 ∷ 0 ∷ []) ∷ (0 ∷ 5 ∷ 3 ∷ 0 ∷ 5 ∷ 0 ∷ [])
     ∷ (1 ∷ 3 ∷ 1 ∷ 1 ∷ 3 ∷ 1 ∷ []) ∷ (0 ∷ 1 ∷ 0 ∷ 0 ∷ 1 ∷ 0 ∷ []) ∷ (255 ∷ 0 ∷ 0 ∷ 0 ∷ 0 ∷ 0 ∷ []) ∷ [])
     (255 ∷ 0 ∷ 0 ∷ 1 ∷ 0 ∷ 1 ∷ []) (2 ∷ 0 ∷ 2 ∷ 0 ∷ 0 ∷ [])
     -- P2: the inner unlock restores 3, as great as the next word, and does not call; the outer one does, and task 1 runs. The kernel word is 5 since the
     -- release, so by the first protocol the inner one calls too, and task 0 runs again
-    ∷ run (Release 0 ∷ Acquire 1 ∷ Acquire 0 ∷ Release 1 ∷ Unlock 0 ∷ Unlock 1 ∷ [])
+    ∷ run crane (Release 0 ∷ Acquire 1 ∷ Acquire 0 ∷ Release 1 ∷ Unlock 0 ∷ Unlock 1 ∷ [])
     ((0 ∷ 1 ∷ 0 ∷ 0 ∷ 1 ∷ 0 ∷ []) ∷ (0 ∷ 3 ∷ 0 ∷ 0 ∷ 1 ∷ 0 ∷ []) ∷ (0 ∷ 5 ∷ 0 ∷ 0 ∷ 1 ∷ 0 ∷ []) ∷ (0 ∷ 5 ∷ 3 ∷ 0 ∷ 5 ∷ 0 ∷ [])
     ∷ (0 ∷ 3 ∷ 3 ∷ 0 ∷ 3 ∷ 1 ∷ []) ∷ (1 ∷ 3 ∷ 1 ∷ 1 ∷ 3 ∷ 1 ∷ []) ∷ [])
     (1 ∷ 3 ∷ 1 ∷ 1 ∷ 3 ∷ 2 ∷ []) (4 ∷ 0 ∷ 0 ∷ 0 ∷ 0 ∷ [])
     -- P3: task 2 waits while both words are 5, until the unlock calls
-    ∷ run (Release 0 ∷ Acquire 0 ∷ Release 2 ∷ Unlock 0 ∷ [])
+    ∷ run crane (Release 0 ∷ Acquire 0 ∷ Release 2 ∷ Unlock 0 ∷ [])
     ((0 ∷ 1 ∷ 0 ∷ 0 ∷ 1 ∷ 0 ∷ []) ∷ (0 ∷ 5 ∷ 0 ∷ 0 ∷ 1 ∷ 0 ∷ []) ∷ (0 ∷ 5 ∷ 5 ∷ 0 ∷ 5 ∷ 0 ∷ []) ∷ (2 ∷ 5 ∷ 1 ∷ 1 ∷ 5 ∷ 1 ∷ []) ∷ [])
     (2 ∷ 5 ∷ 1 ∷ 1 ∷ 5 ∷ 1 ∷ []) (2 ∷ 0 ∷ 0 ∷ 0 ∷ 0 ∷ [])
     -- P4: after task 3 has finished task 0 runs again, and not task 2
-    ∷ run (Release 0 ∷ Acquire 0 ∷ Release 2 ∷ Release 3 ∷ Finish ∷ [])
+    ∷ run crane (Release 0 ∷ Acquire 0 ∷ Release 2 ∷ Release 3 ∷ Finish ∷ [])
     ((0 ∷ 1 ∷ 0 ∷ 0 ∷ 1 ∷ 0 ∷ []) ∷ (0 ∷ 5 ∷ 0 ∷ 0 ∷ 1 ∷ 0 ∷ []) ∷ (0 ∷ 5 ∷ 5 ∷ 0 ∷ 5 ∷ 0 ∷ []) ∷ (3 ∷ 7 ∷ 5 ∷ 0 ∷ 7 ∷ 0 ∷ [])
     ∷ (0 ∷ 5 ∷ 5 ∷ 0 ∷ 5 ∷ 0 ∷ []) ∷ [])
     (0 ∷ 5 ∷ 5 ∷ 0 ∷ 5 ∷ 0 ∷ []) (1 ∷ 0 ∷ 0 ∷ 0 ∷ 0 ∷ [])
     -- P5: a section is worked up to its limit, and one unit more is refused
-    ∷ run (Release 0 ∷ Acquire 0 ∷ Work 4 ∷ Work 1 ∷ [])
+    ∷ run crane (Release 0 ∷ Acquire 0 ∷ Work 4 ∷ Work 1 ∷ [])
     ((0 ∷ 1 ∷ 0 ∷ 0 ∷ 1 ∷ 0 ∷ []) ∷ (0 ∷ 5 ∷ 0 ∷ 0 ∷ 1 ∷ 0 ∷ []) ∷ (0 ∷ 5 ∷ 0 ∷ 0 ∷ 1 ∷ 0 ∷ []) ∷ (21 ∷ []) ∷ [])
     (0 ∷ 5 ∷ 0 ∷ 0 ∷ 1 ∷ 0 ∷ []) (1 ∷ 0 ∷ 0 ∷ 0 ∷ 0 ∷ [])
-    -- P6: not the newest lock
-    ∷ run (Release 0 ∷ Acquire 1 ∷ Acquire 0 ∷ Unlock 1 ∷ [])
+    -- P6: the newest take is of another lock
+    ∷ run crane (Release 0 ∷ Acquire 1 ∷ Acquire 0 ∷ Unlock 1 ∷ [])
     ((0 ∷ 1 ∷ 0 ∷ 0 ∷ 1 ∷ 0 ∷ []) ∷ (0 ∷ 3 ∷ 0 ∷ 0 ∷ 1 ∷ 0 ∷ []) ∷ (0 ∷ 5 ∷ 0 ∷ 0 ∷ 1 ∷ 0 ∷ []) ∷ (19 ∷ []) ∷ [])
     (0 ∷ 5 ∷ 0 ∷ 0 ∷ 1 ∷ 0 ∷ []) (2 ∷ 0 ∷ 0 ∷ 0 ∷ 0 ∷ [])
     -- P7: a lock is open
-    ∷ run (Release 0 ∷ Acquire 0 ∷ Finish ∷ [])
+    ∷ run crane (Release 0 ∷ Acquire 0 ∷ Finish ∷ [])
     ((0 ∷ 1 ∷ 0 ∷ 0 ∷ 1 ∷ 0 ∷ []) ∷ (0 ∷ 5 ∷ 0 ∷ 0 ∷ 1 ∷ 0 ∷ []) ∷ (22 ∷ []) ∷ [])
     (0 ∷ 5 ∷ 0 ∷ 0 ∷ 1 ∷ 0 ∷ []) (1 ∷ 0 ∷ 0 ∷ 0 ∷ 0 ∷ [])
     -- P8: released twice
-    ∷ run (Release 0 ∷ Release 0 ∷ [])
+    ∷ run crane (Release 0 ∷ Release 0 ∷ [])
     ((0 ∷ 1 ∷ 0 ∷ 0 ∷ 1 ∷ 0 ∷ []) ∷ (14 ∷ []) ∷ [])
     (0 ∷ 1 ∷ 0 ∷ 0 ∷ 1 ∷ 0 ∷ []) (0 ∷ 0 ∷ 0 ∷ 0 ∷ 0 ∷ [])
     -- P9: no use of the lock
-    ∷ run (Release 1 ∷ Acquire 0 ∷ [])
+    ∷ run crane (Release 1 ∷ Acquire 0 ∷ [])
     ((1 ∷ 3 ∷ 0 ∷ 0 ∷ 3 ∷ 0 ∷ []) ∷ (15 ∷ []) ∷ [])
     (1 ∷ 3 ∷ 0 ∷ 0 ∷ 3 ∷ 0 ∷ []) (0 ∷ 0 ∷ 0 ∷ 0 ∷ 0 ∷ [])
     -- P10: the fresh start
-    ∷ run [] []
+    ∷ run crane [] []
     (255 ∷ 0 ∷ 0 ∷ 0 ∷ 0 ∷ 0 ∷ []) (0 ∷ 0 ∷ 0 ∷ 0 ∷ 0 ∷ [])
     -- P11: the bounds
     ∷ bounds (0 ∷ 10 ∷ 4 ∷ 0 ∷ [])
     -- P12: task 1 is delayed by its bound, and one unit more is refused
-    ∷ run (Release 0 ∷ Acquire 1 ∷ Release 1 ∷ Work 10 ∷ Work 1 ∷ [])
+    ∷ run crane (Release 0 ∷ Acquire 1 ∷ Release 1 ∷ Work 10 ∷ Work 1 ∷ [])
     ((0 ∷ 1 ∷ 0 ∷ 0 ∷ 1 ∷ 0 ∷ []) ∷ (0 ∷ 3 ∷ 0 ∷ 0 ∷ 1 ∷ 0 ∷ []) ∷ (0 ∷ 3 ∷ 3 ∷ 0 ∷ 3 ∷ 0 ∷ []) ∷ (0 ∷ 3 ∷ 3 ∷ 0 ∷ 3 ∷ 0 ∷ []) ∷ (21 ∷ []) ∷ [])
     (0 ∷ 3 ∷ 3 ∷ 0 ∷ 3 ∷ 0 ∷ []) (1 ∷ 0 ∷ 10 ∷ 0 ∷ 0 ∷ [])
     -- RULES 18.6: of six acquires and unlocks two change a priority, and are eager calls. Lock 1 inside lock 0 changes none, nor does it for task 1, whose
     -- base is its ceiling; and a tick is no call. By the first protocol it sets the kernel word inside the section, so that the unlock calls
-    ∷ run (Release 0 ∷ Acquire 0 ∷ Acquire 1 ∷ Unlock 1 ∷ Tick ∷ Unlock 0 ∷ Finish ∷ Release 1 ∷ Acquire 1 ∷ Unlock 1 ∷ Finish ∷ [])
+    ∷ run crane (Release 0 ∷ Acquire 0 ∷ Acquire 1 ∷ Unlock 1 ∷ Tick ∷ Unlock 0 ∷ Finish ∷ Release 1 ∷ Acquire 1 ∷ Unlock 1 ∷ Finish ∷ [])
     ((0 ∷ 1 ∷ 0 ∷ 0 ∷ 1 ∷ 0 ∷ []) ∷ (0 ∷ 5 ∷ 0 ∷ 0 ∷ 1 ∷ 0 ∷ []) ∷ (0 ∷ 5 ∷ 0 ∷ 0 ∷ 1 ∷ 0 ∷ []) ∷ (0 ∷ 5 ∷ 0 ∷ 0 ∷ 1 ∷ 0 ∷ [])
     ∷ (0 ∷ 5 ∷ 0 ∷ 0 ∷ 5 ∷ 0 ∷ []) ∷ (0 ∷ 1 ∷ 0 ∷ 0 ∷ 1 ∷ 1 ∷ []) ∷ (255 ∷ 0 ∷ 0 ∷ 0 ∷ 0 ∷ 0 ∷ []) ∷ (1 ∷ 3 ∷ 0 ∷ 0 ∷ 3 ∷ 0 ∷ [])
     ∷ (1 ∷ 3 ∷ 0 ∷ 0 ∷ 3 ∷ 0 ∷ []) ∷ (1 ∷ 3 ∷ 0 ∷ 0 ∷ 3 ∷ 0 ∷ []) ∷ (255 ∷ 0 ∷ 0 ∷ 0 ∷ 0 ∷ 0 ∷ []) ∷ [])
     (255 ∷ 0 ∷ 0 ∷ 0 ∷ 0 ∷ 1 ∷ []) (2 ∷ 0 ∷ 0 ∷ 0 ∷ 0 ∷ [])
+    -- RULES 18.11: the paper's run. The second take of lock 0, inside lock 1, raises nothing, and its unlock restores what was
+    ∷ run paper (Release 0 ∷ Acquire 0 ∷ Acquire 1 ∷ Acquire 0 ∷ Unlock 0 ∷ Unlock 1 ∷ Unlock 0 ∷ Finish ∷ [])
+    ((0 ∷ 1 ∷ 0 ∷ 0 ∷ 1 ∷ 0 ∷ []) ∷ (0 ∷ 2 ∷ 0 ∷ 0 ∷ 1 ∷ 0 ∷ []) ∷ (0 ∷ 3 ∷ 0 ∷ 0 ∷ 1 ∷ 0 ∷ []) ∷ (0 ∷ 3 ∷ 0 ∷ 0 ∷ 1 ∷ 0 ∷ [])
+    ∷ (0 ∷ 3 ∷ 0 ∷ 0 ∷ 1 ∷ 0 ∷ []) ∷ (0 ∷ 2 ∷ 0 ∷ 0 ∷ 1 ∷ 0 ∷ []) ∷ (0 ∷ 1 ∷ 0 ∷ 0 ∷ 1 ∷ 0 ∷ []) ∷ (255 ∷ 0 ∷ 0 ∷ 0 ∷ 0 ∷ 0 ∷ []) ∷ [])
+    (255 ∷ 0 ∷ 0 ∷ 0 ∷ 0 ∷ 0 ∷ []) (4 ∷ 0 ∷ 0 ∷ 0 ∷ 0 ∷ [])
+    -- RULES 18.12, T1: the units of a section are counted over both takes, once, up to its limit
+    ∷ run crane (Release 0 ∷ Acquire 0 ∷ Work 1 ∷ Acquire 0 ∷ Release 2 ∷ Work 2 ∷ Unlock 0 ∷ Work 1 ∷ Work 1 ∷ [])
+    ((0 ∷ 1 ∷ 0 ∷ 0 ∷ 1 ∷ 0 ∷ []) ∷ (0 ∷ 5 ∷ 0 ∷ 0 ∷ 1 ∷ 0 ∷ []) ∷ (0 ∷ 5 ∷ 0 ∷ 0 ∷ 1 ∷ 0 ∷ []) ∷ (0 ∷ 5 ∷ 0 ∷ 0 ∷ 1 ∷ 0 ∷ [])
+    ∷ (0 ∷ 5 ∷ 5 ∷ 0 ∷ 5 ∷ 0 ∷ []) ∷ (0 ∷ 5 ∷ 5 ∷ 0 ∷ 5 ∷ 0 ∷ []) ∷ (0 ∷ 5 ∷ 5 ∷ 0 ∷ 5 ∷ 0 ∷ []) ∷ (0 ∷ 5 ∷ 5 ∷ 0 ∷ 5 ∷ 0 ∷ []) ∷ (21 ∷ []) ∷ [])
+    (0 ∷ 5 ∷ 5 ∷ 0 ∷ 5 ∷ 0 ∷ []) (1 ∷ 0 ∷ 0 ∷ 3 ∷ 0 ∷ [])
+    -- T2: the lock is given back with its last take, so the second unlock calls
+    ∷ run crane (Release 0 ∷ Acquire 0 ∷ Work 1 ∷ Acquire 0 ∷ Release 2 ∷ Work 2 ∷ Unlock 0 ∷ Work 1 ∷ Unlock 0 ∷ Finish ∷ [])
+    ((0 ∷ 1 ∷ 0 ∷ 0 ∷ 1 ∷ 0 ∷ []) ∷ (0 ∷ 5 ∷ 0 ∷ 0 ∷ 1 ∷ 0 ∷ []) ∷ (0 ∷ 5 ∷ 0 ∷ 0 ∷ 1 ∷ 0 ∷ []) ∷ (0 ∷ 5 ∷ 0 ∷ 0 ∷ 1 ∷ 0 ∷ [])
+    ∷ (0 ∷ 5 ∷ 5 ∷ 0 ∷ 5 ∷ 0 ∷ []) ∷ (0 ∷ 5 ∷ 5 ∷ 0 ∷ 5 ∷ 0 ∷ []) ∷ (0 ∷ 5 ∷ 5 ∷ 0 ∷ 5 ∷ 0 ∷ []) ∷ (0 ∷ 5 ∷ 5 ∷ 0 ∷ 5 ∷ 0 ∷ [])
+    ∷ (2 ∷ 5 ∷ 1 ∷ 1 ∷ 5 ∷ 1 ∷ []) ∷ (0 ∷ 1 ∷ 0 ∷ 0 ∷ 1 ∷ 0 ∷ []) ∷ [])
+    (0 ∷ 1 ∷ 0 ∷ 1 ∷ 1 ∷ 1 ∷ []) (2 ∷ 0 ∷ 0 ∷ 3 ∷ 0 ∷ [])
+    -- T3: a take again inside a nest; both sections come to their limits, and the last one starts at 0
+    ∷ run crane (Release 0 ∷ Acquire 1 ∷ Work 3 ∷ Acquire 0 ∷ Acquire 1 ∷ Work 4 ∷ Unlock 1 ∷ Unlock 0 ∷ Work 3 ∷ Unlock 1 ∷ Acquire 1 ∷ Work 10 ∷ [])
+    ((0 ∷ 1 ∷ 0 ∷ 0 ∷ 1 ∷ 0 ∷ []) ∷ (0 ∷ 3 ∷ 0 ∷ 0 ∷ 1 ∷ 0 ∷ []) ∷ (0 ∷ 3 ∷ 0 ∷ 0 ∷ 1 ∷ 0 ∷ []) ∷ (0 ∷ 5 ∷ 0 ∷ 0 ∷ 1 ∷ 0 ∷ [])
+    ∷ (0 ∷ 5 ∷ 0 ∷ 0 ∷ 1 ∷ 0 ∷ []) ∷ (0 ∷ 5 ∷ 0 ∷ 0 ∷ 1 ∷ 0 ∷ []) ∷ (0 ∷ 5 ∷ 0 ∷ 0 ∷ 1 ∷ 0 ∷ []) ∷ (0 ∷ 3 ∷ 0 ∷ 0 ∷ 1 ∷ 0 ∷ [])
+    ∷ (0 ∷ 3 ∷ 0 ∷ 0 ∷ 1 ∷ 0 ∷ []) ∷ (0 ∷ 1 ∷ 0 ∷ 0 ∷ 1 ∷ 0 ∷ []) ∷ (0 ∷ 3 ∷ 0 ∷ 0 ∷ 1 ∷ 0 ∷ []) ∷ (0 ∷ 3 ∷ 0 ∷ 0 ∷ 1 ∷ 0 ∷ []) ∷ [])
+    (0 ∷ 3 ∷ 0 ∷ 0 ∷ 1 ∷ 0 ∷ []) (5 ∷ 0 ∷ 0 ∷ 0 ∷ 0 ∷ [])
+    -- T4: one take of two is given back
+    ∷ run crane (Release 0 ∷ Acquire 0 ∷ Acquire 0 ∷ Unlock 0 ∷ Finish ∷ [])
+    ((0 ∷ 1 ∷ 0 ∷ 0 ∷ 1 ∷ 0 ∷ []) ∷ (0 ∷ 5 ∷ 0 ∷ 0 ∷ 1 ∷ 0 ∷ []) ∷ (0 ∷ 5 ∷ 0 ∷ 0 ∷ 1 ∷ 0 ∷ []) ∷ (0 ∷ 5 ∷ 0 ∷ 0 ∷ 1 ∷ 0 ∷ []) ∷ (22 ∷ []) ∷ [])
+    (0 ∷ 5 ∷ 0 ∷ 0 ∷ 1 ∷ 0 ∷ []) (1 ∷ 0 ∷ 0 ∷ 0 ∷ 0 ∷ [])
+    -- T5: eight takes of one lock, and a ninth
+    ∷ run crane (Release 0 ∷ Acquire 0 ∷ Acquire 0 ∷ Acquire 0 ∷ Acquire 0 ∷ Acquire 0 ∷ Acquire 0 ∷ Acquire 0 ∷ Acquire 0 ∷ Acquire 0 ∷ [])
+    ((0 ∷ 1 ∷ 0 ∷ 0 ∷ 1 ∷ 0 ∷ []) ∷ (0 ∷ 5 ∷ 0 ∷ 0 ∷ 1 ∷ 0 ∷ []) ∷ (0 ∷ 5 ∷ 0 ∷ 0 ∷ 1 ∷ 0 ∷ []) ∷ (0 ∷ 5 ∷ 0 ∷ 0 ∷ 1 ∷ 0 ∷ [])
+    ∷ (0 ∷ 5 ∷ 0 ∷ 0 ∷ 1 ∷ 0 ∷ []) ∷ (0 ∷ 5 ∷ 0 ∷ 0 ∷ 1 ∷ 0 ∷ []) ∷ (0 ∷ 5 ∷ 0 ∷ 0 ∷ 1 ∷ 0 ∷ []) ∷ (0 ∷ 5 ∷ 0 ∷ 0 ∷ 1 ∷ 0 ∷ [])
+    ∷ (0 ∷ 5 ∷ 0 ∷ 0 ∷ 1 ∷ 0 ∷ []) ∷ (18 ∷ []) ∷ [])
+    (0 ∷ 5 ∷ 0 ∷ 0 ∷ 1 ∷ 0 ∷ []) (1 ∷ 0 ∷ 0 ∷ 0 ∷ 0 ∷ [])
+    -- T6: the newest take is of lock 0
+    ∷ run crane (Release 0 ∷ Acquire 0 ∷ Acquire 1 ∷ Acquire 0 ∷ Unlock 1 ∷ [])
+    ((0 ∷ 1 ∷ 0 ∷ 0 ∷ 1 ∷ 0 ∷ []) ∷ (0 ∷ 5 ∷ 0 ∷ 0 ∷ 1 ∷ 0 ∷ []) ∷ (0 ∷ 5 ∷ 0 ∷ 0 ∷ 1 ∷ 0 ∷ []) ∷ (0 ∷ 5 ∷ 0 ∷ 0 ∷ 1 ∷ 0 ∷ []) ∷ (19 ∷ []) ∷ [])
+    (0 ∷ 5 ∷ 0 ∷ 0 ∷ 1 ∷ 0 ∷ []) (1 ∷ 0 ∷ 0 ∷ 0 ∷ 0 ∷ [])
+    -- T7: a take again after a nest is over; task 1 waits for all that the section may have
+    ∷ run crane (Release 0 ∷ Acquire 1 ∷ Acquire 0 ∷ Unlock 0 ∷ Acquire 1 ∷ Release 1 ∷ Work 10 ∷ Unlock 1 ∷ Unlock 1 ∷ Finish ∷ [])
+    ((0 ∷ 1 ∷ 0 ∷ 0 ∷ 1 ∷ 0 ∷ []) ∷ (0 ∷ 3 ∷ 0 ∷ 0 ∷ 1 ∷ 0 ∷ []) ∷ (0 ∷ 5 ∷ 0 ∷ 0 ∷ 1 ∷ 0 ∷ []) ∷ (0 ∷ 3 ∷ 0 ∷ 0 ∷ 1 ∷ 0 ∷ [])
+    ∷ (0 ∷ 3 ∷ 0 ∷ 0 ∷ 1 ∷ 0 ∷ []) ∷ (0 ∷ 3 ∷ 3 ∷ 0 ∷ 3 ∷ 0 ∷ []) ∷ (0 ∷ 3 ∷ 3 ∷ 0 ∷ 3 ∷ 0 ∷ []) ∷ (0 ∷ 3 ∷ 3 ∷ 0 ∷ 3 ∷ 0 ∷ [])
+    ∷ (1 ∷ 3 ∷ 1 ∷ 1 ∷ 3 ∷ 1 ∷ []) ∷ (0 ∷ 1 ∷ 0 ∷ 0 ∷ 1 ∷ 0 ∷ []) ∷ [])
+    (0 ∷ 1 ∷ 0 ∷ 1 ∷ 1 ∷ 1 ∷ []) (4 ∷ 0 ∷ 10 ∷ 0 ∷ 0 ∷ [])
     -- RULES 18.8: two users for each lock; lock 0 without any, with task 2 alone, whose base is the ceiling, and with task 0 alone; the same of lock 1, with
     -- task 1 alone and with task 0 alone
     ∷ withPlan taskNumbers useNumbers 0 0 0
@@ -287,8 +346,8 @@ cases =
     ∷ []
 
 table : T (all cases)
-unfolding taskNumbers lockNumbers useNumbers eventNumbers crane book endOf rowBy rowOf rowsOf same sames agree ranRight given bookRight wordsWith wordsRight
-    right all cases
+unfolding taskNumbers lockNumbers useNumbers eventNumbers crane paper book endOf rowBy rowOf rowsOf same sames agree ranRight given bookRight wordsWith oneTake
+    wordsRight right all cases
     if_then_else_ allTrue every any count greatest firstFrom from renewed zeros numberOf firstTrue found firstFault answerNumber verdictNumber verdictPlace
     eventFault eventOf numberFault hasBit withBit
     most countFault taskFault lockFault declares users usersBase usersFault ceilingFault maximumFault aboveFault taskFaultAt lockFaultAt countFaultOf
@@ -296,7 +355,7 @@ unfolding taskNumbers lockNumbers useNumbers eventNumbers crane book endOf rowBy
     recordChecks loadChecks loadedAs loadOf sizeOf bodyAt layoutFault contentsChecks eventChecks checkOf
     wordBytes longBytes bookOf wholeChecks writeChecks wroteAs writeOf
     has priority saves holds priorityOf rankOf earlier earliest elected elsewhere notNewest pastLimit testsOf releaseOrder acquireOrder unlockOrder workOrder
-    finishOrder refusalOf differs eagerCalls charged delayed figuresAfter runningOf settle eagerTest eagerStep
+    finishOrder refusalOf differs eagerCalls staysOpen leftOf charged delayed figuresAfter runningOf settle eagerTest eagerStep
     secondWord callsFor cutTo entering runsOn switched stays afterRelease afterAcquire restored leaves afterUnlock wordsAfter lazyCall keptOf savedOf ownerOf
     taskObeys lockObeys spareObeys obeys rowTest ownTest numberNew numberTest taskTest lockTest runsTest secondTest headTest spareTest soundTest
     afterOf answered actOf stepOf withRow onward runFrom replayAs replayOf eagerAt lazyAt lowerAt lowerUser mayBlock limitIf longestLimit

@@ -1,4 +1,5 @@
--- RULES 14.3, over the history of the eager scheduler: what delays a job, how long, and that the bound is reached. Assumes nothing.
+-- RULES 14.3 and 14.9, over the history of the eager scheduler: what delays a job, how long, that sections are those of the state and count the work done
+-- in them, and that the bound is reached. Assumes nothing.
 use mathlib.Core.Path.{_≡_}
 use mathlib.Core.Logic.{_↔_}
 use mathlib.Core.Bool.{true, _&&_}
@@ -11,13 +12,14 @@ use Rattle.rules.specs.Numbers.Place.{at, firstFrom}
 use Rattle.rules.specs.Demands.Bound.{lowerAt, mayBlock, boundOf}
 use Rattle.rules.specs.Schedulers.Figures.{holds}
 use Rattle.rules.specs.Demands.History.{eagerAt, lazyAt, runnerAt, acceptedAt}
-use Rattle.rules.specs.Demands.Job.{Accepted, Does, Section, Job, LowerWork, lowerUnits, lowerTotal}
+use Rattle.rules.specs.Demands.Job.{Accepted, Does, HasOpen, Section, ownTotal, Job, LowerWork, lowerUnits, lowerTotal}
 use Rattle.rules.specs.declared.plan.Plan.{Plan}
 use Rattle.rules.specs.declared.protocol.Protocol.{Protocol}
 use Rattle.rules.specs.declared.event.Event.{Event}
 use Rattle.rules.specs.declared.event.Event.the-variants.{Release, Acquire, Work, Finish}
 
 -- all work of lower tasks in the job of t that was released at place i belongs to one section, which one task began before the release by taking one lock
+-- that it had not open
 pub record OneSection (p : Plan) (es : List Event) (t i : ℕ) : Type 0 where
   pub task : ℕ
   pub lock : ℕ
@@ -41,9 +43,20 @@ pub record Demand3 (pr : Protocol) (p : Plan) (es : List Event) (t i : ℕ) : Ty
   pub reported : (k n : ℕ) → Job p es t i k → Does p es k t Finish → k < n → ((j : ℕ) → k < j → j < n → Accepted p es j (Release t) → ⊥)
       → at (lazyAt pr p es n .delay) t ≡ lowerTotal p es t i k
 
--- a section is open in the history exactly where its lock is open in the state
-abbrev pub SectionsAreOpen : Plan → List Event → Type 0
-SectionsAreOpen p es = (k x l : ℕ) → (holds (eagerAt p es k) x l ≡ true) ↔ ((a : ℕ) × Section p es x l a k)
+-- ---- sections
+
+-- a lock is open in the state exactly where it is open in the history, and exactly where a section of it goes on there, which is one
+pub record SectionsAreOpen (p : Plan) (es : List Event) : Type 0 where
+  pub taken : (k x l : ℕ) → (holds (eagerAt p es k) x l ≡ true) ↔ HasOpen p es x l k
+  pub section : (k x l : ℕ) → (holds (eagerAt p es k) x l ≡ true) ↔ ((a : ℕ) × Section p es x l a k)
+  pub one : (k x l a b : ℕ) → Section p es x l a k → Section p es x l b k → a ≡ b
+
+-- RULES 14.9: the units in the state of a section that goes on are what its task worked since it began, each counted once, however often the lock was taken;
+-- they are within the limit. A lock that nobody has open has none
+pub record SectionsCounted (pr : Protocol) (p : Plan) (es : List Event) : Type 0 where
+  pub units : (k x l a : ℕ) → Section p es x l a k → at (lazyAt pr p es k .units) l ≡ ownTotal p es x a k
+  pub within : (k x l a : ℕ) → Section p es x l a k → ownTotal p es x a k ≤ at (p .limit) l
+  pub none : (k l : ℕ) → ((x : ℕ) → HasOpen p es x l k → ⊥) → at (lazyAt pr p es k .units) l ≡ 0
 
 -- ---- the bound is reached
 

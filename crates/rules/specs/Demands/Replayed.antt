@@ -1,4 +1,4 @@
--- RULES 14.2, 14.3, 14.6 and 14.7, said of what the replay of a book returns: its rows, its verdict and its state. Assumes nothing.
+-- RULES 14.2, 14.3, 14.6, 14.7 and 14.9, said of what the replay of a book returns: its rows, its verdict and its state. Assumes nothing.
 use mathlib.Core.Path.{_≡_}
 use mathlib.Core.Logic.{_≢_, _↔_}
 use mathlib.Core.Bool.{true}
@@ -19,7 +19,7 @@ use Rattle.rules.specs.Demands.History.{eventAt, eagerAt, lazyAt, runner
 use Rattle.rules.specs.Demands.History.{lazyCount, eagerCount, delayCount}
 use Rattle.rules.specs.Demands.Job.{Accepted, Does, Job, lowerTotal}
 use Rattle.rules.specs.Demands.Demand2.{Foremost, Covers, Outranked, OwnWord, OwnCall}
-use Rattle.rules.specs.Demands.Demand3.{Demand3}
+use Rattle.rules.specs.Demands.Demand3.{Demand3, SectionsCounted}
 use Rattle.rules.specs.declared.plan.Plan.{Plan}
 use Rattle.rules.specs.declared.protocol.Protocol.{Protocol}
 use Rattle.rules.specs.declared.protocol.Protocol.the-variants.{Second, First}
@@ -70,8 +70,9 @@ pub record RanUpTo (pr : Protocol) (p : Plan) (es : List Event) (rows : List ℕ
   pub lazy : ran .state .head .lazy ≡ lazyCount pr p es a
   pub eager : ran .state .head .eager ≡ eagerCount p es a
   pub fair : ran .state .head .lazy ≤ ran .state .head .eager
-  -- demand 3 holds of every job; each delay is the history's count, and never passes the bound
+  -- demand 3 holds of every job, and sections count the work done in them; each delay is the history's count, and never passes the bound
   pub jobs : (t i : ℕ) → Accepted p es i (Release t) → Demand3 pr p es t i
+  pub sections : SectionsCounted pr p es
   pub delays : (t : ℕ) → at (ran .state .delay) t ≡ delayCount p es t a
   pub bounded : (t : ℕ) → at (ran .state .delay) t ≤ boundOf p t
   -- the delay of a job that goes on at the end is the work of lower tasks in it so far; of one that finished at place k, and whose task was not

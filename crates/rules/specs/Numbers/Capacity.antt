@@ -14,9 +14,9 @@ maxUses = 6_400
 abbrev pub maxEvents : ℕ
 maxEvents = 12_000
 
--- the most locks that one task has open at a time
-abbrev pub maxOpen : ℕ
-maxOpen = 8
+-- the most takes that one task has at a time, of one lock or of several
+abbrev pub maxTakes : ℕ
+maxTakes = 8
 
 -- the most events that a state may have accepted
 abbrev pub maxAccepted : ℕ

@@ -2,7 +2,7 @@
 use mathlib.Core.Bool.{Bool, true, false, _&&_, _||_}
 use mathlib.Core.List.{List, [], _∷_}
 use Prim.Native.Nat.{ℕ, zero, suc, _+_, max}
-use lib.Dec.{eqb}
+use lib.Dec.{eqb, ltb}
 use lib.ListN.{getD, set}
 use Rattle.rules.specs.Numbers.Choice.{if_then_else_}
 
@@ -29,6 +29,10 @@ count f (suc k) = if f k then count f k + 1 else count f k
 unfoldable pub sum : (ℕ → ℕ) → ℕ → ℕ
 sum f zero = 0
 sum f (suc k) = sum f k + f k
+
+-- f (i + 1) + f (i + 2) + .. + f (n - 1)
+unfoldable pub sumAfter : ℕ → (ℕ → ℕ) → ℕ → ℕ
+sumAfter i f n = sum (λ k. if ltb i k then f k else 0) n
 
 -- the greatest of f 0, f 1, .., f (n - 1), and 0 without any
 unfoldable pub greatest : (ℕ → ℕ) → ℕ → ℕ

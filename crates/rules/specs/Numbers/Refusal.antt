@@ -2,7 +2,7 @@
 use mathlib.Core.Path.{_≡_}
 use mathlib.Core.Bool.{Bool, true, false}
 use mathlib.Core.List.{List, [], _∷_}
-use Prim.Native.Nat.{ℕ, _+_, _<_}
+use Prim.Native.Nat.{ℕ, _+_, _-_, _<_}
 use lib.Dec.{eqb, ltb}
 use Rattle.rules.specs.Numbers.Choice.{if_then_else_}
 use Rattle.rules.specs.Numbers.Place.{firstFrom}
@@ -41,13 +41,12 @@ numberOf Refusal.Unknown = 13
 numberOf Refusal.AlreadyReleased = 14
 -- the running task has no use of the lock
 numberOf Refusal.NotDeclared = 15
--- the running task has the lock open
-numberOf Refusal.AlreadyOpen = 16
+-- 16 is withdrawn, and no refusal has its number
 -- another task has the lock open
 numberOf Refusal.OpenElsewhere = 17
--- the running task's row is full
+-- the running task has as many takes as it may
 numberOf Refusal.RowFull = 18
--- the lock is not the running task's newest
+-- the running task's newest take is not of this lock
 numberOf Refusal.NotNewest = 19
 -- work of no units
 numberOf Refusal.NoWork = 20
@@ -59,6 +58,10 @@ numberOf Refusal.StillOpen = 22
 numberOf Refusal.ShortBuffer = 23
 -- a task may take a lock whose ceiling is above the task's maximum
 numberOf Refusal.AboveMaximum = 24
+
+-- a refusal's place in the order of the numbers, from 1: they follow each other, but for 16
+unfoldable pub placeOf : Refusal → ℕ
+placeOf why = if ltb (numberOf why) 16 then numberOf why else numberOf why - 1
 
 -- tests in order, each with its refusal: the first that holds refuses
 unfoldable pub firstTrue : List (Bool × Refusal) → Tested

@@ -1,4 +1,4 @@
--- RULES 7.2 to 7.4: a row of open locks, or of saved words, as a number in base 256, newest first; the priority of a row, and its saved words.
+-- RULES 7.2 to 7.4: a row of takes, each by its lock, or of saved words, as a number in base 256, newest first; the priority of a row, and its saved words.
 -- Assumes nothing.
 use mathlib.Core.Bool.{Bool, false, _||_}
 use Prim.Native.Nat.{ℕ, zero, suc, _+_, _*_, _/_, _%_, max}
@@ -18,13 +18,13 @@ unfoldable pub has : ℕ → ℕ → ℕ → Bool
 has row zero l = false
 has row (suc k) l = eqb (newest row) l || has (under row) k l
 
--- the priority of a task of this base with a row of k open locks: without any its base, else the newest one's ceiling or what the rest of the row gives,
--- whichever is greater
+-- the priority of a task of this base with a row of k takes: without any its base, else the ceiling of the newest one's lock or what the rest of the row
+-- gives, whichever is greater
 unfoldable pub priority : (ℕ → ℕ) → ℕ → ℕ → ℕ → ℕ
 priority ceiling base row zero = base
 priority ceiling base row (suc k) = max (ceiling (newest row)) (priority ceiling base (under row) k)
 
--- the words that were saved when these locks were taken: beside each lock the priority under it
+-- the words that were saved at these takes: beside each the priority under it
 unfoldable pub saves : (ℕ → ℕ) → ℕ → ℕ → ℕ → ℕ
 saves ceiling base row zero = 0
 saves ceiling base row (suc k) = pushed (saves ceiling base (under row) k) (priority ceiling base (under row) k)

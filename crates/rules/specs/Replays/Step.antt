@@ -24,7 +24,7 @@ refusedWith s why = record { answer = Answer.Refused why; state = s }
 unfoldable pub afterOf : Protocol → Plan → State → Event → State
 afterOf pr p s e =
     stateOf (figuresAfter p (figuresOf s) (s .head .running) e)
-    (wordsAfter pr p (figuresAfter p (figuresOf s) (s .head .running) e .released) (wordsOf s) e)
+    (wordsAfter pr p (figuresOf s) (figuresAfter p (figuresOf s) (s .head .running) e .released) (wordsOf s) e)
 
 unfoldable pub answered : Tested → State → State → Bool → Stepped
 answered Tested.Passed s after call = record { answer = Answer.Accepted call; state = after }

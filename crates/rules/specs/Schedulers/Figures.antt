@@ -16,7 +16,7 @@ pub record Figures : Type 0 where
   -- accepted events, and eager calls among them
   pub accepted : ℕ
   pub eager : ℕ
-  -- of each task: release number (0 where it is not released), delay, how many locks it has open, and which
+  -- of each task: release number (0 where it is not released), delay, how many takes it has, and the row of them
   pub released : List ℕ
   pub delay : List ℕ
   pub depth : List ℕ
@@ -56,7 +56,7 @@ freshFigures =
       units = replicate maxLocks 0;
     }
 
--- task x has lock l open
+-- task x has lock l open: it has at least one take of it
 unfoldable pub holds : Figures → ℕ → ℕ → Bool
 holds f x l = has (at (f .takes) x) (at (f .depth) x) l
 

@@ -1,13 +1,13 @@
 -- RULES 9.4 to 9.9 and 10.2: what an accepted event makes of the figures, its eager calls among them, with task r running. Both schedulers use it.
 -- Assumes nothing.
-use mathlib.Core.Bool.{_&&_}
+use mathlib.Core.Bool.{Bool, _&&_}
 use Prim.Native.Nat.{ℕ, _+_, _-_, min}
 use lib.Dec.{eqb, ltb}
 use lib.ListN.{set}
 use Rattle.rules.specs.Numbers.Capacity.{maxDelay}
 use Rattle.rules.specs.Numbers.Choice.{if_then_else_}
 use Rattle.rules.specs.Numbers.Place.{at, renewed}
-use Rattle.rules.specs.Numbers.Row.{under, pushed}
+use Rattle.rules.specs.Numbers.Row.{under, pushed, has}
 use Rattle.rules.specs.Schedulers.Figures.{Figures, holds, priorityOf}
 use Rattle.rules.specs.declared.plan.Plan.{Plan}
 use Rattle.rules.specs.declared.event.Event.{Event}
@@ -40,7 +40,15 @@ counted p f r e g =
       units = g .units;
     }
 
--- RULES 9.7: the units of lock l after a units by task r, which count for each of its open sections
+-- RULES 9.6: lock l stays open when task r gives its newest take back: the rest of its row has another take of it
+unfoldable pub staysOpen : Figures → ℕ → ℕ → Bool
+staysOpen f r l = has (under (at (f .takes) r)) (at (f .depth) r - 1) l
+
+-- what the units of a section, or the owner of its lock, are after an unlock: as they were where the lock stays open, else 0
+unfoldable pub leftOf : (stays : Bool) → ℕ → ℕ
+leftOf stays v = if stays then v else 0
+
+-- RULES 9.7: the units of lock l after a units by task r, which count once for each lock that it has open
 unfoldable pub charged : Figures → ℕ → ℕ → ℕ → ℕ
 charged f r a l = if holds f r l then at (f .units) l + a else at (f .units) l
 
@@ -70,7 +78,7 @@ figuresAfter p f r (Acquire l) =
       takes = set (f .takes) r (pushed (at (f .takes) r) l);
       units = f .units;
     })
--- the section is over, so its lock has no units
+-- the newest take is given back; with the last one of its lock the section is over, and the lock has no units
 figuresAfter p f r (Unlock l) =
     counted p f r (Unlock l) (record {
       accepted = f .accepted + 1;
@@ -79,7 +87,7 @@ figuresAfter p f r (Unlock l) =
       delay = f .delay;
       depth = set (f .depth) r (at (f .depth) r - 1);
       takes = set (f .takes) r (under (at (f .takes) r));
-      units = set (f .units) l 0;
+      units = set (f .units) l (leftOf (staysOpen f r l) (at (f .units) l));
     })
 figuresAfter p f r (Work a) =
     counted p f r (Work a) (record {

@@ -11,6 +11,7 @@ use Rattle.rules.specs.Numbers.Choice.{if_then_else_}
 use Rattle.rules.specs.Numbers.Place.{at, greatest}
 use Rattle.rules.specs.Numbers.Row.{newest, under, pushed}
 use Rattle.rules.specs.Schedulers.Figures.{Figures}
+use Rattle.rules.specs.Schedulers.FiguresAfter.{staysOpen, leftOf}
 use Rattle.rules.specs.Schedulers.Elect.{elected}
 use Rattle.rules.specs.Schedulers.Protocol.{secondWord}
 use Rattle.rules.specs.declared.plan.Plan.{Plan}
@@ -128,7 +129,7 @@ stays pr n kept w =
 unfoldable pub afterRelease : Protocol → ℕ → List ℕ → List ℕ → ℕ → Words → Words
 afterRelease pr n released kept b w = if ltb (w .user) b then switched pr n released (set kept (w .running) (w .user)) w else stays pr n kept w
 
--- RULES 9.5: lock l of this ceiling is taken; the user word is saved, and raised to the ceiling where it is below it
+-- RULES 9.5: lock l of this ceiling is taken; the user word is saved, at every take, and raised to the ceiling where it is below it
 unfoldable pub afterAcquire : ℕ → ℕ → Words → Words
 afterAcquire l ceiling w =
     record {
@@ -145,9 +146,9 @@ afterAcquire l ceiling w =
 abbrev pub backOf : Words → ℕ
 backOf w = newest (at (w .saved) (w .running))
 
--- lock l is given back: the user word is the saved one again, after so many calls
-unfoldable pub restored : ℕ → ℕ → Words → Words
-restored l calls w =
+-- a take of lock l is given back, after so many calls: the user word is the saved one again, and nobody owns the lock, unless it stays open
+unfoldable pub restored : (stays : Bool) → ℕ → ℕ → Words → Words
+restored stays l calls w =
     record {
       running = w .running;
       user = backOf w;
@@ -155,30 +156,30 @@ restored l calls w =
       lazy = w .lazy + calls;
       kept = w .kept;
       saved = set (w .saved) (w .running) (under (at (w .saved) (w .running)));
-      owner = set (w .owner) l 0;
+      owner = set (w .owner) l (leftOf stays (at (w .owner) l));
     }
 
 -- the running task leaves with its word, and a switch follows
 unfoldable pub leaves : Protocol → ℕ → List ℕ → Words → Words
 leaves pr n released w = switched pr n released (set (w .kept) (w .running) (w .user)) w
 
--- RULES 9.6: lock l is given back, with one lazy call and a switch where the call's rule says so, and with neither elsewhere. The call is an entry, and finds
--- the word that is put back
-unfoldable pub afterUnlock : Protocol → ℕ → (maximum released : List ℕ) → ℕ → Words → Words
-afterUnlock pr n maximum released l w =
-    if callsFor (backOf w) (w .next) then leaves pr n released (entering maximum (restored l 1 w)) else restored l 0 w
+-- RULES 9.6: a take of lock l is given back, with one lazy call and a switch where the call's rule says so, and with neither elsewhere. The call is an entry,
+-- and finds the word that is put back
+unfoldable pub afterUnlock : Protocol → ℕ → (maximum released : List ℕ) → (stays : Bool) → ℕ → Words → Words
+afterUnlock pr n maximum released stays l w =
+    if callsFor (backOf w) (w .next) then leaves pr n released (entering maximum (restored stays l 1 w)) else restored stays l 0 w
 
--- the words after an accepted event; `released` are the release numbers after it. A release, a finish and a tick are entries
-unfoldable pub wordsAfter : Protocol → Plan → List ℕ → Words → Event → Words
-wordsAfter pr p released w (Release t) =
+-- the words after an accepted event; f are the figures before it, and `released` the release numbers after it. A release, a finish and a tick are entries
+unfoldable pub wordsAfter : Protocol → Plan → Figures → (released : List ℕ) → Words → Event → Words
+wordsAfter pr p f released w (Release t) =
     afterRelease pr (p .tasks) released (set (w .kept) t (at (p .base) t)) (at (p .base) t) (entering (p .maximum) w)
-wordsAfter pr p released w (Acquire l) = afterAcquire l (at (p .ceiling) l) w
-wordsAfter pr p released w (Unlock l) = afterUnlock pr (p .tasks) (p .maximum) released l w
-wordsAfter pr p released w (Work a) = w
+wordsAfter pr p f released w (Acquire l) = afterAcquire l (at (p .ceiling) l) w
+wordsAfter pr p f released w (Unlock l) = afterUnlock pr (p .tasks) (p .maximum) released (staysOpen f (w .running) l) l w
+wordsAfter pr p f released w (Work a) = w
 -- RULES 9.8: a finish switches, and nothing is kept for the task that is done
-wordsAfter pr p released w Finish = switched pr (p .tasks) released (set (w .kept) (w .running) 0) (entering (p .maximum) w)
+wordsAfter pr p f released w Finish = switched pr (p .tasks) released (set (w .kept) (w .running) 0) (entering (p .maximum) w)
 -- RULES 9.9: a tick is an entry and no more; in a sound state of the second protocol the next word is what it was
-wordsAfter pr p released w Tick = stays pr (p .tasks) (w .kept) (entering (p .maximum) w)
+wordsAfter pr p f released w Tick = stays pr (p .tasks) (w .kept) (entering (p .maximum) w)
 
 -- RULES 10.3: whether an accepted event enters the kernel. An unlock does where it calls
 unfoldable pub enters : (call : Bool) → Event → Bool

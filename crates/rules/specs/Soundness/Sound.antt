@@ -1,13 +1,13 @@
 -- RULES 8: the conditions of soundness, each by name. Assumes nothing.
 use mathlib.Core.Path.{_≡_}
 use mathlib.Core.Logic.{_≢_}
-use mathlib.Core.Bool.{Bool, true, false, not, _&&_}
+use mathlib.Core.Bool.{true, false}
 use Prim.Native.Nat.{ℕ, zero, suc, _≤_, _<_, _^_}
 use lib.Dec.{eqb}
-use Rattle.rules.specs.Numbers.Capacity.{maxOpen, maxAccepted, maxDelay, nobody}
+use Rattle.rules.specs.Numbers.Capacity.{maxTakes, maxAccepted, maxDelay, nobody}
 use Rattle.rules.specs.Numbers.Choice.{if_then_else_}
 use Rattle.rules.specs.Numbers.Place.{at, greatest}
-use Rattle.rules.specs.Numbers.Row.{newest, under, has, saves}
+use Rattle.rules.specs.Numbers.Row.{saves}
 use Rattle.rules.specs.Books.Plan.{Obeys, declares}
 use Rattle.rules.specs.Schedulers.Figures.{Figures, Sized, figuresOf, holds, rankOf}
 use Rattle.rules.specs.Schedulers.Lazy.{Words, WordsSized, wordsOf}
@@ -15,11 +15,6 @@ use Rattle.rules.specs.declared.plan.Plan.{Plan}
 use Rattle.rules.specs.declared.protocol.Protocol.{Protocol}
 use Rattle.rules.specs.declared.protocol.Protocol.the-variants.{Second, First}
 use Rattle.rules.specs.declared.state.State.{State}
-
--- no lock stands twice in a row of k
-unfoldable pub distinct : ℕ → ℕ → Bool
-distinct row zero = true
-distinct row (suc k) = not (has (under row) k (newest row)) && distinct (under row) k
 
 -- what the figures obey
 pub record SoundFigures (p : Plan) (f : Figures) : Type 0 where
@@ -29,13 +24,12 @@ pub record SoundFigures (p : Plan) (f : Figures) : Type 0 where
   pub differ : (x y : ℕ) → 0 < at (f .released) x → at (f .released) x ≡ at (f .released) y → x ≡ y
   -- RULES 8.4: no more eager calls than accepted events
   pub eager : f .eager ≤ f .accepted
-  -- RULES 8.6: a row is no longer than it may be; an open lock is one of the plan's that its task may take; who is not released has none
-  pub depth : (x : ℕ) → at (f .depth) x ≤ maxOpen
+  -- RULES 8.6: a row is no longer than it may be; an open lock is one of the plan's that its task may take; who is not released has no takes
+  pub depth : (x : ℕ) → at (f .depth) x ≤ maxTakes
   pub known : (x l : ℕ) → holds f x l ≡ true → l < p .locks
   pub declared : (x l : ℕ) → holds f x l ≡ true → declares p x l ≡ true
   pub resting : (x : ℕ) → at (f .released) x ≡ 0 → at (f .depth) x ≡ 0
-  -- RULES 8.7: a lock stands once in a row, and in the row of one task only
-  pub once : (x : ℕ) → distinct (at (f .takes) x) (at (f .depth) x) ≡ true
+  -- RULES 8.7: no lock is open for two tasks
   pub alone : (x y l : ℕ) → holds f x l ≡ true → holds f y l ≡ true → x ≡ y
   -- RULES 8.8, 8.9: units are within the limit, and delays within their own greatest value
   pub limits : (l : ℕ) → at (f .units) l ≤ at (p .limit) l
@@ -69,7 +63,7 @@ pub record SoundWords (pr : Protocol) (p : Plan) (f : Figures) (w : Words) : Typ
   -- RULES 8.3: where nobody runs none is released, and a task that runs is released
   pub idle : w .running ≡ nobody → (x : ℕ) → at (f .released) x ≡ 0
   pub runs : w .running ≢ nobody → 0 < at (f .released) (w .running)
-  -- RULES 8.10: the user word, the next word, and what is kept and saved for each task follow from who runs and from the open locks
+  -- RULES 8.10: the user word, the next word, and what is kept and saved for each task follow from who runs and from the takes
   pub user : w .user ≡ rankOf p f (w .running)
   pub next : SoundSecond pr (w .next) (w .user) (greatest (keptOf p f (w .running)) (p .tasks))
   pub kept : (x : ℕ) → at (w .kept) x ≡ keptOf p f (w .running) x

@@ -5,10 +5,10 @@ use mathlib.Core.List.{List, [], _∷_}
 use Prim.Native.Nat.{ℕ, zero, suc, _+_, _^_}
 use lib.Dec.{eqb, leb, ltb}
 use lib.ListN.{drop}
-use Rattle.rules.specs.Numbers.Capacity.{maxOpen, maxAccepted, maxDelay, nobody}
+use Rattle.rules.specs.Numbers.Capacity.{maxTakes, maxAccepted, maxDelay, nobody}
 use Rattle.rules.specs.Numbers.Choice.{if_then_else_, allTrue}
 use Rattle.rules.specs.Numbers.Place.{at, every, greatest, zeros}
-use Rattle.rules.specs.Numbers.Row.{newest, under, has}
+use Rattle.rules.specs.Numbers.Row.{newest, under}
 use Rattle.rules.specs.Numbers.Mask.{hasBit}
 use Rattle.rules.specs.Books.Plan.{countFault, taskFault, lockFault, ceilingFault, aboveFault}
 use Rattle.rules.specs.Schedulers.Figures.{Figures, figuresOf, rankOf}
@@ -63,11 +63,11 @@ obeys p =
 
 -- ---- a task
 
--- each of the k newest of a row is one of m locks, in the set of those declared, and stands once; the places after them are 0
+-- each of the k newest of a row is of one of m locks, in the set of those declared; the places after them are 0
 unfoldable pub rowTest : ℕ → ℕ → ℕ → ℕ → Bool
 rowTest m uses row zero = eqb row 0
 rowTest m uses row (suc k) =
-    allTrue (ltb (newest row) m ∷ hasBit uses (newest row) ∷ not (has (under row) k (newest row)) ∷ rowTest m uses (under row) k ∷ [])
+    allTrue (ltb (newest row) m ∷ hasBit uses (newest row) ∷ rowTest m uses (under row) k ∷ [])
 
 -- each of them has task x for its owner
 unfoldable pub ownTest : List ℕ → ℕ → ℕ → ℕ → Bool
@@ -78,7 +78,7 @@ ownTest owner x row (suc k) = allTrue (eqb (at owner (newest row)) (x + 1) ∷ o
 unfoldable pub numberNew : List ℕ → ℕ → ℕ → Bool
 numberNew released y x = every (λ z. not (eqb (at released z) y)) x
 
--- a task is not released and has no lock open, or its release number is in range and no earlier task's
+-- a task is not released and has no takes, or its release number is in range and no earlier task's
 unfoldable pub numberTest : ℕ → List ℕ → ℕ → ℕ → Bool
 numberTest accepted released depth x =
     if eqb (at released x) 0 then eqb depth 0
@@ -87,7 +87,7 @@ numberTest accepted released depth x =
 unfoldable pub taskTest : Plan → Figures → Words → ℕ → Bool
 taskTest p f w x =
     allTrue
-    (leb (at (f .depth) x) maxOpen
+    (leb (at (f .depth) x) maxTakes
     ∷ rowTest (p .locks) (at (p .uses) x) (at (f .takes) x) (at (f .depth) x)
     ∷ ownTest (w .owner) x (at (f .takes) x) (at (f .depth) x)
     ∷ numberTest (f .accepted) (f .released) (at (f .depth) x) x

@@ -8,5 +8,6 @@ pub after-unlock-spec : {M : Type 1} → statement M
 after-unlock-spec =
     tie.close
     (tie.spec
-    (λ c. search needs) (λ c. search needs) (λ c. search needs) (λ c κs. search needs) (λ c κs. search needs) (λ c. search needs) (λ c. search needs)
-    (λ c. search needs) (λ c κs. search needs) (λ c κs. search runs-found) (λ c κs. search needs) (λ c. (search unlock-calls, search needs)) (λ c. (search unlock-stays, search needs)))
+    (λ c. search needs) (λ c. search needs) (λ c. search needs) (λ c κs. search needs) (λ c κs. search needs) (λ c. search needs)
+    (λ c. search needs) (λ c κs. search needs) (λ c κs. search runs-found) (λ c κs. search needs) (λ c. (search unlock-calls, search needs))
+    (λ c. (search unlock-stays, search needs)))

@@ -12,5 +12,4 @@ acquire-refusal-spec =
     (tie.spec
     (λ c. search order) (λ c. search order) (λ c. search needs) (λ c. search needs) (λ c κs. search needs)
     (λ c. search order) (λ c. search needs) (λ c κs. search needs)
-    (λ c. search order depth 6) (λ c. search needs) (λ c. search order depth 7) (λ c. search needs)
-    (λ c. search order depth 8) (λ c. search order depth 8))
+    (λ c. search order depth 6) (λ c. search needs) (λ c. search order depth 7) (λ c. search order depth 7))

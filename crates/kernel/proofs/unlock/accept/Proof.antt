@@ -1,4 +1,4 @@
--- `kernel::unlock::accept` meets its contract. The kernel is called, or the task stays. Assumes nothing.
+-- `kernel::unlock::accept` meets its contract. The take is given back, the section goes on or is over, and the kernel is called or not. Assumes nothing.
 use Rattle.kernel.proofs.EventLaws.{unlock-done}
 use borrow.Author.Needs.{needs}
 use Rattle.kernel.proofs.unlock.accept.Statement.{statement}
@@ -8,6 +8,6 @@ pub accept-spec : {M : Type 1} → statement M
 accept-spec =
     tie.close
     (tie.spec
-    (λ c. search needs) (λ c. search needs) (λ c. search needs) (λ c. search needs) (λ c. search needs) (λ c. search needs) (λ c κs. search needs)
-    (λ c. search needs) (λ c. search needs) (λ c. search needs) (λ c. search needs) (λ c κs. search needs) (λ c κs. search needs)
+    (λ c. search needs) (λ c. search needs) (λ c. search needs) (λ c. search needs) (λ c. search needs) (λ c. search needs)
+    (λ c κs. search needs) (λ c. search needs) (λ c. search needs) (λ c κs. search needs) (λ c κs. search needs) (λ c κs. search needs) (λ c κs. search needs)
     (λ c. (search unlock-done, search needs)))

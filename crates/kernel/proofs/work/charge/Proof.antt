@@ -1,4 +1,4 @@
--- `kernel::work::charge` meets its contract. Each turn charges one section. Assumes nothing.
+-- `kernel::work::charge` meets its contract. Each turn charges one section, or passes a newer take by. Assumes nothing.
 use Rattle.kernel.proofs.WorkLaws.{ChargedSoFar, charge-start, charge-next, charge-ends}
 use borrow.Author.Needs.{needs}
 use Rattle.kernel.proofs.work.charge.Statement.{statement}
@@ -14,5 +14,5 @@ pub charge-spec : {M : Type 1} → statement M
 charge-spec =
     tie.close
     (tie.spec
-    Inv-loop μ-loop (λ c. search charge-start) (λ c κs. search needs) (λ c κs. search needs) (λ c κs. search needs)
-    (λ c. search needs) (λ c. search needs) (λ c. search charge-next) (λ c. search charge-ends))
+    Inv-loop μ-loop (λ c. search charge-start) (λ c κs. search needs) (λ c κs. search needs) (λ c. search needs) (λ c κs. search needs) (λ c κs. search needs)
+    (λ c. search needs) (λ c. search charge-next) (λ c. search charge-ends))

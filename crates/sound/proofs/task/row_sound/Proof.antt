@@ -1,7 +1,7 @@
 -- `sound::task::row_sound` meets its contract. What is left of the row is tested as the whole row is. Assumes nothing.
 use mathlib.Core.Path.{_≡_}
 use Rattle.rules.specs.Soundness.SoundTest.{rowTest}
-use Rattle.sound.proofs.Rows.{row-unknown, row-undeclared, row-twice, row-next, row-ends}
+use Rattle.sound.proofs.Rows.{row-unknown, row-undeclared, row-next, row-ends}
 use borrow.Author.Needs.{needs}
 use Rattle.sound.proofs.task.row_sound.Statement.{statement}
 use Rattle.sound.proofs.task.row_sound.Tie as tie
@@ -18,5 +18,4 @@ row-sound-spec =
     (tie.spec
     Inv-loop μ-loop (λ c. search needs) (λ c κs. search needs) (λ c. search needs) (λ c. search row-unknown)
     (λ c κs. search needs) (λ c. search row-undeclared) (λ c κs. search needs) (λ c. search needs)
-    (λ c κs. search needs) (λ c. search row-twice) (λ c. search needs) (λ c. search row-next)
-    (λ c. search row-ends))
+    (λ c. search needs) (λ c. search row-next) (λ c. search row-ends))

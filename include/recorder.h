@@ -4,7 +4,7 @@
  * the library keeps none of them after it returns. Rows and a buffer overlap nothing else that is passed.
  * A plan and a state are passed and returned by value: the library keeps nothing between two calls.
  * No function fails otherwise than by the number that it returns, whatever it is handed. docs/RULES.md has the numbers,
- * 1 to 24, in its section 5, and what each function takes and answers in its section 16. */
+ * 1 to 24 without 16, in its section 5, and what each function takes and answers in its section 16. */
 #ifndef RECORDER_H
 #define RECORDER_H
 
@@ -47,7 +47,9 @@ struct recorder_plan {
     uint32_t uses[RECORDER_MAX_TASKS];   /* bit l of a task's: it may take lock l */
 };
 
-/* A state. A row is a number in base 256, newest first. */
+/* A state. A row is a number in base 256, newest first. A take goes from an accepted acquire to the unlock that gives it
+ * back; a task has eight at most. One lock may stand in a row more than once, and is open for its task until the last of
+ * these takes is given back. */
 struct recorder_state {
     uint32_t accepted; /* how many events were accepted */
     uint8_t running;   /* the running task, or RECORDER_NOBODY */
@@ -58,9 +60,9 @@ struct recorder_state {
     uint32_t released[RECORDER_MAX_TASKS]; /* each task's release number; 0 where it is not released */
     uint8_t kept[RECORDER_MAX_TASKS];      /* the priority that the kernel keeps for it */
     uint16_t delay[RECORDER_MAX_TASKS];    /* its delay */
-    uint8_t depth[RECORDER_MAX_TASKS];     /* how many locks it has open */
-    uint64_t takes[RECORDER_MAX_TASKS];    /* the row of these locks */
-    uint64_t saved[RECORDER_MAX_TASKS];    /* the row of the user words saved when they were taken */
+    uint8_t depth[RECORDER_MAX_TASKS];     /* how many takes it has */
+    uint64_t takes[RECORDER_MAX_TASKS];    /* the row of these takes, each by its lock */
+    uint64_t saved[RECORDER_MAX_TASKS];    /* the row of the user words saved at them */
     uint16_t units[RECORDER_MAX_LOCKS];    /* the units of each lock's open section */
     uint8_t owner[RECORDER_MAX_LOCKS];     /* the task that has it open, plus 1, or 0 */
 };
@@ -75,7 +77,7 @@ struct recorder_check {
 
 /* What a replay answers. */
 struct recorder_replay {
-    uint8_t number;              /* the refusal, 1 to 22 or 24; 0 where nothing is refused */
+    uint8_t number;              /* the refusal, 1 to 15, 17 to 22 or 24; 0 where nothing is refused */
     size_t place;                /* its place: of an event, from 0; of 1 to 9 and 24, as a check gives it */
     struct recorder_plan plan;   /* the book's; every figure is 0 where the book is refused */
     struct recorder_state state; /* where the replay stopped; a fresh one where the book is refused */
@@ -111,7 +113,7 @@ struct recorder_write {
 
 /* What a step answers. */
 struct recorder_step {
-    uint8_t number;              /* the refusal: 8, or 10 to 22; 0 where the event is accepted */
+    uint8_t number;              /* the refusal: 8, 10 to 15 or 17 to 22; 0 where the event is accepted */
     uint8_t calls;               /* 1 where the lazy scheduler calls the kernel, or else 0 */
     struct recorder_state state; /* after the event; the state that was given where it is refused */
 };

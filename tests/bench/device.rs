@@ -1,7 +1,7 @@
 //! The proved library, as include/recorder.h declares it; and a plan and a state
 //! of ordinary Rust as it wants them.
 
-use crate::ordinary::{self, Protocol, Record, MOST_LOCKS, MOST_OPEN, MOST_TASKS};
+use crate::ordinary::{self, Protocol, Record, MOST_LOCKS, MOST_TAKES, MOST_TASKS};
 use crate::ordinary_write::Records;
 
 #[repr(C)]
@@ -173,9 +173,9 @@ impl Plan {
 
 impl State {
     pub fn of(state: &ordinary::State) -> State {
-        let row = |bytes: &[u8; MOST_OPEN], held: u8| {
+        let row = |bytes: &[u8; MOST_TAKES], held: u8| {
             let mut row = *bytes;
-            row[..MOST_OPEN.min(held.into())].reverse();
+            row[..MOST_TAKES.min(held.into())].reverse();
             u64::from_le_bytes(row)
         };
         State {
@@ -189,7 +189,7 @@ impl State {
             kept: state.kept,
             delay: state.delay,
             depth: state.held,
-            takes: std::array::from_fn(|task| row(&state.open[task], state.held[task])),
+            takes: std::array::from_fn(|task| row(&state.takes[task], state.held[task])),
             saved: std::array::from_fn(|task| row(&state.saved[task], state.held[task])),
             units: state.units,
             owner: state.owner,
@@ -210,8 +210,8 @@ impl State {
             ("release numbers", self.released == other.released),
             ("kept priorities", self.kept == other.kept),
             ("delays", self.delay == other.delay),
-            ("numbers of open locks", self.depth == other.depth),
-            ("rows of open locks", self.takes == other.takes),
+            ("numbers of takes", self.depth == other.depth),
+            ("rows of takes", self.takes == other.takes),
             ("rows of saved words", self.saved == other.saved),
             ("units", self.units == other.units),
             ("owners", self.owner == other.owner),

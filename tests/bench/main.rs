@@ -3,7 +3,7 @@
 //! protocols: all must give the same rows and figures; then each is timed. Then
 //! how the time grows, by books of the same kind with other numbers of tasks. Then
 //! the books written from their records, and single steps, from states of the books
-//! and from full states.
+//! and from full states, one of them with locks that were taken again.
 //!
 //!     bench [--rounds N] BOOK.. [--growth BOOK..]
 //!
@@ -135,7 +135,7 @@ fn writes(books: &[(String, Vec<u8>)], rounds: usize) -> bool {
 }
 
 /// Whether both agree on every single step by both protocols: from the states of
-/// the books, and from full states.
+/// the books, from full states, and from one in which locks were taken again.
 fn steps(books: &[(String, Vec<u8>)], rounds: usize) -> bool {
     println!();
     head("ns a step", "states", "protocol", rounds);
@@ -162,6 +162,7 @@ fn steps(books: &[(String, Vec<u8>)], rounds: usize) -> bool {
     for tasks in scenes::FULL {
         try_scene(&|protocol| scenes::full(protocol, tasks));
     }
+    try_scene(&|protocol| scenes::again(protocol, MOST_TASKS));
     for tally in tallies {
         let (by, steps) = (tally.protocol.name(), tally.compared());
         println!("{steps} steps compared by the {by} protocol");

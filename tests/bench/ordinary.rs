@@ -6,7 +6,8 @@ pub const MOST_TASKS: usize = 200;
 pub const MOST_LOCKS: usize = 32;
 const MOST_USES: usize = 6400;
 pub const MOST_EVENTS: usize = 12_000;
-pub const MOST_OPEN: usize = 8;
+/// Takes of one task.
+pub const MOST_TAKES: usize = 8;
 pub const MOST_ACCEPTED: u32 = 1_000_000;
 pub const NOBODY: u8 = 255;
 
@@ -209,12 +210,12 @@ pub struct State {
     pub released: [u32; MOST_TASKS],
     pub kept: [u8; MOST_TASKS],
     pub delay: [u16; MOST_TASKS],
-    /// How many locks the task has open.
+    /// How many takes the task has.
     pub held: [u8; MOST_TASKS],
-    /// These locks, oldest first, and the word that each acquire saved; 0 after
-    /// the newest.
-    pub open: [[u8; MOST_OPEN]; MOST_TASKS],
-    pub saved: [[u8; MOST_OPEN]; MOST_TASKS],
+    /// The lock of each, oldest first, which may be there more than once, and the
+    /// word that each saved; 0 after the newest.
+    pub takes: [[u8; MOST_TAKES]; MOST_TASKS],
+    pub saved: [[u8; MOST_TAKES]; MOST_TASKS],
     pub units: [u16; MOST_LOCKS],
     /// The task that has the lock open, plus one; or 0.
     pub owner: [u8; MOST_LOCKS],
@@ -233,8 +234,8 @@ impl State {
             kept: [0; MOST_TASKS],
             delay: [0; MOST_TASKS],
             held: [0; MOST_TASKS],
-            open: [[0; MOST_OPEN]; MOST_TASKS],
-            saved: [[0; MOST_OPEN]; MOST_TASKS],
+            takes: [[0; MOST_TAKES]; MOST_TASKS],
+            saved: [[0; MOST_TAKES]; MOST_TASKS],
             units: [0; MOST_LOCKS],
             owner: [0; MOST_LOCKS],
         }
@@ -306,16 +307,15 @@ impl State {
         if plan.uses[task] >> lock & 1 == 0 {
             return Err(15);
         }
-        match usize::from(self.owner[lock]) {
-            0 => {}
-            owner if owner == task + 1 => return Err(16),
-            _ => return Err(17),
+        let owner = usize::from(self.owner[lock]);
+        if owner != 0 && owner != task + 1 {
+            return Err(17);
         }
         let depth = usize::from(self.held[task]);
-        if depth >= MOST_OPEN {
+        if depth >= MOST_TAKES {
             return Err(18);
         }
-        self.open[task][depth] = lock as u8;
+        self.takes[task][depth] = lock as u8;
         self.saved[task][depth] = self.user;
         self.held[task] += 1;
         self.owner[lock] = self.running + 1;
@@ -325,26 +325,37 @@ impl State {
         Ok(false)
     }
 
-    fn unlock(&mut self, protocol: Protocol, plan: &Plan, lock: usize) -> Result<bool, u8> {
+    /// What an unlock does before the kernel is called, and whether it is. Like the
+    /// two parts of work this is for both replays, and inline in each.
+    #[inline]
+    pub fn give_back(&mut self, plan: &Plan, lock: usize) -> Result<bool, u8> {
         let task = self.runner()?;
         if lock >= plan.locks {
             return Err(13);
         }
         let depth = usize::from(self.held[task]);
-        if depth == 0 || usize::from(self.open[task][depth - 1]) != lock {
+        if depth == 0 || usize::from(self.takes[task][depth - 1]) != lock {
             return Err(19);
         }
         self.held[task] -= 1;
         let before = self.user;
         self.user = self.saved[task][depth - 1];
-        self.open[task][depth - 1] = 0;
+        self.takes[task][depth - 1] = 0;
         self.saved[task][depth - 1] = 0;
-        self.units[lock] = 0;
-        self.owner[lock] = 0;
+        // The last take of the lock ends its section.
+        if !self.takes[task][..depth - 1].contains(&(lock as u8)) {
+            self.units[lock] = 0;
+            self.owner[lock] = 0;
+        }
         self.eager += u32::from(self.user != before);
         let call = self.user < self.next;
+        self.lazy += u32::from(call);
+        Ok(call)
+    }
+
+    fn unlock(&mut self, protocol: Protocol, plan: &Plan, lock: usize) -> Result<bool, u8> {
+        let call = self.give_back(plan, lock)?;
         if call {
-            self.lazy += 1;
             self.cut(plan);
             self.leave();
             self.switch(protocol, plan.tasks);
@@ -353,22 +364,40 @@ impl State {
     }
 
     fn work(&mut self, plan: &Plan, amount: u16) -> Result<bool, u8> {
+        let task = self.charge(plan, amount)?;
+        self.hold_up(plan, plan.base[task], amount);
+        Ok(false)
+    }
+
+    /// Counts work for each lock that the running task has open, once however often
+    /// it took it; and says which task that is.
+    #[inline]
+    pub fn charge(&mut self, plan: &Plan, amount: u16) -> Result<usize, u8> {
         if amount == 0 {
             return Err(20);
         }
         let task = self.runner()?;
-        let open = &self.open[task][..usize::from(self.held[task])];
+        let takes = &self.takes[task][..usize::from(self.held[task])];
         let would_pass = |&lock: &u8| {
             let lock = usize::from(lock);
             u32::from(self.units[lock]) + u32::from(amount) > u32::from(plan.limit[lock])
         };
-        if open.iter().any(would_pass) {
+        if takes.iter().any(would_pass) {
             return Err(21);
         }
-        for &lock in open {
-            self.units[usize::from(lock)] += amount;
+        let mut charged = 0u32;
+        for &lock in takes {
+            if charged >> lock & 1 == 0 {
+                self.units[usize::from(lock)] += amount;
+                charged |= 1 << lock;
+            }
         }
-        let base = plan.base[task];
+        Ok(task)
+    }
+
+    /// Work by a task of this base delays each released task of a higher one.
+    #[inline]
+    pub fn hold_up(&mut self, plan: &Plan, base: u8, amount: u16) {
         let others = plan.base[..plan.tasks]
             .iter()
             .zip(&self.released[..plan.tasks]);
@@ -380,7 +409,6 @@ impl State {
                 *delay
             };
         }
-        Ok(false)
     }
 
     fn finish(&mut self, protocol: Protocol, plan: &Plan) -> Result<bool, u8> {

@@ -4,7 +4,7 @@
 //! as the library gives a new one back. So there is one copy of the state here.
 
 use crate::ordinary::{
-    is_wrong, Plan, Protocol, Record, State, MOST_ACCEPTED, MOST_LOCKS, MOST_OPEN, MOST_TASKS,
+    is_wrong, Plan, Protocol, Record, State, MOST_ACCEPTED, MOST_LOCKS, MOST_TAKES, MOST_TASKS,
     NOBODY,
 };
 
@@ -109,8 +109,8 @@ fn runner_is_sound(plan: &Plan, state: &State) -> bool {
     }
 }
 
-/// The figures of each task, with its row of open locks; and then those of each
-/// lock, by who has it open.
+/// The figures of each task, with its row of takes; and then those of each lock,
+/// by whether it is open.
 fn tasks_and_locks_are_sound(protocol: Protocol, plan: &Plan, state: &State) -> bool {
     // The locks that are open for the tasks so far, and the greatest kept priority.
     let mut open = 0u32;
@@ -118,7 +118,7 @@ fn tasks_and_locks_are_sound(protocol: Protocol, plan: &Plan, state: &State) -> 
     for task in 0..plan.tasks {
         let number = state.released[task];
         let held = usize::from(state.held[task]);
-        if held > MOST_OPEN || number > state.accepted {
+        if held > MOST_TAKES || number > state.accepted {
             return false;
         }
         if number == 0 && held != 0 {
@@ -128,15 +128,15 @@ fn tasks_and_locks_are_sound(protocol: Protocol, plan: &Plan, state: &State) -> 
         if number != 0 && state.released[..task].contains(&number) {
             return false;
         }
-        // Each lock of the row, from the oldest; its acquire saved the priority that was.
-        let mut row = [0; MOST_OPEN];
-        let mut saved = [0; MOST_OPEN];
+        // Each take of the row, from the oldest; it saved the priority that was. A lock
+        // may be there again, but in no other row: it has one owner.
+        let mut row = [0; MOST_TAKES];
+        let mut saved = [0; MOST_TAKES];
         let mut priority = if number != 0 { plan.base[task] } else { 0 };
         for at in 0..held {
-            let lock = usize::from(state.open[task][at]);
+            let lock = usize::from(state.takes[task][at]);
             let is_sound = lock < plan.locks
                 && plan.uses[task] >> lock & 1 != 0
-                && open >> lock & 1 == 0
                 && usize::from(state.owner[lock]) == task + 1;
             if !is_sound {
                 return false;
@@ -146,7 +146,7 @@ fn tasks_and_locks_are_sound(protocol: Protocol, plan: &Plan, state: &State) -> 
             saved[at] = priority;
             priority = priority.max(plan.ceiling[lock]);
         }
-        if state.open[task] != row || state.saved[task] != saved {
+        if state.takes[task] != row || state.saved[task] != saved {
             return false;
         }
         let runs = task == usize::from(state.running);
@@ -178,7 +178,7 @@ fn rest_is_0(plan: &Plan, state: &State) -> bool {
         && all_0(&state.kept[tasks..])
         && all_0(&state.delay[tasks..])
         && all_0(&state.held[tasks..])
-        && all_0(&state.open[tasks..])
+        && all_0(&state.takes[tasks..])
         && all_0(&state.saved[tasks..])
         && all_0(&state.units[locks..])
         && all_0(&state.owner[locks..])

@@ -97,64 +97,18 @@ impl Quick {
     }
 
     fn unlock(&mut self, protocol: Protocol, plan: &Plan, lock: usize) -> Result<bool, u8> {
-        let state = &mut self.state;
-        let task = state.runner()?;
-        if lock >= plan.locks {
-            return Err(13);
-        }
-        let depth = usize::from(state.held[task]);
-        if depth == 0 || usize::from(state.open[task][depth - 1]) != lock {
-            return Err(19);
-        }
-        state.held[task] -= 1;
-        let before = state.user;
-        state.user = state.saved[task][depth - 1];
-        state.open[task][depth - 1] = 0;
-        state.saved[task][depth - 1] = 0;
-        state.units[lock] = 0;
-        state.owner[lock] = 0;
-        state.eager += u32::from(state.user != before);
-        let call = state.user < state.next;
+        let call = self.state.give_back(plan, lock)?;
         if call {
-            state.lazy += 1;
-            state.cut(plan);
+            self.state.cut(plan);
             self.leave(protocol, plan.tasks);
         }
         Ok(call)
     }
 
     fn work(&mut self, plan: &Plan, amount: u16) -> Result<bool, u8> {
-        let most = self.most();
-        let state = &mut self.state;
-        if amount == 0 {
-            return Err(20);
-        }
-        let task = state.runner()?;
-        let open = &state.open[task][..usize::from(state.held[task])];
-        let would_pass = |&lock: &u8| {
-            let lock = usize::from(lock);
-            u32::from(state.units[lock]) + u32::from(amount) > u32::from(plan.limit[lock])
-        };
-        if open.iter().any(would_pass) {
-            return Err(21);
-        }
-        for &lock in open {
-            state.units[usize::from(lock)] += amount;
-        }
-        let base = plan.base[task];
-        if most <= base {
-            return Ok(false);
-        }
-        let others = plan.base[..plan.tasks]
-            .iter()
-            .zip(&state.released[..plan.tasks]);
-        for (delay, (&other, &released)) in state.delay[..plan.tasks].iter_mut().zip(others) {
-            let more = delay.saturating_add(amount);
-            *delay = if released != 0 && base < other {
-                more
-            } else {
-                *delay
-            };
+        let base = plan.base[self.state.charge(plan, amount)?];
+        if self.most() > base {
+            self.state.hold_up(plan, base, amount);
         }
         Ok(false)
     }

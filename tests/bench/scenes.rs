@@ -3,7 +3,7 @@
 //! too: it leaves the state as it was.
 
 use crate::ordinary::{
-    Checked, Plan, Protocol, Record, State, MOST_LOCKS, MOST_OPEN, MOST_TASKS, NOBODY,
+    Checked, Plan, Protocol, Record, State, MOST_LOCKS, MOST_TAKES, MOST_TASKS, NOBODY,
 };
 
 pub const RELEASE: u8 = 1;
@@ -48,10 +48,10 @@ pub fn of_book(protocol: Protocol, name: &str, checked: &Checked) -> Scene {
 }
 
 /// How many locks each block of a full plan has, from the least urgent block.
-/// One task of it opens them, as many as it may.
-const BLOCKS: [usize; 8] = [MOST_OPEN + 1, MOST_OPEN, 4, 4, 3, 1, 1, 2];
+/// One task of it takes them, as many as it may.
+const BLOCKS: [usize; 8] = [MOST_TAKES + 1, MOST_TAKES, 4, 4, 3, 1, 1, 2];
 
-const _: () = assert!(MOST_OPEN == 8 && MOST_LOCKS == 32, "these are all locks");
+const _: () = assert!(MOST_TAKES == 8 && MOST_LOCKS == 32, "these are all locks");
 
 /// The bases of two blocks are at least so far apart.
 const APART: usize = 16;
@@ -74,12 +74,23 @@ const _: () = {
 /// blocks before it have their locks open, and opens its own; then all other
 /// tasks are released, and wait.
 pub fn full(protocol: Protocol, tasks: usize) -> Scene {
+    filled(protocol, "full", tasks, |locks| locks.min(MOST_TAKES))
+}
+
+/// The same with the most takes: a task that has opened its locks takes them again,
+/// in turn, until its row is full.
+pub fn again(protocol: Protocol, tasks: usize) -> Scene {
+    filled(protocol, "again", tasks, |_| MOST_TAKES)
+}
+
+/// The first task of each block has so many takes of the block's locks.
+fn filled(protocol: Protocol, name: &str, tasks: usize, takes: fn(usize) -> usize) -> Scene {
     let size = tasks / BLOCKS.len();
     let mut walk = Walk::new(protocol, full_plan(tasks));
     let mut first = 0;
     for (block, locks) in BLOCKS.into_iter().enumerate() {
         walk.accepted([RELEASE, (block * size) as u8, 0, 0]);
-        for lock in (first..first + locks).take(MOST_OPEN) {
+        for lock in (first..first + locks).cycle().take(takes(locks)) {
             walk.accepted([ACQUIRE, lock as u8, 0, 0]);
             walk.accepted([WORK, 0, 1 + lock as u8, 0]);
         }
@@ -92,7 +103,7 @@ pub fn full(protocol: Protocol, tasks: usize) -> Scene {
         let record = walk.drawn();
         walk.step(record, true);
     }
-    walk.scene(&format!("full, {tasks}"))
+    walk.scene(&format!("{name}, {tasks}"))
 }
 
 /// Any task may take any lock of its block. Neighbours have equal bases.
@@ -206,7 +217,7 @@ impl Walk {
             }
             UNLOCK => {
                 let row = runner.map_or(&[][..], |task| {
-                    &self.state.open[task][..usize::from(self.state.held[task])]
+                    &self.state.takes[task][..usize::from(self.state.held[task])]
                 });
                 let lock = row.last().copied().filter(|_| is_sensible);
                 [UNLOCK, lock.unwrap_or(any_lock), 0, 0]

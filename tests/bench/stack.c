@@ -62,7 +62,7 @@ static size_t most(size_t so_far, void (*caller)(void), void (*function)(void)) 
 
 /* ---- the largest inputs */
 
-#define OPEN sizeof(uint64_t) /* a row has a byte for each open lock */
+#define TAKES sizeof(uint64_t) /* a row has a byte for each take */
 
 static uint8_t book[RECORDER_MAX_BOOK];
 static size_t length;
@@ -73,8 +73,8 @@ static uint32_t locks[RECORDER_MAX_LOCKS];
 static uint16_t uses[RECORDER_MAX_USES];
 static uint32_t events[RECORDER_MAX_EVENTS];
 
-/* The events of the book: task 0 takes as many locks as it may; all others are released, and wait; it works and gives
- * its locks back; and all finish. Then again. */
+/* The events of the book: task 0 takes a lock twice and gives it back; it takes as many locks as it may; all others are
+ * released, and wait; it works and gives its locks back; and all finish. Then again. */
 static const struct {
     uint8_t kind, amount;
     size_t first; /* the id of the first, and of the others in turn upwards or downwards */
@@ -82,11 +82,13 @@ static const struct {
     size_t count;
 } parts[] = {
     {RECORDER_RELEASE, 0, 0, 0, 1},
-    {RECORDER_ACQUIRE, 0, 0, 1, OPEN},
+    {RECORDER_ACQUIRE, 0, 0, 0, 2},
+    {RECORDER_UNLOCK, 0, 0, 0, 2},
+    {RECORDER_ACQUIRE, 0, 0, 1, TAKES},
     {RECORDER_RELEASE, 0, 1, 1, RECORDER_MAX_TASKS - 1},
     {RECORDER_WORK, 3, 0, 0, 1},
     {RECORDER_TICK, 0, 0, 0, 1},
-    {RECORDER_UNLOCK, 0, OPEN - 1, -1, OPEN},
+    {RECORDER_UNLOCK, 0, TAKES - 1, -1, TAKES},
     {RECORDER_FINISH, 0, 0, 0, RECORDER_MAX_TASKS},
 };
 
@@ -226,7 +228,7 @@ int main(void) {
         } while (state.running != RECORDER_NOBODY);
     }
 
-    /* what no scheduler can be in: every task has more locks open than a row has bytes */
+    /* what no scheduler can be in: every task has more takes than a row has bytes */
     memset(&state, 255, sizeof state);
     size_t any_step = step;
     for (protocol = RECORDER_FIRST; protocol <= RECORDER_SECOND; protocol++) {

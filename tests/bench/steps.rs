@@ -7,7 +7,7 @@
 //! value, so they are copied into its arguments; ordinary Rust is lent both.
 
 use crate::ordinary::{
-    Plan, Protocol, Record, State, MOST_ACCEPTED, MOST_LOCKS, MOST_OPEN, MOST_TASKS,
+    Plan, Protocol, Record, State, MOST_ACCEPTED, MOST_LOCKS, MOST_TAKES, MOST_TASKS,
 };
 use crate::scenes::{Scene, ACQUIRE, FINISH, RELEASE, TICK, UNLOCK, WORK};
 use crate::{device, done, ordinary_step, report, time, Figure};
@@ -19,7 +19,7 @@ const SORTS_ONE_IN: usize = 4;
 const DAMAGED_ONE_IN: usize = 48;
 
 /// The numbers that a step can answer.
-const ANSWERS: [u8; 15] = [0, 8, 10, 11, 12, 13, 14, 15, 16, 17, 18, 19, 20, 21, 22];
+const ANSWERS: [u8; 14] = [0, 8, 10, 11, 12, 13, 14, 15, 17, 18, 19, 20, 21, 22];
 
 /// A timed step: what is handed in, in both forms.
 struct Moment {
@@ -209,8 +209,8 @@ fn damage(
         change!(state.kept[task]);
         change!(state.delay[task]);
         change!(state.held[task]);
-        for at in 0..MOST_OPEN {
-            change!(state.open[task][at]);
+        for at in 0..MOST_TAKES {
+            change!(state.takes[task][at]);
             change!(state.saved[task][at]);
         }
     }

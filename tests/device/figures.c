@@ -211,6 +211,26 @@ static void many(void) {
     show(&s);
 }
 
+/* Lock 1 is taken again inside lock 0. The unlock of that take leaves it open, with the units of its section; the next one is
+ * refused, since the newest take is of lock 0. Then takes of lock 1 until the row is full, and one more. */
+static void again(struct recorder_plan plan) {
+    struct recorder_state s = recorder_fresh();
+    s = step(plan, s, RECORDER_RELEASE, 0, 0);
+    s = step(plan, s, RECORDER_ACQUIRE, 1, 0);
+    s = step(plan, s, RECORDER_ACQUIRE, 0, 0);
+    s = step(plan, s, RECORDER_WORK, 0, 2);
+    s = step(plan, s, RECORDER_ACQUIRE, 1, 0);
+    s = step(plan, s, RECORDER_WORK, 0, 2);
+    show(&s);
+    s = step(plan, s, RECORDER_UNLOCK, 1, 0);
+    s = step(plan, s, RECORDER_UNLOCK, 1, 0);
+    s = step(plan, s, RECORDER_UNLOCK, 0, 0);
+    s = step(plan, s, RECORDER_WORK, 0, 6);
+    show(&s);
+    for (size_t takes = 1; takes <= sizeof s.takes[0]; takes++) s = step(plan, s, RECORDER_ACQUIRE, 1, 0);
+    show(&s);
+}
+
 int main(void) {
     load(4);
     struct recorder_plan plan = load(3).plan;
@@ -266,5 +286,6 @@ int main(void) {
     step_by(255, plan, s, RECORDER_TICK, 0);
     s.next = 4;
     step_by(RECORDER_FIRST, plan, s, RECORDER_TICK, 0);
+    again(plan);
     return 0;
 }

@@ -4,7 +4,7 @@
 //! report.
 
 use crate::event::Event::{self, Acquire, Finish, Release, Tick, Unlock, Work};
-use crate::plan::{Lock, Plan, MOST_LOCKS, MOST_TASKS, MOST_UNITS};
+use crate::plan::{Lock, Plan, MOST_LOCKS, MOST_TAKES, MOST_TASKS, MOST_UNITS};
 
 /// Task t has base t + 1. The least urgent task and the two most urgent ones
 /// share a lock.
@@ -18,6 +18,18 @@ pub fn plan(tasks: usize) -> Plan {
     Plan::with_least_maxima((1..=tasks as u8).collect(), vec![lock], uses)
 }
 
+/// As many takes of one lock as a task may have, with work in between.
+const RETAKES: [Event; 4 * MOST_TAKES] = {
+    let mut events = [Work(1); 4 * MOST_TAKES];
+    let mut at = 0;
+    while at < MOST_TAKES {
+        events[2 * at] = Acquire(0);
+        events[2 * (at + MOST_TAKES) + 1] = Unlock(0);
+        at += 1;
+    }
+    events
+};
+
 /// So many events for this plan; nothing for another kind. Each kind starts with
 /// releases, and is named after what follows them.
 pub fn events(kind: &str, tasks: usize, length: usize) -> Option<Vec<Event>> {
@@ -29,6 +41,8 @@ pub fn events(kind: &str, tasks: usize, length: usize) -> Option<Vec<Event>> {
         // The least urgent one works in its section, and all others wait.
         "waits" => (vec![Release(0), Acquire(0)], 1..=last, &[Work(1)]),
         "sections" => (vec![], 0..=last, &[Acquire(0), Unlock(0)]),
+        // It takes its lock as often as it can, and works with each take more and each less.
+        "retakes" => (vec![], 0..=last, &RETAKES),
         // The most urgent task comes and goes.
         "jobs" => (vec![], 0..=last - 1, &[Release(last), Finish]),
         // It waits behind a section, so the unlock is a call.

@@ -2,16 +2,29 @@
 //! where it has one, and an event that it accepts.
 
 use crate::event::Event;
-use crate::plan::{Plan, MOST_OPEN, MOST_UNITS};
+use crate::plan::{Plan, MOST_TAKES, MOST_UNITS};
 use crate::random::Random;
 
 /// What has to be known of a state to aim at an answer.
 pub trait Scene {
     fn running(&self) -> Option<usize>;
     fn is_released(&self, task: usize) -> bool;
-    /// The open locks of a task, oldest first.
-    fn open_locks(&self, task: usize) -> Vec<usize>;
+    /// The takes of a task, each by its lock, oldest first.
+    fn takes(&self, task: usize) -> Vec<usize>;
     fn units(&self, lock: usize) -> usize;
+}
+
+/// How often a lock is among these takes.
+pub fn times(takes: &[usize], lock: usize) -> usize {
+    takes.iter().filter(|taken| **taken == lock).count()
+}
+
+/// The locks of these takes, each once.
+pub fn open_locks(takes: &[usize]) -> Vec<usize> {
+    let mut open = takes.to_vec();
+    open.sort_unstable();
+    open.dedup();
+    open
 }
 
 /// The units that the section of an open lock still allows.
@@ -21,8 +34,8 @@ pub fn left(plan: &Plan, scene: &impl Scene, lock: usize) -> usize {
 
 /// The units that every open section of a task still allows.
 pub fn room(plan: &Plan, scene: &impl Scene, task: usize) -> usize {
-    let open = scene.open_locks(task);
-    let left = open.iter().map(|lock| left(plan, scene, *lock));
+    let takes = scene.takes(task);
+    let left = takes.iter().map(|lock| left(plan, scene, *lock));
     left.min().unwrap_or(usize::from(MOST_UNITS))
 }
 
@@ -32,8 +45,22 @@ pub fn outer_section_is_tightest(plan: &Plan, scene: &impl Scene) -> bool {
     let Some(task) = scene.running() else {
         return false;
     };
-    let newest = scene.open_locks(task).last().copied();
+    let newest = scene.takes(task).last().copied();
     newest.is_some_and(|lock| room(plan, scene, task) < left(plan, scene, lock))
+}
+
+/// Whether it would be one too many for the section of a lock that is taken more than once,
+/// and in which some units are worked.
+pub fn repeated_section_is_tightest(plan: &Plan, scene: &impl Scene) -> bool {
+    let Some(task) = scene.running() else {
+        return false;
+    };
+    let takes = scene.takes(task);
+    let room = room(plan, scene, task);
+    takes.iter().any(|lock| {
+        let is_tightest = left(plan, scene, *lock) == room;
+        is_tightest && scene.units(*lock) > 0 && times(&takes, *lock) > 1
+    })
 }
 
 /// An event that the state refuses with this number, 12 to 22; nothing where
@@ -92,13 +119,13 @@ fn any_of(random: &mut Random, ids: impl Iterator<Item = usize>) -> Option<u8> {
     random.pick_any(&ids).map(|id| id as u8)
 }
 
-/// The locks that are open for any task.
-fn held(plan: &Plan, scene: &impl Scene) -> Vec<usize> {
-    let tasks = 0..plan.bases.len();
-    tasks.flat_map(|task| scene.open_locks(task)).collect()
+/// The locks that are open for any task but this one.
+fn held_by_others(plan: &Plan, scene: &impl Scene, task: usize) -> Vec<usize> {
+    let others = (0..plan.bases.len()).filter(|other| *other != task);
+    others.flat_map(|other| scene.takes(other)).collect()
 }
 
-/// 15 to 19, 21 and 22: acts of the running task.
+/// 15, 17 to 19, 21 and 22: acts of the running task.
 fn refused_act(
     random: &mut Random,
     plan: &Plan,
@@ -106,37 +133,40 @@ fn refused_act(
     task: usize,
     number: u8,
 ) -> Option<Event> {
-    let open = scene.open_locks(task);
+    let takes = scene.takes(task);
     let all = 0..plan.locks.len();
     let declared = |lock: &usize| plan.declares(task, *lock);
     match number {
         15 => any_of(random, all.filter(|lock| !declared(lock))).map(Event::Acquire),
-        16 => any_of(random, open.into_iter()).map(Event::Acquire),
         17 => {
-            let mut of_others = held(plan, scene);
-            of_others.retain(|lock| declared(lock) && !open.contains(lock));
+            let mut of_others = held_by_others(plan, scene, task);
+            of_others.retain(declared);
             any_of(random, of_others.into_iter()).map(Event::Acquire)
         }
-        18 if open.len() == MOST_OPEN => {
-            let held = held(plan, scene);
+        18 if takes.len() == MOST_TAKES => {
+            // Half of the time a lock that the task has open.
+            if random.one_in(2) {
+                return any_of(random, takes.into_iter()).map(Event::Acquire);
+            }
+            let held = held_by_others(plan, scene, task);
             let locks = all.filter(|lock| declared(lock) && !held.contains(lock));
             any_of(random, locks).map(Event::Acquire)
         }
-        19 => unlock_of_another(random, plan, &open).map(Event::Unlock),
-        21 => too_much(random, open.is_empty(), room(plan, scene, task)),
-        22 if !open.is_empty() => Some(Event::Finish),
+        19 => unlock_of_another(random, plan, &takes).map(Event::Unlock),
+        21 => too_much(random, takes.is_empty(), room(plan, scene, task)),
+        22 if !takes.is_empty() => Some(Event::Finish),
         _ => None,
     }
 }
 
-/// Half of the time an open lock that isn't the newest, if there is one.
-fn unlock_of_another(random: &mut Random, plan: &Plan, open: &[usize]) -> Option<u8> {
-    let older = &open[..open.len().saturating_sub(1)];
+/// Half of the time an open lock that the newest take isn't of, if there is one.
+fn unlock_of_another(random: &mut Random, plan: &Plan, takes: &[usize]) -> Option<u8> {
+    let is_other = |lock: &usize| takes.last() != Some(lock);
+    let older: Vec<usize> = takes.iter().copied().filter(is_other).collect();
     if !older.is_empty() && random.one_in(2) {
-        return any_of(random, older.iter().copied());
+        return any_of(random, older.into_iter());
     }
-    let others = (0..plan.locks.len()).filter(|lock| open.last() != Some(lock));
-    any_of(random, others)
+    any_of(random, (0..plan.locks.len()).filter(is_other))
 }
 
 /// A work of more than the room that is left, where that can be said.
@@ -172,14 +202,19 @@ fn acts(
     task: usize,
     choices: &mut Vec<Event>,
 ) {
-    let open = scene.open_locks(task);
-    let held = held(plan, scene);
-    if open.len() < MOST_OPEN {
-        let may = |lock: &usize| plan.declares(task, *lock) && !held.contains(lock);
-        let locks = (0..plan.locks.len()).filter(may);
-        choices.extend(any_of(random, locks).map(Event::Acquire));
+    let takes = scene.takes(task);
+    let held = held_by_others(plan, scene, task);
+    if takes.len() < MOST_TAKES {
+        // One that is closed, and one that the task has open.
+        let may = |lock: &usize| {
+            let is_closed = !held.contains(lock) && !takes.contains(lock);
+            is_closed && plan.declares(task, *lock)
+        };
+        let closed = (0..plan.locks.len()).filter(may);
+        choices.extend(any_of(random, closed).map(Event::Acquire));
+        choices.extend(any_of(random, takes.iter().copied()).map(Event::Acquire));
     }
-    match open.last() {
+    match takes.last() {
         Some(newest) => choices.push(Event::Unlock(*newest as u8)),
         None => choices.push(Event::Finish),
     }

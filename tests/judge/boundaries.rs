@@ -8,7 +8,7 @@ use crate::draft::Draft;
 use crate::event::Event::{self, Acquire, Finish, Release, Tick, Unlock, Work};
 use crate::generate::Case;
 use crate::plan::{
-    Lock, Plan, MOST_EVENTS, MOST_LOCKS, MOST_OPEN, MOST_TASKS, MOST_UNITS, MOST_USES, NOBODY,
+    Lock, Plan, MOST_EVENTS, MOST_LOCKS, MOST_TAKES, MOST_TASKS, MOST_UNITS, MOST_USES, NOBODY,
 };
 use crate::wire::MOST_BYTES;
 
@@ -74,6 +74,7 @@ pub fn set_pieces() -> Vec<SetPiece> {
     event_records_and_row_space(&mut shelf);
     steps(&mut shelf);
     nests(&mut shelf);
+    takes_of_one_lock(&mut shelf);
     shelf.pieces
 }
 
@@ -86,6 +87,11 @@ fn runs_of_the_crane(shelf: &mut Shelf) {
         shelf.events(name, &crane::plan(), events, number, place);
     }
     shelf.events("nest", &crane::plan(), &crane::NEST, 21, 9);
+    let answers = [(21, 8), (0, 0), (0, 0), (22, 4), (18, 9), (19, 4)];
+    for ((name, events), (number, place)) in crane::TAKEN_AGAIN.iter().zip(answers) {
+        shelf.events(name, &crane::plan(), events, number, place);
+    }
+    shelf.events("the paper's run", &crane::plan_of_paper(), &crane::RUN_OF_PAPER, 0, 0);
 }
 
 /// The greatest counts and one more of each, the largest book, and lengths that
@@ -332,8 +338,9 @@ fn steps(shelf: &mut Shelf) {
     shelf.events("unlock of another's lock", crane, &others_unlock, 19, 3);
     let others_acquire = [Release(0), Acquire(0), Release(3), Acquire(0)];
     shelf.events("15 before 17 for another's lock", crane, &others_acquire, 15, 3);
+    // Task 0 goes on, and takes its lock again.
     let p4_and_acquire = [Release(0), Acquire(0), Release(2), Release(3), Finish, Acquire(0)];
-    shelf.events("P4, then acquire 0", crane, &p4_and_acquire, 16, 5);
+    shelf.events("P4, then acquire 0", crane, &p4_and_acquire, 0, 0);
     let delay_reset = [
         Release(0), Acquire(0), Release(1), Work(2), Unlock(0), Finish, Finish, Release(1),
     ];
@@ -348,12 +355,12 @@ fn steps(shelf: &mut Shelf) {
     shelf.events("a tie", &tie, &[Release(3), Release(0), Tick, Finish, Finish], 0, 0);
 }
 
-/// As many locks open as can be, one more, and the order of 13, 15, 16 and 18
-/// there. Task 0 may not take the last lock of the plan.
+/// As many locks open as can be, one more, and the order of 13, 15 and 18
+/// there. Task 0 may not take the last lock of the plan. (17 is nowhere in a book.)
 fn nests(shelf: &mut Shelf) {
-    let most = MOST_OPEN as u8;
+    let most = MOST_TAKES as u8;
     let (one_more, undeclared, unknown) = (most, most + 1, most + 2);
-    let mut plan = full_plan(3, MOST_OPEN + 2);
+    let mut plan = full_plan(3, MOST_TAKES + 2);
     plan.uses.retain(|pair| *pair != (0, undeclared));
     let mut events = vec![Release(0)];
     events.extend((0..most).map(Acquire));
@@ -361,7 +368,8 @@ fn nests(shelf: &mut Shelf) {
     for (name, last, number) in [
         ("one more open", Acquire(one_more), 18),
         ("15 before 18", Acquire(undeclared), 15),
-        ("16 before 18", Acquire(3), 16),
+        ("one more take, of an open lock", Acquire(3), 18),
+        ("one more take, of the newest lock", Acquire(most - 1), 18),
         ("13 before 18", Acquire(unknown), 13),
         ("19 with the most open", Unlock(0), 19),
         ("22 with the most open", Finish, 22),
@@ -376,6 +384,60 @@ fn nests(shelf: &mut Shelf) {
     again.extend([Unlock(most - 1), Acquire(one_more), Acquire(most - 1)]);
     let place = again.len() as u32 - 1;
     shelf.events("another in place of one, then one more", &plan, &again, 18, place);
+    let mut again = events.clone();
+    again.extend([Unlock(most - 1), Acquire(0), Acquire(one_more)]);
+    let place = again.len() as u32 - 1;
+    shelf.events("an open one in place of one, then one more", &plan, &again, 18, place);
+}
+
+/// As many takes of one lock as can be, and one more, of it and of another, and the order of
+/// 13, 15 and 18 there; of two locks; and what they come to when they are given back. Task 0
+/// may take locks 0 and 1, and not lock 2.
+fn takes_of_one_lock(shelf: &mut Shelf) {
+    let mut plan = full_plan(3, 3);
+    plan.uses.retain(|pair| *pair != (0, 2));
+    plan.locks[0].limit = 4;
+    let with = |first: &[Event], others: &[Event]| [first, others].concat();
+    let mut one = vec![Release(0)];
+    one.extend([Acquire(0); MOST_TAKES]);
+    let last = one.len() as u32;
+    shelf.events("eight takes of one lock", &plan, &one, 0, 0);
+    shelf.events("nine takes of one lock", &plan, &with(&one, &[Acquire(0)]), 18, last);
+    shelf.events("another lock over eight takes", &plan, &with(&one, &[Acquire(1)]), 18, last);
+    shelf.events("15 before 18, takes of one lock", &plan, &with(&one, &[Acquire(2)]), 15, last);
+    shelf.events("13 before 18, takes of one lock", &plan, &with(&one, &[Acquire(3)]), 13, last);
+    shelf.events("19 with eight takes of one lock", &plan, &with(&one, &[Unlock(1)]), 19, last);
+    shelf.events("22 with eight takes of one lock", &plan, &with(&one, &[Finish]), 22, last);
+    let seven = with(&one, &[Unlock(0); MOST_TAKES - 1]);
+    let last = seven.len() as u32;
+    shelf.events("22 with one of eight takes left", &plan, &with(&seven, &[Finish]), 22, last);
+    let all = with(&seven, &[Unlock(0)]);
+    shelf.events("all eight takes given back", &plan, &with(&all, &[Finish]), 0, 0);
+    shelf.events("one given back too many", &plan, &with(&all, &[Unlock(0)]), 19, last + 1);
+
+    // A unit under each of four takes, and on the way back none is left, up to the last return.
+    let one_each = [Acquire(0), Work(1)].repeat(4);
+    let full = with(&[Release(0)], &one_each);
+    let last = full.len() as u32;
+    shelf.events("a unit for each of four takes", &plan, &full, 0, 0);
+    shelf.events("a fifth unit", &plan, &with(&full, &[Work(1)]), 21, last);
+    shelf.events("a fifth after a fifth take", &plan, &with(&full, &[Acquire(0), Work(1)]), 21, last + 1);
+    let in_part = with(&full, &[Unlock(0), Unlock(0), Unlock(0)]);
+    shelf.events("a fifth after three returns", &plan, &with(&in_part, &[Work(1)]), 21, last + 3);
+    let anew = with(&in_part, &[Unlock(0), Work(1), Acquire(0), Work(4)]);
+    shelf.events("four more after four returns", &plan, &anew, 0, 0);
+    // Lock 0 has four takes and lock 1 has four, in turn.
+    let mut two = vec![Release(0)];
+    two.extend([Acquire(0), Acquire(1)].repeat(MOST_TAKES / 2));
+    let last = two.len() as u32;
+    shelf.events("eight takes of two locks", &plan, &two, 0, 0);
+    shelf.events("nine takes of two locks", &plan, &with(&two, &[Acquire(0)]), 18, last);
+    shelf.events("19 for the older of two locks", &plan, &with(&two, &[Unlock(0)]), 19, last);
+    // All of it counts once in lock 0, though it is taken four times.
+    shelf.events("work in two locks", &plan, &with(&two, &[Work(4)]), 0, 0);
+    shelf.events("a unit too many in two locks", &plan, &with(&two, &[Work(5)]), 21, last);
+    let back = [Unlock(1), Unlock(0)].repeat(MOST_TAKES / 2);
+    shelf.events("two locks given back in turn", &plan, &with(&with(&two, &back), &[Finish]), 0, 0);
 }
 
 /// The judge's own answers against the expected ones; those that differ.

@@ -3,16 +3,16 @@
 //! else stays as the rules give it. Whether the result is sound is for the test
 //! of soundness to say.
 
-use crate::aims::Scene;
-use crate::plan::{MOST_ACCEPTED, MOST_LOCKS, MOST_OPEN, MOST_TASKS, NOBODY};
+use crate::aims::{times, Scene};
+use crate::plan::{MOST_ACCEPTED, MOST_LOCKS, MOST_TAKES, MOST_TASKS, NOBODY};
 use crate::plans;
 use crate::protocol::Protocol;
 use crate::random::Random;
 use crate::sound;
-use crate::states::{self, push, refit};
+use crate::states::{self, drop_takes, push, refit};
 use crate::whole::{
-    slot, Field, Per, Whole, ACCEPTED, BASE, CEILING, FIELDS, LIMIT, LOCKS, MAXIMUM, OPEN, OWNER,
-    RELEASED, RUNNING, SECOND, TASKS, UNITS, USER, USES,
+    slot, Field, Per, Whole, ACCEPTED, BASE, CEILING, DEPTH, FIELDS, LIMIT, LOCKS, MAXIMUM, OWNER,
+    RELEASED, ROW, RUNNING, SAVED, SECOND, TASKS, UNITS, USER, USES,
 };
 
 /// Gives a figure another value.
@@ -57,7 +57,7 @@ pub fn some_figure(random: &mut Random, whole: &Whole) -> (Field, usize) {
 
 fn used_slots(whole: &Whole) -> Vec<usize> {
     let tasks = 0..whole.get(TASKS, 0) as usize;
-    let of_task = |task| (0..whole.get(OPEN, task) as usize).map(move |at| slot(task, at));
+    let of_task = |task| (0..whole.get(DEPTH, task) as usize).map(move |at| slot(task, at));
     tasks.flat_map(of_task).collect()
 }
 
@@ -66,15 +66,21 @@ fn used_slots(whole: &Whole) -> Vec<usize> {
 type Change = fn(&mut Random, &mut Whole) -> bool;
 
 #[rustfmt::skip] // a line each
-const CHANGES: [(&str, Change); 22] = [
+const CHANGES: [(&str, Change); 28] = [
     ("nobody runs", nobody_runs),
     ("an unreleased task runs", unreleased_runs),
     ("a lock open for two tasks", open_for_two),
-    ("a lock twice in a row", twice_in_a_row),
+    ("a lock taken twice by one task and open for another", again_and_open_for_two),
+    ("a lock taken twice without owner", again_without_owner),
+    ("a lock taken twice with another owner", again_of_another),
+    ("a lock taken twice with another saved word", again_with_other_word),
+    ("a take given back, and no owner for the other", in_part_without_owner),
+    ("all takes of a lock given back but not its units", returned_with_units),
+    ("all takes of a lock given back but not its owner", returned_with_owner),
     ("a lock open for an unreleased task", open_at_rest),
     ("an undeclared lock open", undeclared_open),
     ("an unknown lock open", unknown_open),
-    ("one lock more open than can be", one_more_open),
+    ("one take more than can be", one_more_take),
     ("two equal release numbers", equal_numbers),
     ("fewer accepted events than a release number", fewer_accepted),
     ("more accepted events than can be", more_accepted),
@@ -163,9 +169,15 @@ fn is_closed(whole: &Whole, lock: usize) -> bool {
     whole.get(OWNER, lock) == 0
 }
 
+/// Whether its owner has two takes of a lock or more.
+fn is_taken_again(whole: &Whole, lock: usize) -> bool {
+    let owner = whole.get(OWNER, lock) as usize;
+    owner > 0 && times(&whole.takes(owner - 1), lock) > 1
+}
+
 /// Whether the task is released and its row has a free place.
 fn has_place(whole: &Whole, task: usize) -> bool {
-    whole.is_released(task) && (whole.get(OPEN, task) as usize) < MOST_OPEN
+    whole.is_released(task) && (whole.get(DEPTH, task) as usize) < MOST_TAKES
 }
 
 fn nobody_runs(_: &mut Random, whole: &mut Whole) -> bool {
@@ -188,9 +200,21 @@ fn unreleased_runs(random: &mut Random, whole: &mut Whole) -> bool {
 }
 
 fn open_for_two(random: &mut Random, whole: &mut Whole) -> bool {
-    let Some(lock) = some_lock(random, whole, |whole, lock| !is_closed(whole, lock)) else {
-        return false;
-    };
+    match some_lock(random, whole, |whole, lock| !is_closed(whole, lock)) {
+        Some(lock) => open_for_another(random, whole, lock),
+        None => false,
+    }
+}
+
+fn again_and_open_for_two(random: &mut Random, whole: &mut Whole) -> bool {
+    match some_lock(random, whole, is_taken_again) {
+        Some(lock) => open_for_another(random, whole, lock),
+        None => false,
+    }
+}
+
+/// Puts an open lock into the row of another task too. Either may be noted as its owner.
+fn open_for_another(random: &mut Random, whole: &mut Whole, lock: usize) -> bool {
     let owner = whole.get(OWNER, lock);
     let second = some_task(random, whole, |whole, task| {
         has_place(whole, task) && whole.uses(task, lock) && task as u64 + 1 != owner
@@ -205,15 +229,89 @@ fn open_for_two(random: &mut Random, whole: &mut Whole) -> bool {
     true
 }
 
-fn twice_in_a_row(random: &mut Random, whole: &mut Whole) -> bool {
-    let has_some = |whole: &Whole, task| has_place(whole, task) && whole.get(OPEN, task) > 0;
-    let Some(task) = some_task(random, whole, has_some) else {
+fn again_without_owner(random: &mut Random, whole: &mut Whole) -> bool {
+    let Some(lock) = some_lock(random, whole, is_taken_again) else {
         return false;
     };
-    let lock = random.pick(&whole.open_locks(task));
-    push(whole, task, lock);
-    refit(whole);
+    whole.set(OWNER, lock, 0);
     true
+}
+
+/// Another task of the plan, released or not, or one that it has not.
+fn again_of_another(random: &mut Random, whole: &mut Whole) -> bool {
+    let Some(lock) = some_lock(random, whole, is_taken_again) else {
+        return false;
+    };
+    let (owner, last) = (whole.get(OWNER, lock), whole.get(TASKS, 0));
+    let any = random.between(1, last as usize) as u64;
+    let other = random.pick(&[owner - 1, owner + 1, last + 1, any]);
+    whole.set(OWNER, lock, other.min(OWNER.greatest()));
+    other != owner
+}
+
+/// The word of a take that another of the same lock is under: what was before the first of
+/// them, none, or one off.
+fn again_with_other_word(random: &mut Random, whole: &mut Whole) -> bool {
+    let is_again = |whole: &Whole, task| !taken_again(whole, task).is_empty();
+    let Some(task) = some_task(random, whole, is_again) else {
+        return false;
+    };
+    let at = random.pick(&taken_again(whole, task));
+    let lock = whole.get(ROW, slot(task, at));
+    let is_of_lock = |place: &usize| whole.get(ROW, slot(task, *place)) == lock;
+    let first = (at..whole.get(DEPTH, task) as usize).rfind(is_of_lock);
+    let before = first.map_or(0, |first| whole.get(SAVED, slot(task, first)));
+    let saved = whole.get(SAVED, slot(task, at));
+    let other = random.pick(&[before, before, 0, saved - 1, saved.wrapping_add(1)]);
+    whole.set(SAVED, slot(task, at), other & SAVED.greatest());
+    true
+}
+
+/// The places of a task's row that have a lock which is at an older place too.
+fn taken_again(whole: &Whole, task: usize) -> Vec<usize> {
+    let depth = whole.get(DEPTH, task) as usize;
+    let lock_at = |at: usize| whole.get(ROW, slot(task, at));
+    let is_again = |at: &usize| (at + 1..depth).any(|older| lock_at(older) == lock_at(*at));
+    (0..depth).filter(is_again).collect()
+}
+
+/// One of two takes or more is gone, and the lock's owner with it.
+fn in_part_without_owner(random: &mut Random, whole: &mut Whole) -> bool {
+    let Some(lock) = some_lock(random, whole, is_taken_again) else {
+        return false;
+    };
+    let task = whole.get(OWNER, lock) as usize - 1;
+    drop_takes(whole, task, |other, after| other == lock && after == 0);
+    refit(whole);
+    whole.set(OWNER, lock, 0);
+    true
+}
+
+fn returned_with_units(random: &mut Random, whole: &mut Whole) -> bool {
+    let has_units = |whole: &Whole, lock| !is_closed(whole, lock) && whole.get(UNITS, lock) > 0;
+    let Some(lock) = some_lock(random, whole, has_units) else {
+        return false;
+    };
+    return_all(whole, lock);
+    true
+}
+
+fn returned_with_owner(random: &mut Random, whole: &mut Whole) -> bool {
+    let Some(lock) = some_lock(random, whole, |whole, lock| !is_closed(whole, lock)) else {
+        return false;
+    };
+    let owner = whole.get(OWNER, lock);
+    return_all(whole, lock);
+    whole.set(UNITS, lock, 0);
+    whole.set(OWNER, lock, owner);
+    true
+}
+
+/// Takes an open lock out of its owner's row.
+fn return_all(whole: &mut Whole, lock: usize) {
+    let task = whole.get(OWNER, lock) as usize - 1;
+    drop_takes(whole, task, |other, _| other == lock);
+    refit(whole);
 }
 
 fn open_at_rest(random: &mut Random, whole: &mut Whole) -> bool {
@@ -256,13 +354,13 @@ fn unknown_open(random: &mut Random, whole: &mut Whole) -> bool {
     true
 }
 
-fn one_more_open(random: &mut Random, whole: &mut Whole) -> bool {
-    let is_full = |whole: &Whole, task| whole.get(OPEN, task) == MOST_OPEN as u64;
+fn one_more_take(random: &mut Random, whole: &mut Whole) -> bool {
+    let is_full = |whole: &Whole, task| whole.get(DEPTH, task) == MOST_TAKES as u64;
     let Some(task) = some_task(random, whole, is_full) else {
         return false;
     };
-    let open = random.pick(&[MOST_OPEN as u64 + 1, OPEN.greatest()]);
-    whole.set(OPEN, task, open);
+    let depth = random.pick(&[MOST_TAKES as u64 + 1, DEPTH.greatest()]);
+    whole.set(DEPTH, task, depth);
     true
 }
 

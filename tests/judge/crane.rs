@@ -1,7 +1,8 @@
-//! RULES 18: the crane plan with its runs P1 to P12 and the values that are given
-//! for them, and the four mistakes, each of which must show on the run that is
-//! meant to show it. They are the second protocol's where nothing else is said;
-//! every row by both protocols is in `tests/cases/runs.txt`.
+//! RULES 18: the crane plan with its runs P1 to P12, those in which a lock is taken
+//! again, and the values that are given for them; and the mistakes that are close at
+//! hand, each of which must show on the run that is meant to show it. They are the
+//! second protocol's where nothing else is said; every row by both protocols is in
+//! `tests/cases/runs.txt`.
 
 use crate::draft::Draft;
 use crate::eager::Eager;
@@ -48,6 +49,48 @@ pub const RUNS: [(&str, &[Event]); 12] = [
     ("P10", &[]),
     ("P11", &[]),
     ("P12", &[Release(0), Acquire(1), Release(1), Work(10), Work(1)]),
+];
+
+/// RULES 18.12: the runs in which a lock is taken again.
+#[rustfmt::skip]
+pub const TAKEN_AGAIN: [(&str, &[Event]); 7] = [
+    ("T1", &[
+        Release(0), Acquire(0), Work(1), Acquire(0), Release(2), Work(2), Unlock(0), Work(1), Work(1),
+    ]),
+    ("T2", &[
+        Release(0), Acquire(0), Work(1), Acquire(0), Release(2), Work(2), Unlock(0), Work(1),
+        Unlock(0), Finish,
+    ]),
+    ("T3", &[
+        Release(0), Acquire(1), Work(3), Acquire(0), Acquire(1), Work(4), Unlock(1), Unlock(0),
+        Work(3), Unlock(1), Acquire(1), Work(10),
+    ]),
+    ("T4", &[Release(0), Acquire(0), Acquire(0), Unlock(0), Finish]),
+    ("T5", &[
+        Release(0), Acquire(0), Acquire(0), Acquire(0), Acquire(0), Acquire(0), Acquire(0),
+        Acquire(0), Acquire(0), Acquire(0),
+    ]),
+    ("T6", &[Release(0), Acquire(0), Acquire(1), Acquire(0), Unlock(1)]),
+    ("T7", &[
+        Release(0), Acquire(1), Acquire(0), Unlock(0), Acquire(1), Release(1), Work(10), Unlock(1),
+        Unlock(1), Finish,
+    ]),
+];
+
+/// RULES 18.11: the plan and the run of the paper that takes of an open lock follow.
+pub fn plan_of_paper() -> Plan {
+    let lock = |ceiling, limit| Lock { ceiling, limit };
+    Plan {
+        bases: vec![1, 2, 3],
+        maxima: vec![3, 2, 3],
+        locks: vec![lock(2, 4), lock(3, 2)],
+        uses: vec![(0, 0), (0, 1), (1, 0), (2, 1)],
+    }
+}
+
+#[rustfmt::skip]
+pub const RUN_OF_PAPER: [Event; 8] = [
+    Release(0), Acquire(0), Acquire(1), Acquire(0), Unlock(0), Unlock(1), Unlock(0), Finish,
 ];
 
 /// What the program prints for P1, letter for letter, by the second protocol.
@@ -133,8 +176,13 @@ fn answers(events: &[Event], wrong: Wrong) -> ByProtocol<Answer> {
 }
 
 fn run(name: &str) -> Answer {
-    let found = RUNS.iter().find(|(known, _)| *known == name);
-    answer(found.expect("a run of the table").1, Wrong::Nothing)
+    answer(events_of(name), Wrong::Nothing)
+}
+
+fn events_of(name: &str) -> &'static [Event] {
+    let mut all = RUNS.iter().chain(&TAKEN_AGAIN);
+    let found = all.find(|(known, _)| *known == name);
+    found.expect("a run of the tables").1
 }
 
 /// The row of the event at a place, from 0.
@@ -152,10 +200,13 @@ pub fn test() -> (usize, Vec<String>) {
     runs_p1_to_p4(&mut tests);
     runs_p5_to_p12(&mut tests);
     eager_calls(&mut tests);
+    runs_t1_to_t7(&mut tests);
+    run_of_paper(&mut tests);
     for protocol in PROTOCOLS {
         single_steps(&mut tests, protocol);
     }
     wrong_ways(&mut tests);
+    wrong_ways_of_takes(&mut tests);
     (tests.done, tests.failed)
 }
 
@@ -280,6 +331,70 @@ fn eager_calls(tests: &mut Tests) {
     tests.expect("acquires-alone: P1 has one", acquires.eager_calls, 1);
 }
 
+/// RULES 18.12: what each run comes to.
+fn runs_t1_to_t7(tests: &mut Tests) {
+    let t1 = run("T1");
+    tests.expect(
+        "T1: the unit past the limit is refused, over both takes",
+        (t1.number, t1.place),
+        (21, 8),
+    );
+    tests.expect("T1: the delay of task 2", t1.delays[2], 3);
+
+    let t2 = run("T2");
+    tests.expect("T2: nothing refused", t2.number, 0);
+    tests.expect(
+        "T2: the first unlock does not call, and task 0 goes on",
+        row(&t2, 6),
+        [0, 5, 5, 0],
+    );
+    tests.expect(
+        "T2: the second calls, and task 2 runs",
+        row(&t2, 8),
+        [2, 5, 1, 1],
+    );
+    tests.expect("T2: the delay of task 2", t2.delays[2], 3);
+    tests.expect("T2: calls in all", (t2.lazy_calls, t2.eager_calls), (1, 2));
+
+    let t3 = run("T3");
+    tests.expect("T3: nothing refused", t3.number, 0);
+    tests.expect("T3: calls in all", (t3.lazy_calls, t3.eager_calls), (0, 5));
+
+    let t4 = run("T4");
+    tests.expect("T4: refused", (t4.number, t4.place), (22, 4));
+    let t5 = run("T5");
+    tests.expect("T5: refused", (t5.number, t5.place), (18, 9));
+    tests.expect("T5: one of eight takes is a call", t5.eager_calls, 1);
+    let t6 = run("T6");
+    tests.expect("T6: refused", (t6.number, t6.place), (19, 4));
+    let t7 = run("T7");
+    tests.expect("T7: nothing refused", t7.number, 0);
+    tests.expect("T7: the delay of task 1", t7.delays[1], 10);
+    tests.expect("T7: calls in all", (t7.lazy_calls, t7.eager_calls), (1, 4));
+}
+
+/// RULES 18.11: task 0 runs at 1, and then at 2, 3, 3, 3, 2 and 1.
+fn run_of_paper(tests: &mut Tests) {
+    let plan = plan_of_paper();
+    let book = Draft::of(&plan, &RUN_OF_PAPER).bytes();
+    let answers = replay(&book, 4 * RUN_OF_PAPER.len(), Wrong::Nothing).answers;
+    for answer in [answers.second, answers.first] {
+        let ran = (0..7).map(|place| (row(&answer, place)[0], row(&answer, place)[1]));
+        tests.expect(
+            "the paper's run: the words of task 0",
+            ran.collect::<Vec<_>>(),
+            [1, 2, 3, 3, 3, 2, 1].map(|word| (0, word)).to_vec(),
+        );
+        tests.expect(
+            "the paper's run: its end",
+            (answer.number, answer.lazy_calls, answer.eager_calls),
+            (0, 0, 4),
+        );
+        tests.expect("the paper's run: nobody waits", answer.delays, vec![0; 3]);
+        tests.expect("the paper's run: bounds", answer.bounds, vec![0, 4, 2]);
+    }
+}
+
 /// What no book can show: 11, 20, and the order of 11 before 20 before 12.
 fn single_steps(tests: &mut Tests, protocol: Protocol) {
     let plan = plan();
@@ -352,4 +467,37 @@ fn wrong_ways(tests: &mut Tests) {
     );
     let newest = answer(&NEST, Wrong::Newest);
     tests.expect("newest: the nest's last work is accepted", newest.number, 0);
+}
+
+/// RULES 18.12: each of the four mistakes there, on the run that is meant to show it.
+fn wrong_ways_of_takes(tests: &mut Tests) {
+    let (t1, t5) = (events_of("T1"), events_of("T5"));
+
+    let units = answer(t1, Wrong::UnitsAtFirstReturn);
+    tests.expect(
+        "units-at-first-return: T1 goes on past the limit",
+        units.number,
+        0,
+    );
+    let charged = answer(t1, Wrong::ChargedByTake);
+    tests.expect(
+        "charged-by-take: T1's second work is refused",
+        (charged.number, charged.place),
+        (21, 5),
+    );
+    let counted = answer(t5, Wrong::LocksCounted);
+    tests.expect("locks-counted: T5 goes on", counted.number, 0);
+
+    // After T2's first unlock the lock is free, though task 0 has a take of it left.
+    let plan = plan();
+    let free_after_first = |wrong| {
+        let mut lazy = Lazy::new(&plan, Protocol::Second, wrong);
+        let accepted = events_of("T2")[..7].iter();
+        let is_whole = accepted.map(|event| lazy.step(*event)).all(|it| it.is_ok());
+        (is_whole, lazy.sections[0].holder)
+    };
+    let right = free_after_first(Wrong::Nothing);
+    tests.expect("T2: lock 0 is still task 0's", right, (true, Some(0)));
+    let wrong = free_after_first(Wrong::OwnerAtFirstReturn);
+    tests.expect("owner-at-first-return: it is free", wrong, (true, None));
 }

@@ -37,8 +37,8 @@ const ZERO: &str = "accepted 3, released 0 1, running 0";
 const ONE: &str = "released 1 2, kept 1 3";
 const THREE: &str = "released 3 3, kept 3 7";
 /// Task 0 has lock 0 open, and its unlock puts 1 back, as it should, or 6.
-const OPEN: &str = "open 0 1, row 0 0, saved 0 1, owner 0 1";
-const OPEN_OVER_6: &str = "open 0 1, row 0 0, saved 0 6, owner 0 1";
+const OPEN: &str = "depth 0 1, row 0 0, saved 0 1, owner 0 1";
+const OPEN_OVER_6: &str = "depth 0 1, row 0 0, saved 0 6, owner 0 1";
 /// The plan breaks 24: lock 0 raises task 0 above its maximum.
 const LOW: &str = "maximum 0 3";
 

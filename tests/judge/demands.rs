@@ -4,8 +4,10 @@
 //! every delay within its bound; no priority is above its task's maximum, and no
 //! kernel entry finds anything to cut; the second protocol calls only where the first
 //! does, and that one only where the eager scheduler does; and at the end the counts
-//! equal the counts over the history.
+//! and the open sections equal those over the history. What is demanded of a lock that
+//! is taken again is in `taken_again.rs`, and what holds a job up in `spans.rs`.
 
+use crate::aims::times;
 use crate::book::Book;
 use crate::eager::Eager;
 use crate::event::Event;
@@ -13,6 +15,7 @@ use crate::lazy::{Lazy, Word};
 use crate::plan::Plan;
 use crate::protocol::ByProtocol;
 use crate::replay::Answer;
+use crate::spans::Spans;
 
 /// An event from a fresh start, and what each scheduler made of it.
 pub struct Happened {
@@ -32,7 +35,7 @@ pub fn after_event(
     happened: &Happened,
     bounds: &[u16],
     eager: &Eager,
-    (second, first): (&Lazy, &Lazy),
+    [second, first]: [&Lazy; 2],
 ) -> Result<(), String> {
     let (by_second, by_first) = (happened.by_lazy.second, happened.by_lazy.first);
     let numbers = [happened.by_eager, by_second.0, by_first.0];
@@ -90,9 +93,9 @@ fn same_figures(bounds: &[u16], eager: &Eager, lazy: &Lazy) -> Result<(), String
         if eager.release_number(task) != lazy.tasks[task].release_number {
             return Err(format!("the release numbers of task {task} differ"));
         }
-        let open = lazy.tasks[task].open.iter().map(|open| &open.lock);
-        if !eager.open_locks(task).iter().eq(open) {
-            return Err(format!("the open locks of task {task} differ"));
+        let takes = lazy.tasks[task].takes.iter().map(|take| &take.lock);
+        if !eager.takes(task).iter().eq(takes) {
+            return Err(format!("the takes of task {task} differ"));
         }
         let delay = eager.delays()[task];
         if delay != lazy.tasks[task].delay {
@@ -186,12 +189,14 @@ fn kernel_word(happened: &Happened, greatest: u8, first: &Lazy) -> Result<(), St
     Ok(())
 }
 
-/// No lock has two holders, and every section is within its limit.
+/// No lock has two holders, who are tasks with a take of it or more, and every section is
+/// within its limit.
 fn holders_and_sections(plan: &Plan, eager: &Eager, lazy: &Lazy) -> Result<(), String> {
     let mut holders: Vec<Option<usize>> = vec![None; plan.locks.len()];
     for task in 0..plan.bases.len() {
-        for lock in eager.open_locks(task) {
-            if let Some(other) = holders[*lock].replace(task) {
+        for lock in eager.takes(task) {
+            let other = holders[*lock].replace(task);
+            if let Some(other) = other.filter(|other| *other != task) {
                 return Err(format!(
                     "lock {lock} is open for {other} and {task} at once"
                 ));
@@ -260,9 +265,32 @@ pub fn after_run(book: &Book, accepted: usize, answers: &ByProtocol<Answer>) -> 
     Ok(())
 }
 
+/// The sections that are open at the end, by the history, are those of the eager
+/// scheduler: with as many takes and as many units.
+pub fn sections_over_history(spans: &Spans, eager: &Eager, plan: &Plan) -> Result<(), String> {
+    for lock in 0..plan.locks.len() {
+        let span = spans.open.iter().find(|span| span.lock == lock);
+        let takes = |task| times(eager.takes(task), lock);
+        let has_its_takes = (0..plan.bases.len()).all(|task| {
+            let counted = span.filter(|span| span.task == task);
+            takes(task) == counted.map_or(0, |span| span.takes)
+        });
+        if !has_its_takes {
+            return Err(format!(
+                "the takes of lock {lock} are others over the history"
+            ));
+        }
+        let units = span.map_or(0, |span| span.units);
+        if u64::from(eager.units(lock)) != units {
+            return Err(format!("lock {lock} has {units} units over the history"));
+        }
+    }
+    Ok(())
+}
+
 /// The acquires and unlocks after which the task that did them has another
 /// priority than before: the greatest of its base and the ceilings of the locks
-/// that it has open. The task that ran at an event is the one that the row
+/// that it has taken. The task that ran at an event is the one that the row
 /// before names.
 fn eager_over_history(plan: &Plan, history: &[Event], rows: &[u8]) -> u32 {
     let mut raised: Vec<Vec<u8>> = plan.bases.iter().map(|base| vec![*base]).collect();

@@ -1,20 +1,22 @@
 //! The eager scheduler: the running task is worked out anew after each event
-//! from bases, open locks and release numbers. It keeps no word and no kept or
-//! saved priority; nothing here is shared with the lazy scheduler.
+//! from bases, takes and release numbers. It keeps no word, no kept or saved
+//! priority and no owner; nothing here is shared with the lazy scheduler.
 
 use crate::aims::Scene;
 use crate::event::Event;
-use crate::plan::{Plan, MOST_ACCEPTED, MOST_OPEN};
+use crate::plan::{Plan, MOST_ACCEPTED, MOST_TAKES};
 use crate::wrong::Wrong;
 
 /// What is known of a task from its accepted release until its accepted finish.
+#[derive(Clone)]
 struct Job {
     /// Which one of the accepted events, from 1, released the task.
     release_number: u32,
-    /// The open locks of the task, oldest first.
-    open: Vec<usize>,
+    /// The takes of the task, each by its lock, oldest first.
+    takes: Vec<usize>,
 }
 
+#[derive(Clone)]
 pub struct Eager<'p> {
     plan: &'p Plan,
     wrong: Wrong,
@@ -22,7 +24,8 @@ pub struct Eager<'p> {
     /// By task; nothing for a task that isn't released.
     jobs: Vec<Option<Job>>,
     running: Option<usize>,
-    /// By lock: the units of its section; 0 for a closed lock.
+    /// By lock: the units of its section, from the first take to the return of the last; 0
+    /// for a closed lock.
     units: Vec<u32>,
     /// By task.
     delays: Vec<u16>,
@@ -59,13 +62,22 @@ impl<'p> Eager<'p> {
         self.jobs[task].as_ref().map_or(0, |job| job.release_number)
     }
 
-    /// The open locks of a task, oldest first; none for an unreleased task.
-    pub fn open_locks(&self, task: usize) -> &[usize] {
-        self.jobs[task].as_ref().map_or(&[], |job| &job.open)
+    /// The takes of a task, each by its lock, oldest first; none for an unreleased task.
+    pub fn takes(&self, task: usize) -> &[usize] {
+        self.jobs[task].as_ref().map_or(&[], |job| &job.takes)
+    }
+
+    /// A lock is open for a task that has a take of it.
+    fn has_open(&self, task: usize, lock: usize) -> bool {
+        self.takes(task).contains(&lock)
     }
 
     pub fn units(&self, lock: usize) -> u32 {
         self.units[lock]
+    }
+
+    pub fn all_units(&self) -> &[u32] {
+        &self.units
     }
 
     pub fn delays(&self) -> &[u16] {
@@ -80,7 +92,7 @@ impl<'p> Eager<'p> {
     /// where that is greater.
     pub fn priority(&self, task: usize) -> u8 {
         let ceilings = self
-            .open_locks(task)
+            .takes(task)
             .iter()
             .map(|lock| self.plan.locks[*lock].ceiling);
         ceilings.fold(self.plan.bases[task], u8::max)
@@ -126,18 +138,19 @@ impl<'p> Eager<'p> {
             (Event::Acquire(lock), Some(task)) => self.refusal_of_acquire(task, usize::from(lock)),
             (Event::Unlock(lock), Some(task)) => self.refusal_of_unlock(task, usize::from(lock)),
             (Event::Work(amount), Some(task)) => {
-                let passes = |lock: &usize| {
-                    let limit = u32::from(self.plan.locks[*lock].limit);
-                    self.units[*lock] + u32::from(amount) > limit
+                let passes = |lock: usize| {
+                    let limit = u32::from(self.plan.locks[lock].limit);
+                    let more = self.charge(task, lock, amount);
+                    more > 0 && self.units[lock] + more > limit
                 };
-                if self.charged(task).iter().any(passes) {
+                if (0..self.plan.locks.len()).any(passes) {
                     21
                 } else {
                     0
                 }
             }
             (Event::Finish, Some(task)) => {
-                if self.open_locks(task).is_empty() {
+                if self.takes(task).is_empty() {
                     0
                 } else {
                     22
@@ -163,35 +176,53 @@ impl<'p> Eager<'p> {
         if !self.plan.declares(task, lock) {
             return 15; // the task is no user of the lock
         }
-        if self.open_locks(task).contains(&lock) {
-            return 16; // this task has it open
+        if self.wrong == Wrong::AgainRefused && self.has_open(task, lock) {
+            return 16; // this task has it open, which is right
         }
-        if (0..self.jobs.len()).any(|other| self.open_locks(other).contains(&lock)) {
+        if (0..self.jobs.len()).any(|other| other != task && self.has_open(other, lock)) {
             return 17; // another one has it open
         }
-        if self.open_locks(task).len() >= MOST_OPEN {
-            return 18; // this task has no place for another lock
+        if self.counted(task) >= MOST_TAKES {
+            return 18; // this task has no place for another take
         }
         0
+    }
+
+    /// How many takes of a task count for 18: all, also those of one lock.
+    fn counted(&self, task: usize) -> usize {
+        let is_open = |lock: &usize| self.has_open(task, *lock);
+        match self.wrong {
+            Wrong::LocksCounted => (0..self.plan.locks.len()).filter(is_open).count(),
+            Wrong::OneMoreTake => self.takes(task).len().saturating_sub(1),
+            _ => self.takes(task).len(),
+        }
     }
 
     fn refusal_of_unlock(&self, task: usize, lock: usize) -> u8 {
         if lock >= self.plan.locks.len() {
             return 13; // no such lock
         }
-        if self.open_locks(task).last() != Some(&lock) {
-            return 19; // it isn't the newest lock that this task has open
+        let may_return = match self.wrong {
+            Wrong::AnyTakeReturned => self.has_open(task, lock),
+            _ => self.takes(task).last() == Some(&lock),
+        };
+        if !may_return {
+            return 19; // the newest take of this task isn't of this lock
         }
         0
     }
 
-    /// The sections that a work counts for: every open one of the task.
-    fn charged(&self, task: usize) -> &[usize] {
-        let open = self.open_locks(task);
-        match self.wrong {
-            Wrong::Newest => &open[open.len().saturating_sub(1)..],
-            _ => open,
-        }
+    /// What a work by a task is for the section of a lock: all of it where the task has
+    /// the lock open, and nothing for another lock. How often it has taken the lock makes
+    /// no difference.
+    fn charge(&self, task: usize, lock: usize, amount: u16) -> u32 {
+        let takes = self.takes(task);
+        let times = match self.wrong {
+            Wrong::Newest => usize::from(takes.last() == Some(&lock)),
+            Wrong::ChargedByTake => takes.iter().filter(|other| **other == lock).count(),
+            _ => usize::from(takes.contains(&lock)),
+        };
+        times as u32 * u32::from(amount)
     }
 
     /// The effect of an event that isn't refused.
@@ -203,7 +234,7 @@ impl<'p> Eager<'p> {
                 let task = usize::from(task);
                 self.jobs[task] = Some(Job {
                     release_number: self.accepted,
-                    open: Vec::new(),
+                    takes: Vec::new(),
                 });
                 // The delay counts anew for each job.
                 self.delays[task] = 0;
@@ -211,19 +242,30 @@ impl<'p> Eager<'p> {
             (Event::Acquire(lock), Some(task)) => {
                 let lock = usize::from(lock);
                 let priority = self.priority(task);
-                self.open_of(task).push(lock);
-                self.units[lock] = 0;
-                self.count_call(event, priority, self.priority(task));
+                let is_again = self.has_open(task, lock);
+                self.takes_of(task).push(lock);
+                // The first take begins a section, any other goes on with it.
+                if !is_again || self.wrong == Wrong::AgainStartsAnew {
+                    self.units[lock] = 0;
+                }
+                self.count_call(event, priority != self.priority(task), is_again);
             }
             (Event::Unlock(lock), Some(task)) => {
+                let lock = usize::from(lock);
                 let priority = self.priority(task);
-                self.open_of(task).pop();
-                self.units[usize::from(lock)] = 0;
-                self.count_call(event, priority, self.priority(task));
+                let takes = self.takes_of(task);
+                let newest = takes.iter().rposition(|taken| *taken == lock);
+                takes.remove(newest.expect("19 was not given"));
+                // The last return ends the section.
+                let stays_open = self.has_open(task, lock);
+                if !stays_open || self.wrong == Wrong::UnitsAtFirstReturn {
+                    self.units[lock] = 0;
+                }
+                self.count_call(event, priority != self.priority(task), stays_open);
             }
             (Event::Work(amount), Some(task)) => {
-                for lock in self.charged(task).to_vec() {
-                    self.units[lock] += u32::from(amount);
+                for lock in 0..self.plan.locks.len() {
+                    self.units[lock] += self.charge(task, lock, amount);
                 }
                 self.delay_others(task, amount);
             }
@@ -238,18 +280,19 @@ impl<'p> Eager<'p> {
         }
     }
 
-    /// Counts an acquire or an unlock, given the priority before it and after it.
-    fn count_call(&mut self, event: Event, before: u8, after: u8) {
-        if self.wrong.counts(event, before != after) {
+    /// Counts an acquire or an unlock, given whether it changes the priority of its task,
+    /// and whether another take of the lock is there too.
+    fn count_call(&mut self, event: Event, changes: bool, is_one_of_several: bool) {
+        if self.wrong.counts(event, changes, is_one_of_several) {
             self.calls += 1;
         }
     }
 
-    fn open_of(&mut self, task: usize) -> &mut Vec<usize> {
+    fn takes_of(&mut self, task: usize) -> &mut Vec<usize> {
         &mut self.jobs[task]
             .as_mut()
             .expect("only a released task runs")
-            .open
+            .takes
     }
 
     /// Work delays every released task whose base is above the worker's.
@@ -301,8 +344,8 @@ impl Scene for Eager<'_> {
         self.jobs[task].is_some()
     }
 
-    fn open_locks(&self, task: usize) -> Vec<usize> {
-        self.open_locks(task).to_vec()
+    fn takes(&self, task: usize) -> Vec<usize> {
+        self.takes(task).to_vec()
     }
 
     fn units(&self, lock: usize) -> usize {

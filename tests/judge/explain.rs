@@ -58,7 +58,8 @@ fn of_history(history: &History, wrong: Wrong) -> Vec<String> {
     }
     if let Some(refused) = &history.refused {
         let number = history.moments.len() + 1;
-        lines.push(format!("event {number}: {}", refused_event(refused.number)));
+        let words = refused_event(refused.number, wrong);
+        lines.push(format!("event {number}: {words}"));
         lines.extend(reason(history, refused, wrong));
     }
     lines
@@ -109,21 +110,27 @@ fn reason(history: &History, refused: &Refused, wrong: Wrong) -> Option<String> 
     }
     // All others are acts of the task that runs.
     let task = refused.running?;
-    let open = history.open(task);
-    let newest = open.last().map(|open| open.lock);
+    let taken = history.taken(task, wrong);
+    let newest = match wrong {
+        Wrong::OldestTake => taken.takes.first(),
+        _ => taken.takes.last(),
+    };
     Some(match refused.number {
         15 => format!("the plan gives task {task} no use of lock {named}"),
-        16 => format!("task {task} took lock {named} and has not given it back"),
         18 => format!("task {task} may have no more"),
-        19 => match newest {
-            Some(newest) => format!(
-                "the newest lock of task {task} is {newest}, and lock {named} was to be given back"
-            ),
-            None => format!("task {task} has no lock open, and lock {named} was to be given back"),
-        },
+        19 => {
+            let has = match newest {
+                Some(newest) if wrong == Wrong::OldWords => {
+                    format!("the newest lock of task {task} is {newest}")
+                }
+                Some(newest) => format!("the newest take of task {task} is of lock {newest}"),
+                None => format!("task {task} has no lock open"),
+            };
+            format!("{has}, and lock {named} was to be given back")
+        }
         21 => {
-            let (passed, more) = passed(history, refused.event, &open, wrong)?;
-            let (lock, units) = (passed.lock, passed.units);
+            let (lock, more) = passed(history, refused, wrong)?;
+            let units = taken.units(lock);
             let limit = history.plan.locks[lock].limit;
             format!(
                 "task {task} worked {units} units of the {limit} that lock {lock} allows, \
@@ -135,18 +142,20 @@ fn reason(history: &History, refused: &Refused, wrong: Wrong) -> Option<String> 
     })
 }
 
-/// The section of the least lock that a work would take past its limit, and the units
-/// of the work.
-fn passed(history: &History, work: Event, open: &[Open], wrong: Wrong) -> Option<(Open, u64)> {
-    let Event::Work(more) = work else {
+/// The least lock whose section a work would take past its limit, and the units of the
+/// work.
+fn passed(history: &History, refused: &Refused, wrong: Wrong) -> Option<(usize, u64)> {
+    let Event::Work(more) = refused.event else {
         return None;
     };
     let more = u64::from(more);
+    let taken = history.taken(refused.running?, Wrong::Nothing);
     let limit = |lock: usize| u64::from(history.plan.locks[lock].limit);
     let is_passed = |open: &&Open| open.units + more > limit(open.lock);
+    let passed = taken.open.iter().filter(is_passed).map(|open| open.lock);
     let named = match wrong {
-        Wrong::NewestPassed => open.last(),
-        _ => open.iter().filter(is_passed).min_by_key(|open| open.lock),
+        Wrong::NewestPassed => taken.takes.last().copied(),
+        _ => passed.min(),
     };
-    Some((*named?, more))
+    Some((named?, more))
 }

@@ -112,28 +112,32 @@ pub fn short_run(random: &mut Random) -> (Plan, Vec<Event>) {
         random.between(4, 60)
     };
     let number = random.pick(&walk::WANTED);
-    // One lock too many, or some other refusal with as many open as can be.
-    let with_most_open = number == 18 || (number != 12 && random.one_in(6));
+    // One take too many, or some other refusal with as many as can be.
+    let with_most_takes = number == 18 || (number != 12 && random.one_in(6));
     let wanted = if random.one_in(2) {
         Some(Wanted {
             number,
             from: random.below(length + 1),
-            with_most_open,
+            with_most_takes,
         })
     } else {
         None
     };
-    let wants_most = wanted.is_some_and(|wanted| wanted.with_most_open);
+    let wants_most = wanted.is_some_and(|wanted| wanted.with_most_takes);
     let wants_nest = wanted.is_some_and(|wanted| wanted.number == 21) && random.one_in(2);
     let plan = if wants_most || wants_nest || random.one_in(8) {
         plans::deep(random)
     } else {
         plans::any(random)
     };
-    let style: &Style = if wants_most || random.one_in(8) {
-        &walk::DEEP
+    let wants_21 = wanted.is_some_and(|wanted| wanted.number == 21) && !wants_most;
+    let style: &Style = if wants_21 && random.one_in(2) {
+        // Sections that come to their limits over several takes.
+        &walk::AGAIN
+    } else if wants_most || random.one_in(8) {
+        random.pick(&[&walk::DEEP, &walk::HEAPED])
     } else {
-        random.pick(&[&walk::MIXED, &walk::CONTENDED])
+        random.pick(&[&walk::MIXED, &walk::CONTENDED_AGAIN, &walk::AGAIN])
     };
     let events = walk::walk(random, &plan, style, length, wanted);
     (plan, events)
@@ -142,11 +146,17 @@ pub fn short_run(random: &mut Random) -> (Plan, Vec<Event>) {
 /// The long book of this number.
 pub fn long(seed: u64, number: u64) -> Case {
     let random = &mut Random::for_case(seed, 2, number);
-    let (plan, style, sort) = match number % 4 {
+    let (plan, style, sort) = match number % 6 {
         0 => (plans::contended(random), &walk::CONTENDED, "contended"),
         1 => (plans::any(random), &walk::MIXED, "mixed"),
         2 => (plans::deep(random), &walk::DEEP, "deep"),
-        _ => (plans::plain(random), &walk::PLAIN, "plain"),
+        3 => (plans::plain(random), &walk::PLAIN_AGAIN, "plain, again"),
+        4 => (
+            plans::contended(random),
+            &walk::CONTENDED_AGAIN,
+            "contended, again",
+        ),
+        _ => (plans::deep(random), &walk::AGAIN, "again"),
     };
     let wanted = if random.one_in(3) {
         let number = random.pick(&walk::WANTED);
@@ -154,7 +164,7 @@ pub fn long(seed: u64, number: u64) -> Case {
         Some(Wanted {
             number,
             from,
-            with_most_open: false,
+            with_most_takes: false,
         })
     } else {
         None

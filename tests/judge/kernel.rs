@@ -23,13 +23,19 @@ use std::sync::Arc;
 
 /// The wrong ways that show in what a kernel runs, by each protocol that goes wrong
 /// in them, and those that show in the number of its calls alone.
-const BY_RUN: [Wrong; 4] = [
+const BY_RUN: [Wrong; 5] = [
     Wrong::Tail,
     Wrong::GivesWay,
     Wrong::Base,
     Wrong::ReleaseLeavesKernelWord,
+    Wrong::RestoresAtOnce,
 ];
-const BY_CALLS: [Wrong; 2] = [Wrong::EveryLockAct, Wrong::AcquiresAlone];
+const BY_CALLS: [Wrong; 4] = [
+    Wrong::EveryLockAct,
+    Wrong::AcquiresAlone,
+    Wrong::AgainIsCall,
+    Wrong::InPartIsCall,
+];
 
 /// So many lists that differ are told in words.
 const TOLD: usize = 5;
@@ -103,6 +109,23 @@ fn ask<T>(
         return Ok(has_replied.then_some(replies));
     }
     Ok(program.end().then_some(replies))
+}
+
+/// The same lists without a kernel: what has to be reached and told is, by a kernel that is
+/// the eager scheduler, and that counts its calls. So the lists are known to be telling
+/// before a real one runs them.
+pub fn is_telling_of_itself(options: &Options) -> bool {
+    let cases = lists::all(options.amounts.seed, options.amounts.lists);
+    let trials: Vec<Trial> = cases.into_iter().map(Trial::of_itself).collect();
+    let differing = trials
+        .iter()
+        .filter(|it| !it.differences().is_empty())
+        .count();
+    println!(
+        "{} lists for a real kernel: {differing} differ",
+        trials.len()
+    );
+    is_telling(options, &trials) && differing == 0
 }
 
 fn conclude(options: &Options, trials: &[Trial]) -> Ending {

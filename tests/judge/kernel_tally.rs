@@ -3,7 +3,9 @@
 
 use crate::event::Event;
 use crate::kernel_trial::Trial;
-use crate::plan::{MOST_OPEN, NOBODY};
+use crate::plan::{MOST_TAKES, NOBODY};
+use crate::taken::Counts;
+use crate::wrong::Wrong;
 
 #[derive(Default)]
 pub struct KernelTally {
@@ -20,9 +22,11 @@ pub struct KernelTally {
     calls: usize,
     /// Events after which nobody runs.
     idle: usize,
-    /// The most tasks of a plan, and the most locks that a task had open.
+    /// The most tasks of a plan, and the most takes that a task had.
     tasks: usize,
     nest: usize,
+    /// What was met of locks that are taken again.
+    taken: Counts,
 }
 
 impl KernelTally {
@@ -33,18 +37,19 @@ impl KernelTally {
         self.lists += 1;
         self.events += trial.events.len();
         self.tasks = self.tasks.max(tasks);
-        let mut open = vec![0; tasks];
+        self.taken.add(&trial.case.replay(Wrong::Nothing).taken);
+        let mut takes = vec![0; tasks];
         let mut before = NOBODY;
         for (event, row) in trial.events.iter().zip(answer.rows.chunks(4)) {
             let (running, user, next, call) = (row[0], row[1], row[2], row[3]);
             let is_tie = running != NOBODY && user == next;
             match event {
                 Event::Acquire(_) => {
-                    open[usize::from(before)] += 1;
-                    self.nest = self.nest.max(open[usize::from(before)]);
+                    takes[usize::from(before)] += 1;
+                    self.nest = self.nest.max(takes[usize::from(before)]);
                 }
                 Event::Unlock(_) => {
-                    open[usize::from(before)] -= 1;
+                    takes[usize::from(before)] -= 1;
                     self.unlocks_at_ties += usize::from(is_tie && running == before);
                 }
                 _ => {}
@@ -65,16 +70,19 @@ impl KernelTally {
             ("an unlock that leaves them so", self.unlocks_at_ties > 0),
             ("an unlock that is a lazy call", self.calls > 0),
             ("nobody", self.idle > 0),
-            ("as many open locks as can be", self.nest == MOST_OPEN),
+            ("as many takes as can be", self.nest == MOST_TAKES),
         ];
-        let missing = wanted.iter().filter(|(_, met)| !met);
+        let taken = self.taken.named(false).into_iter();
+        let taken = taken.map(|(what, times)| (what, times > 0));
+        let missing = wanted.into_iter().chain(taken).filter(|(_, met)| !met);
         missing.map(|(what, _)| what.to_string()).collect()
     }
 
     pub fn summary(&self) -> String {
         format!(
             "{} lists of plans of up to {} tasks, {} events, {} switches ({} after an unlock), {} \
-             ties ({} after an unlock), nests of up to {}",
+             ties ({} after an unlock), up to {} takes of a task, {} sections with a lock taken \
+             again ({} end with a call)",
             self.lists,
             self.tasks,
             self.events,
@@ -83,6 +91,8 @@ impl KernelTally {
             self.ties,
             self.unlocks_at_ties,
             self.nest,
+            self.taken.repeated,
+            self.taken.repeated_with_call,
         )
     }
 }

@@ -4,6 +4,7 @@
 use crate::compare;
 use crate::event::Event;
 use crate::generate::Case;
+use crate::lists;
 use crate::plan::NOBODY;
 use crate::protocol::{ByProtocol, Protocol, PROTOCOLS};
 use crate::replay::Answer;
@@ -20,6 +21,24 @@ pub struct Trial {
 }
 
 impl Trial {
+    /// A list on a kernel that does what the eager scheduler does, beside the judge's own
+    /// answers.
+    pub fn of_itself(case: Case) -> Trial {
+        let answers = case.replay(Wrong::Nothing).answers;
+        let running = answers.second.rows.chunks(4).map(|row| row[0]);
+        let run = Run {
+            ending: WHOLE,
+            who: [NOBODY].into_iter().chain(running).collect(),
+            calls: Some(answers.second.eager_calls),
+        };
+        Trial {
+            events: lists::events(&case),
+            case: Arc::new(case),
+            answers,
+            run,
+        }
+    }
+
     /// What differs, in words: the program from the judge, and the kernel from
     /// the program.
     pub fn differences(&self) -> Vec<String> {

@@ -1,7 +1,7 @@
 //! The lazy scheduler, by either protocol: the user word, the second word, kept
 //! priorities, saved words, switches and lazy calls, to the letter of the rules,
 //! also where the running task isn't the most urgent one. It never works out a
-//! priority from the open locks; nothing here is shared with the eager scheduler.
+//! priority from the takes; nothing here is shared with the eager scheduler.
 //!
 //! The protocols part in one place, `set_second_word`. Every kernel entry ends
 //! there: a release, a finish, a tick and an unlock that calls. Nothing else sets
@@ -9,7 +9,7 @@
 //! else cuts.
 
 use crate::event::Event;
-use crate::plan::{Plan, MOST_ACCEPTED, MOST_OPEN, MOST_UNITS, NOBODY};
+use crate::plan::{Plan, MOST_ACCEPTED, MOST_TAKES, MOST_UNITS, NOBODY};
 use crate::protocol::Protocol;
 use crate::wrong::Wrong;
 
@@ -22,9 +22,10 @@ pub struct Word(pub u8);
 #[derive(Clone, Copy, Debug, PartialEq, Eq, PartialOrd, Ord)]
 pub struct Kept(pub u8);
 
-/// An open lock of a task, with the user word that its acquire saved.
+/// A take: an accepted acquire whose unlock is still to come, with the user word that
+/// it saved. Each take saves one, also a take of a lock that the task has open.
 #[derive(Clone, Copy, PartialEq, Eq)]
-pub struct OpenLock {
+pub struct Take {
     pub lock: usize,
     pub saved: Word,
 }
@@ -36,18 +37,30 @@ pub struct TaskFigures {
     pub release_number: u32,
     /// 0 for the running task and for an unreleased one.
     pub kept: Kept,
-    /// Oldest first.
-    pub open: Vec<OpenLock>,
+    /// Oldest first. A lock may be in it more than once.
+    pub takes: Vec<Take>,
     pub delay: u16,
 }
 
-/// The figures of one lock.
+impl TaskFigures {
+    /// How many takes of a lock the task has.
+    fn takes_of(&self, lock: usize) -> usize {
+        self.takes.iter().filter(|take| take.lock == lock).count()
+    }
+
+    fn has_open(&self, lock: usize) -> bool {
+        self.takes_of(lock) > 0
+    }
+}
+
+/// The figures of one lock, from its first take to the return of its last.
 #[derive(Clone, PartialEq, Eq)]
 pub struct Section {
     pub holder: Option<usize>,
     pub units: u32,
 }
 
+#[derive(Clone)]
 pub struct Lazy<'p> {
     pub plan: &'p Plan,
     pub protocol: Protocol,
@@ -74,7 +87,7 @@ impl<'p> Lazy<'p> {
         let figures = TaskFigures {
             release_number: 0,
             kept: Kept(0),
-            open: Vec::new(),
+            takes: Vec::new(),
             delay: 0,
         };
         let closed = Section {
@@ -97,8 +110,15 @@ impl<'p> Lazy<'p> {
         }
     }
 
-    pub fn open_locks(&self, task: usize) -> Vec<usize> {
-        self.tasks[task].open.iter().map(|open| open.lock).collect()
+    /// The locks that a task has open, each once, in the order of their first takes.
+    fn open_locks(&self, task: usize) -> Vec<usize> {
+        let mut open = Vec::new();
+        for take in &self.tasks[task].takes {
+            if !open.contains(&take.lock) {
+                open.push(take.lock);
+            }
+        }
+        open
     }
 
     /// The row that an accepted event writes: who runs, the two words, and
@@ -168,7 +188,8 @@ impl<'p> Lazy<'p> {
         Ok(false)
     }
 
-    /// Acquire: 12, 13, 15, 16, 17, 18.
+    /// Acquire: 12, 13, 15, 17, 18. It is a take, be the lock closed or open for the task
+    /// that takes it.
     fn acquire(&mut self, lock: usize) -> Result<bool, u8> {
         let task = self.runner()?;
         if lock >= self.sections.len() {
@@ -177,35 +198,51 @@ impl<'p> Lazy<'p> {
         if !self.plan.declares(task, lock) {
             return Err(15);
         }
-        match self.sections[lock].holder {
-            Some(holder) if holder == task => return Err(16),
-            Some(_) if self.wrong != Wrong::No17 => return Err(17),
-            _ => {}
+        let is_again = self.tasks[task].has_open(lock);
+        if is_again && self.wrong == Wrong::AgainRefused {
+            return Err(16);
         }
-        let most_open = match self.wrong {
-            Wrong::OneMoreOpen => MOST_OPEN + 1,
-            _ => MOST_OPEN,
-        };
-        if self.tasks[task].open.len() >= most_open {
+        let of_another = self.sections[lock].holder.is_some_and(|it| it != task);
+        if of_another && self.wrong != Wrong::No17 {
+            return Err(17);
+        }
+        if self.is_full(task) {
             return Err(18);
         }
         // The user word is saved and rises to the ceiling, if it is below it. The
         // kernel knows nothing of it, so the second word stays.
-        let saved = self.user_word;
-        self.tasks[task].open.push(OpenLock { lock, saved });
-        self.user_word = saved.max(Word(self.plan.locks[lock].ceiling));
+        let before = self.user_word;
+        let saved = match self.wrong {
+            Wrong::AgainSavesNothing if is_again => Word(0),
+            _ => before,
+        };
+        self.tasks[task].takes.push(Take { lock, saved });
+        self.user_word = before.max(Word(self.plan.locks[lock].ceiling));
         if self.wrong == Wrong::AcquireSetsKernelWord {
             self.set_second_word();
         }
-        self.sections[lock] = Section {
-            holder: Some(task),
-            units: 0,
-        };
-        let changes = self.user_word != saved;
-        if self.wrong.counts(Event::Acquire(lock as u8), changes) {
+        // A section starts with nothing worked. One that is open goes on.
+        let section = &mut self.sections[lock];
+        section.holder = Some(task);
+        if !is_again || self.wrong == Wrong::AgainStartsAnew {
+            section.units = 0;
+        }
+        let changes = self.user_word != before;
+        let act = Event::Acquire(lock as u8);
+        if self.wrong.counts(act, changes, is_again) {
             self.eager_calls += 1;
         }
         Ok(false)
+    }
+
+    /// Whether a task has as many takes as can be.
+    fn is_full(&self, task: usize) -> bool {
+        let takes = self.tasks[task].takes.len();
+        match self.wrong {
+            Wrong::OneMoreTake => takes > MOST_TAKES,
+            Wrong::LocksCounted => self.open_locks(task).len() >= MOST_TAKES,
+            _ => takes >= MOST_TAKES,
+        }
     }
 
     /// Unlock: 12, 13, 19.
@@ -214,23 +251,28 @@ impl<'p> Lazy<'p> {
         if lock >= self.sections.len() {
             return Err(13);
         }
-        let newest = match self.tasks[task].open.last() {
-            Some(open) if open.lock == lock => *open,
-            _ => return Err(19),
-        };
-        self.tasks[task].open.pop();
-        self.sections[lock] = Section {
-            holder: None,
-            units: 0,
-        };
+        let at = self.take_to_return(task, lock).ok_or(19)?;
+        let first = self.first_take(task, lock);
+        let returned = self.tasks[task].takes.remove(at);
+        // The section ends with the last take of its lock, and else it goes on.
+        let stays_open = self.tasks[task].has_open(lock);
+        let section = &mut self.sections[lock];
+        if !stays_open || self.wrong == Wrong::UnitsAtFirstReturn {
+            section.units = 0;
+        }
+        if !stays_open || self.wrong == Wrong::OwnerAtFirstReturn {
+            section.holder = None;
+        }
         let raised = self.user_word;
         self.user_word = match self.wrong {
             Wrong::Base => Word(self.plan.bases[task]),
-            _ => newest.saved,
+            Wrong::RestoresAtOnce => first.saved,
+            _ => returned.saved,
         };
         // After a switch the word is another task's, so this comes first.
         let changes = self.user_word != raised;
-        if self.wrong.counts(Event::Unlock(lock as u8), changes) {
+        let act = Event::Unlock(lock as u8);
+        if self.wrong.counts(act, changes, stays_open) {
             self.eager_calls += 1;
         }
         // If the second word is above what was restored, this is a lazy call, and
@@ -264,25 +306,56 @@ impl<'p> Lazy<'p> {
         Ok(lazy_call)
     }
 
+    /// Where in its row the take of a lock is that an unlock by the task gives back: it is
+    /// the newest, and has to be of this lock.
+    fn take_to_return(&self, task: usize, lock: usize) -> Option<usize> {
+        let takes = &self.tasks[task].takes;
+        let at = takes.iter().rposition(|take| take.lock == lock)?;
+        let is_newest = at + 1 == takes.len();
+        (is_newest || self.wrong == Wrong::AnyTakeReturned).then_some(at)
+    }
+
+    /// The take with which the section of a lock began that the task has open.
+    fn first_take(&self, task: usize, lock: usize) -> Take {
+        let mut takes = self.tasks[task].takes.iter();
+        let first = takes.find(|take| take.lock == lock);
+        *first.expect("the task has the lock open")
+    }
+
     /// Work: 12, 21.
     fn work(&mut self, amount: u16) -> Result<bool, u8> {
         let worker = self.runner()?;
-        // All sections that the worker has open are charged.
-        let mut charged = self.open_locks(worker);
-        if self.wrong == Wrong::Newest && charged.len() > 1 {
-            charged = vec![charged[charged.len() - 1]];
-        }
-        for lock in &charged {
-            let after = self.sections[*lock].units + u32::from(amount);
+        let charged = self.charged(worker, u32::from(amount));
+        for (lock, units) in &charged {
+            let after = self.sections[*lock].units + units;
             if after > u32::from(self.plan.locks[*lock].limit) {
                 return Err(21);
             }
         }
-        for lock in charged {
-            self.sections[lock].units += u32::from(amount);
+        for (lock, units) in charged {
+            self.sections[lock].units += units;
         }
         self.delay_others(worker, amount);
         Ok(false)
+    }
+
+    /// What a work of so many units is in the sections that the worker has open: so many
+    /// in each, however often its lock is taken.
+    fn charged(&self, worker: usize, units: u32) -> Vec<(usize, u32)> {
+        let figures = &self.tasks[worker];
+        let newest = figures.takes.last().map(|take| take.lock);
+        let mut charged = Vec::new();
+        for lock in self.open_locks(worker) {
+            match self.wrong {
+                Wrong::Newest if newest != Some(lock) => {}
+                Wrong::ChargedByTake => {
+                    let times = figures.takes_of(lock) as u32;
+                    charged.push((lock, times * units));
+                }
+                _ => charged.push((lock, units)),
+            }
+        }
+        charged
     }
 
     /// Every released task of a base above the worker's is delayed; a delay
@@ -315,7 +388,7 @@ impl<'p> Lazy<'p> {
     /// Finish: 12, 22.
     fn finish(&mut self) -> Result<bool, u8> {
         let task = self.runner()?;
-        if !self.tasks[task].open.is_empty() {
+        if !self.tasks[task].takes.is_empty() {
             return Err(22);
         }
         self.cut();

@@ -1,6 +1,6 @@
-//! The lists that a real kernel is asked to run: the runs of the crane plan up to
-//! what they are refused for, the benchmark's books, and generated ones. All of
-//! their events are accepted.
+//! The lists that a real kernel is asked to run: the runs of the crane plan and of the
+//! paper up to what they are refused for, the benchmark's books, and generated ones. All
+//! of their events are accepted.
 
 use crate::book;
 use crate::crane;
@@ -27,11 +27,15 @@ pub fn all(seed: u64, count: u64) -> Vec<Case> {
     runs().chain(books).chain(generated).collect()
 }
 
-/// The runs of the crane plan.
+/// The runs of the crane plan, and that of the paper.
 fn runs() -> impl Iterator<Item = Case> {
     let others: [(&str, &[Event]); 2] = [("nest", &crane::NEST), ("fair", &crane::FAIR)];
-    let runs = crane::RUNS.into_iter().chain(others);
-    runs.map(|(name, events)| until_refused(name.to_string(), &crane::plan(), events))
+    let runs = crane::RUNS.into_iter().chain(crane::TAKEN_AGAIN);
+    let of_crane = runs.chain(others);
+    let of_crane =
+        of_crane.map(|(name, events)| until_refused(name.to_string(), &crane::plan(), events));
+    let name = "the paper's run".to_string();
+    of_crane.chain([case(name, &crane::plan_of_paper(), &crane::RUN_OF_PAPER)])
 }
 
 /// The list of a book, up to what it is refused for; nothing for a book whose
@@ -52,15 +56,19 @@ fn until_refused(name: String, plan: &Plan, events: &[Event]) -> Case {
 }
 
 /// The generated list of this number: small and large plans in turn, with deep
-/// nests, with tasks that wait for each other and without.
+/// nests, with locks that are taken again, with tasks that wait for each other and
+/// without.
 fn list(seed: u64, number: u64) -> Case {
     let random = &mut Random::for_case(seed, 5, number);
-    let (sort, style, make): (_, _, fn(&mut Random) -> Plan) = match number % 5 {
+    let (sort, style, make): (_, _, fn(&mut Random) -> Plan) = match number % 8 {
         0 => ("any", &walk::MIXED, plans::any),
-        1 => ("any, contended", &walk::CONTENDED, plans::any),
+        1 => ("any, contended", &walk::CONTENDED_AGAIN, plans::any),
         2 => ("deep", &walk::DEEP, plans::deep),
-        3 => ("large, contended", &walk::CONTENDED, plans::contended),
-        _ => ("large, plain", &walk::PLAIN, plans::plain),
+        3 => ("large, contended", &walk::CONTENDED_AGAIN, plans::contended),
+        4 => ("large, plain", &walk::PLAIN_AGAIN, plans::plain),
+        5 => ("any, again", &walk::AGAIN, plans::any),
+        6 => ("deep, again", &walk::AGAIN, plans::deep),
+        _ => ("heaped", &walk::HEAPED, plans::deep),
     };
     let mut plan = make(random);
     while levels(&plan) > MOST_LEVELS {

@@ -28,8 +28,7 @@ pub fn one_above_maximum(trial: &Trial, outcome: &Outcome) -> bool {
 pub fn above_open(trial: &Trial, outcome: &Outcome) -> bool {
     let given = &trial.given;
     let is_open = |(task, lock): (usize, usize)| {
-        given.get(CEILING, lock) > given.get(MAXIMUM, task)
-            && given.open_locks(task).contains(&lock)
+        given.get(CEILING, lock) > given.get(MAXIMUM, task) && given.takes(task).contains(&lock)
     };
     is_above_alone(trial, outcome) && uses(given).any(is_open)
 }

@@ -1,7 +1,9 @@
 //! RULES 19.6: the refusals in the words that a program says them with. (Those of
 //! `refusals.rs` are the judge's own.)
 
-/// `MEANINGS[n]` is what refusal n means; there is no refusal 0.
+use crate::wrong::Wrong;
+
+/// `MEANINGS[n]` is what refusal n means; there is no refusal 0, and 16 is never given.
 const MEANINGS: [&str; 25] = [
     "",
     "the book has fewer than 32 bytes",
@@ -19,10 +21,10 @@ const MEANINGS: [&str; 25] = [
     "the plan has no such task or lock",
     "the task is released already",
     "the running task may not use the lock",
-    "the running task has the lock open",
+    "",
     "another task has the lock open",
-    "the running task has 8 locks open",
-    "the lock is not the newest that the running task has open",
+    "the running task has 8 takes that it has not given back",
+    "the newest take of the running task is not of this lock",
     "the work is 0 units",
     "the work would take an open section past its limit",
     "the task finishes with a lock open",
@@ -40,6 +42,11 @@ pub fn refused(number: u8, place: u32) -> String {
 }
 
 /// A refusal of an event, whose place is told otherwise.
-pub fn refused_event(number: u8) -> String {
-    format!("refused {number}: {}", meaning(number))
+pub fn refused_event(number: u8, wrong: Wrong) -> String {
+    let meaning = match (number, wrong) {
+        (18, Wrong::OldWords) => "the running task has 8 locks open",
+        (19, Wrong::OldWords) => "the lock is not the newest that the running task has open",
+        _ => meaning(number),
+    };
+    format!("refused {number}: {meaning}")
 }

@@ -5,7 +5,7 @@
 
 use crate::event::Event;
 use crate::plan::{
-    MOST_ACCEPTED, MOST_EVENTS, MOST_LOCKS, MOST_OPEN, MOST_TASKS, MOST_UNITS, MOST_USES, NOBODY,
+    MOST_ACCEPTED, MOST_EVENTS, MOST_LOCKS, MOST_TAKES, MOST_TASKS, MOST_UNITS, MOST_USES, NOBODY,
 };
 
 /// Reads each line that says something; an error names its line.
@@ -33,7 +33,7 @@ fn named(word: &str) -> Option<u64> {
         "MOST_LOCKS" => MOST_LOCKS as u64,
         "MOST_USES" => MOST_USES as u64,
         "MOST_EVENTS" => MOST_EVENTS as u64,
-        "MOST_OPEN" => MOST_OPEN as u64,
+        "MOST_TAKES" => MOST_TAKES as u64,
         "MOST_ACCEPTED" => u64::from(MOST_ACCEPTED),
         "MOST_UNITS" => u64::from(MOST_UNITS),
         "nobody" => u64::from(NOBODY),

@@ -11,6 +11,7 @@ use crate::cuts;
 use crate::explain::explain;
 use crate::generate::Case;
 use crate::judging::Ending;
+use crate::kernel;
 use crate::protocol::{ByProtocol, Protocol};
 use crate::requests::{self, Ask};
 use crate::show::show;
@@ -37,6 +38,7 @@ pub fn judge_self(options: &Options) -> Ending {
     right &= tell("events on words above a maximum", cuts::test());
     right &= tell("figures that are told apart", compare::test());
     right &= by_hand.test();
+    right &= kernel::is_telling_of_itself(options);
     let mut own = Own::new();
     own.try_by_hand(&by_hand);
     own.try_generated(options);

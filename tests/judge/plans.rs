@@ -2,7 +2,7 @@
 //! are common, and most locks are contended. Every lock has at least two users, and
 //! many a task has the least maximum that it can have.
 
-use crate::plan::{Lock, Plan, MOST_LOCKS, MOST_OPEN, MOST_TASKS, MOST_UNITS};
+use crate::plan::{Lock, Plan, MOST_LOCKS, MOST_TAKES, MOST_TASKS, MOST_UNITS};
 use crate::random::Random;
 
 /// What a random plan is made from.
@@ -59,7 +59,7 @@ pub fn any(random: &mut Random) -> Plan {
 pub fn deep(random: &mut Random) -> Plan {
     let shape = Shape {
         tasks: random.between(2, 8),
-        locks: random.between(MOST_OPEN + 1, 2 * MOST_OPEN),
+        locks: random.between(MOST_TAKES + 1, 2 * MOST_TAKES),
         levels: random.between(1, 5),
         one_user_in: 1,
         greatest_limit: random.pick(&[6, 40, usize::from(MOST_UNITS)]),

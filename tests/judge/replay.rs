@@ -10,7 +10,14 @@ use crate::lazy::Lazy;
 use crate::protocol::ByProtocol;
 use crate::resume::figures;
 use crate::sound;
+use crate::spans;
+use crate::taken::{Counts, Taken};
+use crate::taken_again::{self, Before};
 use crate::wrong::Wrong;
+
+/// At about so many moments of a run an open lock is taken once more and given back, whatever
+/// comes next in the list.
+const TRIED_MOMENTS: usize = 64;
 
 /// The byte that fills the row space before a replay.
 pub const FILL: u8 = 0xEE;
@@ -39,6 +46,8 @@ pub struct Outcome {
     /// After how many of them the running task was raised to its maximum: one more
     /// would have to be cut.
     pub at_maximum: usize,
+    /// What the run met of locks that are taken again; nothing where the judge goes wrong.
+    pub taken: Counts,
     /// The first of the judge's own demands that did not hold, in words.
     pub violation: Option<String>,
 }
@@ -60,6 +69,7 @@ pub fn replay(bytes: &[u8], row_space: usize, wrong: Wrong) -> Outcome {
             accepted: ByProtocol::default(),
             lock_acts: 0,
             at_maximum: 0,
+            taken: Counts::default(),
             violation: None,
         },
     }
@@ -141,9 +151,24 @@ fn run(book: &Book, row_space: usize, wrong: Wrong) -> Outcome {
     });
     let mut violation = None;
     let mut at_maximum = 0;
+    let mut taken = Counts::default();
+    let mut was_in_part = false;
     for (at, event) in book.events.iter().enumerate() {
         let (eager_calls, kernel_word) = (eager.calls(), runs.first.lazy.second_word);
+        let lazies = [&runs.second.lazy, &runs.first.lazy];
+        let is_asked = wrong == Wrong::Nothing && violation.is_none();
+        let before = is_asked
+            .then(|| Before::of(*event, &eager, lazies))
+            .flatten();
+        let situation = is_asked
+            .then(|| Taken::at(&book.plan, &eager, *event))
+            .flatten();
         let by_eager = eager.step(*event).err().unwrap_or(0);
+        if let Some(situation) = situation {
+            taken.meet(situation.is(by_eager));
+            taken.unfinished += usize::from(was_in_part && by_eager == 22);
+            was_in_part = by_eager == 0 && situation.is_in_part();
+        }
         let by_lazy = ByProtocol {
             second: runs.second.take(*event, &eager, by_eager),
             first: runs.first.take(*event, &eager, by_eager),
@@ -158,8 +183,17 @@ fn run(book: &Book, row_space: usize, wrong: Wrong) -> Outcome {
                 is_eager_call: eager.calls() > eager_calls,
                 kernel_word,
             };
-            let lazies = (&runs.second.lazy, &runs.first.lazy);
+            let lazies = [&runs.second.lazy, &runs.first.lazy];
+            let is_tried = at % (1 + book.events.len() / TRIED_MOMENTS) == 0;
             violation = demands::after_event(&happened, &bounds, &eager, lazies)
+                .and_then(|()| match &before {
+                    Some(before) => before.demand(by_eager, &eager, lazies),
+                    None => Ok(()),
+                })
+                .and_then(|()| match is_tried {
+                    true => taken_again::at_moment(&eager, lazies),
+                    false => Ok(()),
+                })
                 .map_err(|words| format!("at event {at}, {event:?}: {words}"))
                 .err();
         }
@@ -176,14 +210,24 @@ fn run(book: &Book, row_space: usize, wrong: Wrong) -> Outcome {
         second: runs.second.answer(&eager),
         first: runs.first.answer(&eager),
     };
+    let history = &book.events[..accepted.second];
     if wrong == Wrong::Nothing && violation.is_none() {
         violation = demands::after_run(book, accepted.second, &answers).err();
     }
-    let history = &book.events[..accepted.second];
+    if wrong == Wrong::Nothing && violation.is_none() {
+        let spans = spans::over_history(&book.plan, history, &answers.second.rows);
+        let held = spans.and_then(|spans| {
+            taken.repeated = spans.repeated;
+            taken.repeated_with_call = spans.repeated_with_call;
+            demands::sections_over_history(&spans, &eager, &book.plan)
+        });
+        violation = held.err();
+    }
     Outcome {
         answers,
         lock_acts: history.iter().filter(is_lock_act).count(),
         at_maximum,
+        taken,
         accepted,
         violation,
     }

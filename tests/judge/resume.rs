@@ -1,10 +1,10 @@
 //! The lazy scheduler from the figures of a sound state, and back to figures.
 
-use crate::lazy::{Kept, Lazy, OpenLock, TaskFigures, Word};
-use crate::plan::{Plan, MOST_OPEN, NOBODY};
+use crate::lazy::{Kept, Lazy, Take, TaskFigures, Word};
+use crate::plan::{Plan, MOST_TAKES, NOBODY};
 use crate::protocol::Protocol;
 use crate::whole::{
-    slot, Whole, ACCEPTED, DELAY, EAGER, KEPT, LAZY, OPEN, OWNER, RELEASED, ROW, RUNNING, SAVED,
+    slot, Whole, ACCEPTED, DELAY, DEPTH, EAGER, KEPT, LAZY, OWNER, RELEASED, ROW, RUNNING, SAVED,
     SECOND, UNITS, USER,
 };
 use crate::wrong::Wrong;
@@ -22,8 +22,8 @@ pub fn resume<'p>(plan: &'p Plan, whole: &Whole, protocol: Protocol, wrong: Wron
     lazy.eager_calls = whole.get(EAGER, 0) as u32;
     for task in 0..lazy.tasks.len() {
         let figures = task_figures(whole, task);
-        for open in &figures.open {
-            lazy.sections[open.lock].holder = Some(task);
+        for take in &figures.takes {
+            lazy.sections[take.lock].holder = Some(task);
         }
         lazy.tasks[task] = figures;
     }
@@ -35,16 +35,14 @@ pub fn resume<'p>(plan: &'p Plan, whole: &Whole, protocol: Protocol, wrong: Wron
 
 fn task_figures(whole: &Whole, task: usize) -> TaskFigures {
     // Newest first there, oldest first here.
-    let open = (0..whole.get(OPEN, task) as usize)
-        .rev()
-        .map(|at| OpenLock {
-            lock: whole.get(ROW, slot(task, at)) as usize,
-            saved: Word(whole.get(SAVED, slot(task, at)) as u8),
-        });
+    let takes = (0..whole.get(DEPTH, task) as usize).rev().map(|at| Take {
+        lock: whole.get(ROW, slot(task, at)) as usize,
+        saved: Word(whole.get(SAVED, slot(task, at)) as u8),
+    });
     TaskFigures {
         release_number: whole.get(RELEASED, task) as u32,
         kept: Kept(whole.get(KEPT, task) as u8),
-        open: open.collect(),
+        takes: takes.collect(),
         delay: whole.get(DELAY, task) as u16,
     }
 }
@@ -63,11 +61,11 @@ pub fn figures(lazy: &Lazy) -> Whole {
         whole.set(RELEASED, task, u64::from(figures.release_number));
         whole.set(KEPT, task, u64::from(figures.kept.0));
         whole.set(DELAY, task, u64::from(figures.delay));
-        whole.set(OPEN, task, figures.open.len() as u64);
-        // A row has no place for more; only a wrong way opens more.
-        for (at, open) in figures.open.iter().rev().take(MOST_OPEN).enumerate() {
-            whole.set(ROW, slot(task, at), open.lock as u64);
-            whole.set(SAVED, slot(task, at), u64::from(open.saved.0));
+        whole.set(DEPTH, task, figures.takes.len() as u64);
+        // A row has no place for more; only a wrong way takes more.
+        for (at, take) in figures.takes.iter().rev().take(MOST_TAKES).enumerate() {
+            whole.set(ROW, slot(task, at), take.lock as u64);
+            whole.set(SAVED, slot(task, at), u64::from(take.saved.0));
         }
     }
     for (lock, section) in lazy.sections.iter().enumerate() {

@@ -1,14 +1,18 @@
-//! The hand-made runs of the crane plan: lists of events from a file, with every
-//! row by both protocols, the calls and the delays, worked out from the rules by
-//! hand. How they are written is told at the file's head.
+//! The hand-made runs, of the crane plan where nothing else is said: lists of events
+//! from a file, with every row by both protocols, the calls and the delays, worked out
+//! from the rules by hand. How they are written is told at the file's head.
 
 use crate::crane;
+use crate::draft::Draft;
 use crate::event::Event;
 use crate::generate::Case;
 use crate::notation::{columns, event, narrow, numbers, read_lines, split_word};
+use crate::plan::Plan;
 use crate::protocol::{ByProtocol, Protocol, PROTOCOLS};
 use crate::replay::{Answer, FILL};
+use crate::step_cases::plan;
 use crate::wrong::Wrong;
+use std::collections::HashMap;
 
 const TEXT: &str = include_str!("../cases/runs.txt");
 
@@ -20,6 +24,7 @@ pub struct RunCase {
 
 pub fn cases() -> Result<Vec<RunCase>, String> {
     let mut reader = Reader {
+        plans: HashMap::from([("crane", crane::plan())]),
         run: None,
         cases: Vec::new(),
     };
@@ -33,6 +38,7 @@ pub fn cases() -> Result<Vec<RunCase>, String> {
 /// A run whose end was not read yet.
 struct Run {
     name: &'static str,
+    plan: Plan,
     events: Vec<Event>,
     rows: ByProtocol<Vec<u8>>,
     /// The number of the last event's refusal.
@@ -40,14 +46,21 @@ struct Run {
 }
 
 struct Reader {
+    plans: HashMap<&'static str, Plan>,
     run: Option<Run>,
     cases: Vec<RunCase>,
 }
 
 impl Reader {
     fn read(&mut self, line: &'static str) -> Result<(), String> {
-        if let Some(name) = line.strip_prefix("run ") {
-            return self.begin(name);
+        if let Some(rest) = line.strip_prefix("plan ") {
+            let (name, text) = rest.split_once('=').ok_or("a plan has no `=`")?;
+            let is_new = self.plans.insert(name.trim(), plan(text)?).is_none();
+            return is_new.then_some(()).ok_or("the name is taken".to_string());
+        }
+        if let Some(rest) = line.strip_prefix("run ") {
+            let (name, of) = rest.split_once('|').unwrap_or((rest, "crane"));
+            return self.begin(name.trim(), of.trim());
         }
         let columns = columns(line);
         if columns[0] == "ends" {
@@ -58,15 +71,17 @@ impl Reader {
         self.run.as_mut().ok_or("no run")?.event(&columns)
     }
 
-    fn begin(&mut self, name: &'static str) -> Result<(), String> {
+    fn begin(&mut self, name: &'static str, of: &str) -> Result<(), String> {
         if self.run.is_some() {
             return Err("the run before it has no end".to_string());
         }
         if self.cases.iter().any(|other| other.case.name == told(name)) {
             return Err("another run has this name".to_string());
         }
+        let plan = self.plans.get(of).ok_or(format!("{of} is no plan"))?;
         self.run = Some(Run {
             name,
+            plan: plan.clone(),
             events: Vec::new(),
             rows: ByProtocol::default(),
             refused: None,
@@ -140,7 +155,7 @@ impl Run {
         });
         let case = Case {
             name: told(self.name),
-            book: crane::book(&self.events),
+            book: Draft::of(&self.plan, &self.events).bytes(),
             row_space,
         };
         Ok(RunCase { case, expected })
@@ -179,8 +194,8 @@ impl RunCase {
     }
 }
 
-/// The judge's own answers against those by hand; those that differ. P1 to P12 have
-/// the events of the table in `crane.rs`.
+/// The judge's own answers against those by hand; those that differ. P1 to P12, T1 to T7
+/// and the paper's run have the events of the tables in `crane.rs`.
 pub fn test(cases: &[RunCase]) -> Vec<String> {
     let mut failed = Vec::new();
     for case in cases {
@@ -189,8 +204,10 @@ pub fn test(cases: &[RunCase]) -> Vec<String> {
         let against = |protocol| case.against(protocol, outcome.answers.of(protocol));
         failed.extend(PROTOCOLS.into_iter().filter_map(against));
     }
-    for (name, events) in crane::RUNS {
-        let book = crane::book(events);
+    let of_crane = crane::RUNS.into_iter().chain(crane::TAKEN_AGAIN);
+    let of_crane = of_crane.map(|(name, events)| (name, crane::book(events)));
+    let of_paper = Draft::of(&crane::plan_of_paper(), &crane::RUN_OF_PAPER).bytes();
+    for (name, book) in of_crane.chain([("the paper's run", of_paper)]) {
         let is_this = |case: &RunCase| case.case.name == told(name) && case.case.book == book;
         if !cases.iter().any(is_this) {
             failed.push(format!("{name} is not among the runs, or has other events"));

@@ -70,7 +70,9 @@ fn comments(history: &History, wrong: Wrong) -> Vec<String> {
         Some(task) => format!("task {task} runs at {}", moment.user_word),
         None => "nobody runs".to_string(),
     });
-    let refused = history.refused.map(|refused| refused_event(refused.number));
+    let refused = history
+        .refused
+        .map(|refused| refused_event(refused.number, wrong));
     let again = refused.clone().filter(|_| wrong == Wrong::RefusedTwice);
     accepted.chain(refused).chain(again).collect()
 }

@@ -11,13 +11,14 @@
 //! two bytes cannot hold more. The number of uses is in it with the other
 //! counts, but cannot be too great while every task may use every lock.
 
-use crate::plan::{MOST_ACCEPTED, MOST_LOCKS, MOST_OPEN, MOST_TASKS, MOST_USES, NOBODY};
+use crate::plan::{MOST_ACCEPTED, MOST_LOCKS, MOST_TAKES, MOST_TASKS, MOST_USES, NOBODY};
 use crate::protocol::Protocol;
 use crate::whole::{
-    slot, Field, Whole, ACCEPTED, BASE, CEILING, DELAY, EAGER, KEPT, LAZY, LIMIT, LOCKS, MAXIMUM,
-    OPEN, OWNER, RELEASED, ROW, RUNNING, SAVED, SECOND, TASKS, UNITS, USER, USES,
+    slot, Field, Whole, ACCEPTED, BASE, CEILING, DELAY, DEPTH, EAGER, KEPT, LAZY, LIMIT, LOCKS,
+    MAXIMUM, OWNER, RELEASED, ROW, RUNNING, SAVED, SECOND, TASKS, UNITS, USER, USES,
 };
 use crate::wrong::Wrong;
+use std::collections::HashMap;
 
 pub struct Condition {
     pub name: &'static str,
@@ -37,6 +38,7 @@ const fn of_one(of: Protocol, name: &'static str, holds: fn(&Whole) -> bool) -> 
 }
 
 const TWO_USERS: &str = "each lock has two users or more";
+const OPEN_FOR_ONE: &str = "no lock is open for two tasks";
 const NOT_BELOW_BASE: &str = "no maximum is below its base";
 const WITHIN_MAXIMUM: &str = "no ceiling is above a user's maximum";
 
@@ -66,12 +68,12 @@ pub const CONDITIONS: [Condition; 33] = [
     condition("release numbers of accepted events", numbers_in_range),
     condition("no more lazy calls than events", lazy_calls),
     condition("no more eager calls than events", eager_calls),
-    // Open locks.
-    condition("number of open locks", open_in_range),
-    condition("open locks are of the plan", open_are_known),
-    condition("open locks are declared", open_are_declared),
-    condition("no lock open for an unreleased task", none_open_at_rest),
-    condition("a lock is open once at most", open_once),
+    // Takes and open locks.
+    condition("number of takes", takes_in_range),
+    condition("takes are of locks of the plan", takes_are_known),
+    condition("takes are of declared locks", takes_are_declared),
+    condition("no take of an unreleased task", no_take_at_rest),
+    condition(OPEN_FOR_ONE, open_for_one),
     condition("sections within their limits", sections),
     condition("an owner is who has the lock open", owners),
     // All else is 0.
@@ -96,7 +98,15 @@ impl Condition {
             Wrong::OneUser | Wrong::OneUserInState if self.name == TWO_USERS => false,
             Wrong::AboveMaximumInState if self.name == WITHIN_MAXIMUM => false,
             Wrong::BelowBaseInState if self.name == NOT_BELOW_BASE => false,
+            Wrong::OpenForTwoInState if self.name == OPEN_FOR_ONE => false,
             _ => self.is_asked(protocol),
+        }
+    }
+
+    fn holds_by(&self, whole: &Whole, wrong: Wrong) -> bool {
+        match wrong {
+            Wrong::AgainInStateRefused if self.name == OPEN_FOR_ONE => taken_once(whole),
+            _ => (self.holds)(whole),
         }
     }
 }
@@ -111,7 +121,7 @@ pub fn broken(whole: &Whole, protocol: Protocol) -> Vec<usize> {
 pub fn broken_by(whole: &Whole, protocol: Protocol, wrong: Wrong) -> Vec<usize> {
     (0..CONDITIONS.len())
         .filter(|place| CONDITIONS[*place].is_asked_by(protocol, wrong))
-        .filter(|place| !(CONDITIONS[*place].holds)(whole))
+        .filter(|place| !CONDITIONS[*place].holds_by(whole, wrong))
         .collect()
 }
 
@@ -146,10 +156,11 @@ fn none_released(whole: &Whole) -> bool {
 
 /// How many places of a task's row are in use.
 fn used(whole: &Whole, task: usize) -> usize {
-    whole.get(OPEN, task).min(MOST_OPEN as u64) as usize
+    whole.get(DEPTH, task).min(MOST_TAKES as u64) as usize
 }
 
-/// The open locks of a task, newest first.
+/// The takes of a task, each by its lock, newest first. One lock may be there more than
+/// once.
 fn row(whole: &Whole, task: usize) -> impl Iterator<Item = usize> + '_ {
     (0..used(whole, task)).map(move |at| whole.get(ROW, slot(task, at)) as usize)
 }
@@ -165,8 +176,8 @@ fn open_locks(whole: &Whole) -> [bool; MOST_LOCKS] {
     open
 }
 
-/// The priority of a task as its open locks from this place of the row on give
-/// it: the greatest of their ceilings and the base.
+/// The priority of a task as its takes from this place of the row on give it: the
+/// greatest of their locks' ceilings and the base.
 fn priority_from(whole: &Whole, task: usize, at: usize) -> u64 {
     row(whole, task)
         .skip(at)
@@ -179,7 +190,8 @@ pub fn priority(whole: &Whole, task: usize) -> u64 {
     priority_from(whole, task, 0)
 }
 
-/// What an acquire saved: the priority under that lock.
+/// What a take saved: the priority under it, which is the same as over it where the lock
+/// was open already.
 pub fn saved_by_rule(whole: &Whole, task: usize, at: usize) -> u64 {
     priority_from(whole, task, at + 1)
 }
@@ -317,17 +329,17 @@ fn eager_calls(whole: &Whole) -> bool {
     whole.get(EAGER, 0) <= whole.get(ACCEPTED, 0)
 }
 
-fn open_in_range(whole: &Whole) -> bool {
-    tasks(whole).all(|task| whole.get(OPEN, task) <= MOST_OPEN as u64)
+fn takes_in_range(whole: &Whole) -> bool {
+    tasks(whole).all(|task| whole.get(DEPTH, task) <= MOST_TAKES as u64)
 }
 
-fn open_are_known(whole: &Whole) -> bool {
+fn takes_are_known(whole: &Whole) -> bool {
     tasks(whole)
         .flat_map(|task| row(whole, task))
         .all(|lock| locks(whole).contains(&lock))
 }
 
-fn open_are_declared(whole: &Whole) -> bool {
+fn takes_are_declared(whole: &Whole) -> bool {
     tasks(whole).all(|task| {
         row(whole, task)
             .filter(|lock| locks(whole).contains(lock))
@@ -335,14 +347,25 @@ fn open_are_declared(whole: &Whole) -> bool {
     })
 }
 
-fn none_open_at_rest(whole: &Whole) -> bool {
-    tasks(whole).all(|task| is_released(whole, task) || whole.get(OPEN, task) == 0)
+fn no_take_at_rest(whole: &Whole) -> bool {
+    tasks(whole).all(|task| is_released(whole, task) || whole.get(DEPTH, task) == 0)
 }
 
-fn open_once(whole: &Whole) -> bool {
-    let mut open: Vec<usize> = tasks(whole).flat_map(|task| row(whole, task)).collect();
-    open.sort_unstable();
-    open.windows(2).all(|pair| pair[0] != pair[1])
+/// The task in whose row a lock is, by the lock: it is there in one row at most, as often as
+/// it may be.
+fn open_for_one(whole: &Whole) -> bool {
+    let mut holders = HashMap::new();
+    tasks(whole).all(|task| {
+        let is_own = |lock| *holders.entry(lock).or_insert(task) == task;
+        row(whole, task).all(is_own)
+    })
+}
+
+/// Only a wrong way asks it: a lock is at one place of all rows at most.
+fn taken_once(whole: &Whole) -> bool {
+    let mut taken: Vec<usize> = tasks(whole).flat_map(|task| row(whole, task)).collect();
+    taken.sort_unstable();
+    taken.windows(2).all(|pair| pair[0] != pair[1])
 }
 
 fn sections(whole: &Whole) -> bool {
@@ -384,12 +407,12 @@ fn saved_rest(whole: &Whole) -> bool {
 
 fn slots_rest_is_0(whole: &Whole, field: Field) -> bool {
     tasks(whole)
-        .all(|task| (used(whole, task)..MOST_OPEN).all(|at| whole.get(field, slot(task, at)) == 0))
+        .all(|task| (used(whole, task)..MOST_TAKES).all(|at| whole.get(field, slot(task, at)) == 0))
 }
 
 fn state_rest(whole: &Whole) -> bool {
     let mut slots = slot(tasks(whole).end, 0)..slot(MOST_TASKS, 0);
-    past_tasks_is_0(whole, &[RELEASED, KEPT, DELAY, OPEN])
+    past_tasks_is_0(whole, &[RELEASED, KEPT, DELAY, DEPTH])
         && slots.all(|place| whole.get(ROW, place) == 0 && whole.get(SAVED, place) == 0)
         && past_locks_is_0(whole, &[UNITS, OWNER])
 }

@@ -5,7 +5,7 @@
 //! as the same state.
 
 use crate::notation::{dotted, narrow, number, split_word};
-use crate::plan::{MOST_LOCKS, MOST_OPEN, MOST_TASKS};
+use crate::plan::{MOST_LOCKS, MOST_TAKES, MOST_TASKS};
 use crate::whole::{slot, Field, Per, Whole, FIELDS, SECOND, USES};
 
 /// Changes one figure, or one row.
@@ -41,10 +41,10 @@ fn bit(lock: u64) -> Option<u64> {
 
 /// The places that are not given become 0.
 fn set_row(whole: &mut Whole, field: Field, task: usize, row: &[u64]) -> Result<(), String> {
-    if row.len() > MOST_OPEN {
+    if row.len() > MOST_TAKES {
         return Err("more than a row has places".to_string());
     }
-    for at in 0..MOST_OPEN {
+    for at in 0..MOST_TAKES {
         let value = row.get(at).copied().unwrap_or(0);
         set(whole, field, slot(task, at), value)?;
     }
@@ -83,7 +83,7 @@ fn written_field(whole: &Whole, field: Field) -> Vec<String> {
 fn written_value(whole: &Whole, field: Field, place: usize) -> Option<String> {
     let value = match field.per {
         Per::Slot => {
-            let row = (0..MOST_OPEN).map(|at| whole.get(field, slot(place, at)));
+            let row = (0..MOST_TAKES).map(|at| whole.get(field, slot(place, at)));
             let row: Vec<u64> = row.collect();
             let last = row.iter().rposition(|value| *value != 0)?;
             return Some(with_dots(&row[..=last]));

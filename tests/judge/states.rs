@@ -1,16 +1,16 @@
 //! Random sound states that mostly no fresh start reaches: any of the released
 //! tasks runs, locks are open that their holders never could have taken beside
-//! each other, the kernel word is any that its bound allows, and counts and delays
-//! are at their edges.
+//! each other, some once and some several times, the kernel word is any that its bound
+//! allows, and counts and delays are at their edges.
 
-use crate::aims::Scene;
-use crate::plan::{Plan, MOST_ACCEPTED, MOST_OPEN, MOST_UNITS, NOBODY};
+use crate::aims::{times, Scene};
+use crate::plan::{Plan, MOST_ACCEPTED, MOST_TAKES, MOST_UNITS, NOBODY};
 use crate::plans;
 use crate::protocol::Protocol;
 use crate::random::Random;
 use crate::sound;
 use crate::whole::{
-    slot, Whole, ACCEPTED, CEILING, DELAY, EAGER, KEPT, LAZY, LOCKS, OPEN, OWNER, RELEASED, ROW,
+    slot, Whole, ACCEPTED, CEILING, DELAY, DEPTH, EAGER, KEPT, LAZY, LOCKS, OWNER, RELEASED, ROW,
     RUNNING, SAVED, SECOND, TASKS, UNITS, USER,
 };
 
@@ -24,8 +24,8 @@ impl Scene for Whole {
         self.get(RELEASED, task) != 0
     }
 
-    fn open_locks(&self, task: usize) -> Vec<usize> {
-        (0..self.get(OPEN, task) as usize)
+    fn takes(&self, task: usize) -> Vec<usize> {
+        (0..self.get(DEPTH, task) as usize)
             .rev()
             .map(|at| self.get(ROW, slot(task, at)) as usize)
             .collect()
@@ -53,15 +53,15 @@ pub fn any(random: &mut Random, protocol: Protocol) -> (Plan, Whole) {
     (plan, whole)
 }
 
-/// Puts the open lock of the running task that has the greatest ceiling in front,
-/// so that the unlock of it mostly lowers the user word.
+/// Puts the take of the running task whose lock has the greatest ceiling in front,
+/// so that its unlock mostly lowers the user word.
 fn raise_by_newest(whole: &mut Whole) {
     let Some(task) = whole.running() else {
         return;
     };
     let lock_at = |at: usize| whole.get(ROW, slot(task, at));
     let ceiling_at = |at: &usize| whole.get(CEILING, lock_at(*at) as usize);
-    let Some(at) = (0..whole.get(OPEN, task) as usize).max_by_key(ceiling_at) else {
+    let Some(at) = (0..whole.get(DEPTH, task) as usize).max_by_key(ceiling_at) else {
         return;
     };
     let (newest, greatest) = (lock_at(0), lock_at(at));
@@ -76,7 +76,7 @@ fn set_kernel_word(random: &mut Random, whole: &mut Whole) {
     let user = whole.get(USER, 0);
     let newest = whole
         .running()
-        .filter(|task| whole.get(OPEN, *task) > 0)
+        .filter(|task| whole.get(DEPTH, *task) > 0)
         .map(|task| whole.get(SAVED, slot(task, 0)));
     let word = match (random.below(8), newest) {
         (0 | 1, _) => 0,
@@ -103,12 +103,12 @@ pub fn of_plan(random: &mut Random, plan: &Plan) -> Whole {
     for (task, number) in released.iter().zip(numbers) {
         whole.set(RELEASED, *task, number as u64);
     }
-    // The task that runs is the first to open locks.
+    // The task that runs is the first to take locks.
     random.shuffle(&mut released);
     if let Some(task) = released.first() {
         whole.set(RUNNING, 0, *task as u64);
     }
-    open_some(random, plan, &released, &mut whole);
+    take_some(random, plan, &released, &mut whole);
     for task in 0..plan.bases.len() {
         let delay = match random.below(2) {
             0 => 0,
@@ -172,38 +172,88 @@ fn release_numbers(random: &mut Random, count: usize, accepted: usize) -> Vec<us
     numbers
 }
 
-/// Opens declared locks for the released tasks, each for at most one of them.
-fn open_some(random: &mut Random, plan: &Plan, released: &[usize], whole: &mut Whole) {
+/// Takes declared locks for the released tasks, each for at most one of them. Half of the
+/// rows that have a lock have fewer locks than takes.
+fn take_some(random: &mut Random, plan: &Plan, released: &[usize], whole: &mut Whole) {
     let mut free: Vec<usize> = (0..plan.locks.len()).collect();
     random.shuffle(&mut free);
     for task in released {
-        let depth = match random.below(6) {
+        let depth = match random.below(7) {
             0 | 1 => 0,
             2 => 1,
             3 => random.between(2, 3),
-            4 => random.between(1, MOST_OPEN),
-            _ => MOST_OPEN,
+            4 => random.between(1, MOST_TAKES),
+            5 => MOST_TAKES - 1,
+            _ => MOST_TAKES,
+        };
+        let most = match random.below(4) {
+            0 => random.pick(&[1, 1, 2, 3]).min(depth),
+            1 => depth / 2,
+            _ => depth,
         };
         let may = |lock: &&usize| plan.declares(*task, **lock);
-        let taken: Vec<usize> = free.iter().filter(may).take(depth).copied().collect();
-        free.retain(|lock| !taken.contains(lock));
-        for lock in taken {
+        let open: Vec<usize> = free.iter().filter(may).take(most).copied().collect();
+        free.retain(|lock| !open.contains(lock));
+        for lock in &open {
+            let units = up_to(random, usize::from(plan.locks[*lock].limit));
+            whole.set(UNITS, *lock, units as u64);
+        }
+        for lock in row_of(random, &open, depth) {
             push(whole, *task, lock);
-            let units = up_to(random, usize::from(plan.locks[lock].limit));
-            whole.set(UNITS, lock, units as u64);
         }
     }
 }
 
+/// A row of all these locks. Where they are fewer than its places, some are in it again,
+/// mostly until it has no place left.
+fn row_of(random: &mut Random, open: &[usize], depth: usize) -> Vec<usize> {
+    let mut row = open.to_vec();
+    if open.is_empty() || open.len() == depth {
+        return row;
+    }
+    let length = match random.below(3) {
+        0 => random.between(open.len(), depth),
+        _ => depth,
+    };
+    while row.len() < length {
+        row.push(random.pick(open));
+    }
+    // One after the other in one half, and all mixed in the other.
+    match random.below(2) {
+        0 => row.sort_unstable_by_key(|lock| open.iter().position(|other| other == lock)),
+        _ => random.shuffle(&mut row),
+    }
+    row
+}
+
 /// Puts a lock at the front of a row; the row has a free place.
 pub fn push(whole: &mut Whole, task: usize, lock: usize) {
-    let open = whole.get(OPEN, task);
-    for at in (0..open as usize).rev() {
+    let depth = whole.get(DEPTH, task);
+    for at in (0..depth as usize).rev() {
         let older = whole.get(ROW, slot(task, at));
         whole.set(ROW, slot(task, at + 1), older);
     }
     whole.set(ROW, slot(task, 0), lock as u64);
-    whole.set(OPEN, task, open + 1);
+    whole.set(DEPTH, task, depth + 1);
+}
+
+/// Takes some takes of a task out of its row, by their locks and by how many of that lock
+/// come after them.
+pub fn drop_takes(whole: &mut Whole, task: usize, leaves: impl Fn(usize, usize) -> bool) {
+    let mut stay = Vec::new();
+    let takes = whole.takes(task);
+    for (at, lock) in takes.iter().enumerate() {
+        let after = times(&takes[at + 1..], *lock);
+        if !leaves(*lock, after) {
+            stay.push(*lock);
+        }
+    }
+    for at in 0..MOST_TAKES {
+        whole.set(ROW, slot(task, at), 0);
+        whole.set(SAVED, slot(task, at), 0);
+    }
+    whole.set(DEPTH, task, 0);
+    stay.into_iter().for_each(|lock| push(whole, task, lock));
 }
 
 /// Sets all that follows from who runs, the release numbers and the rows: the user
@@ -214,12 +264,12 @@ pub fn refit(whole: &mut Whole) {
         whole.set(OWNER, lock, 0);
     }
     for task in 0..tasks {
-        for lock in whole.open_locks(task) {
+        for lock in whole.takes(task) {
             if lock < locks {
                 whole.set(OWNER, lock, task as u64 + 1);
             }
         }
-        for at in 0..whole.get(OPEN, task) as usize {
+        for at in 0..whole.get(DEPTH, task) as usize {
             let saved = sound::saved_by_rule(whole, task, at);
             whole.set(SAVED, slot(task, at), saved);
         }

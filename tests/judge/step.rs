@@ -6,7 +6,8 @@ use crate::event::Event;
 use crate::protocol::Protocol;
 use crate::resume::{figures, resume};
 use crate::sound;
-use crate::whole::{Whole, EAGER, SECOND, USER};
+use crate::taken_again;
+use crate::whole::{Whole, EAGER, SECOND, UNITS, USER};
 use crate::wrong::Wrong;
 
 /// All that a program under judgement has to answer for a step.
@@ -46,7 +47,9 @@ pub fn step(given: &Whole, event: Event, protocol: Protocol, wrong: Wrong) -> Ou
         Ok(_) if lazy.cuts > 0 => Some("the user word of a sound state was cut".to_string()),
         Ok(call) => unsound(&after, protocol)
             .or_else(|| miscounted(given, event, &after))
-            .or_else(|| misplaced(given, event, protocol, call, &after)),
+            .or_else(|| misplaced(given, event, protocol, call, &after))
+            .or_else(|| mischarged(given, event, &after))
+            .or_else(|| taken_again::after_step(given, event, protocol, call, &after)),
         Err(_) if after == *given => None,
         Err(_) => Some("a refused step changed the judge's own scheduler".to_string()),
     };
@@ -74,7 +77,7 @@ fn refused(given: &Whole, number: u8) -> Stepped {
 }
 
 /// From a sound state an accepted event leads to a sound one. The test of
-/// soundness works out all priorities from the open locks, which the lazy
+/// soundness works out all priorities from the takes, which the lazy
 /// scheduler never does.
 fn unsound(after: &Whole, protocol: Protocol) -> Option<String> {
     let names = sound::names(&sound::broken(after, protocol));
@@ -85,7 +88,7 @@ fn unsound(after: &Whole, protocol: Protocol) -> Option<String> {
 }
 
 /// An accepted acquire or unlock is one eager call where the priority of the
-/// task that does it is another one afterwards, as the open locks give it; no
+/// task that does it is another one afterwards, as its takes give it; no
 /// other event is one.
 fn miscounted(given: &Whole, event: Event, after: &Whole) -> Option<String> {
     let calls = match (event, given.running()) {
@@ -99,6 +102,24 @@ fn miscounted(given: &Whole, event: Event, after: &Whole) -> Option<String> {
         return None;
     }
     Some(format!("{counted} eager calls are counted, not {calls}"))
+}
+
+/// A work counts for every lock that the running task has open, once for each, and for no
+/// other.
+fn mischarged(given: &Whole, event: Event, after: &Whole) -> Option<String> {
+    let Event::Work(amount) = event else {
+        return None;
+    };
+    let takes = given.takes(given.running()?);
+    let is_wrong = |lock: &usize| {
+        let more = match takes.contains(lock) {
+            true => u64::from(amount),
+            false => 0,
+        };
+        after.get(UNITS, *lock) != given.get(UNITS, *lock) + more
+    };
+    let lock = (0..UNITS.count()).find(is_wrong)?;
+    Some(format!("the work is not what lock {lock} counts"))
 }
 
 /// A release, a finish, a tick and a call enter the kernel: the kernel word is the

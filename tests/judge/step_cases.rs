@@ -179,7 +179,7 @@ fn after(whole: &Whole, event: Event, protocol: Protocol) -> Result<Whole, Strin
 
 /// `bases B ..`, `maxima M ..` and `lock CEILING LIMIT of TASK ..`, parted by
 /// commas; each may end with `times N`. Without maxima all are the greatest.
-fn plan(text: &str) -> Result<Plan, String> {
+pub fn plan(text: &str) -> Result<Plan, String> {
     let mut plan = Plan {
         bases: Vec::new(),
         maxima: Vec::new(),

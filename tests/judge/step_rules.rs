@@ -1,6 +1,7 @@
 //! The rules that are easy to miss, each with what makes a generated step an
 //! example of it. Those of the kernel word, and what the protocols allow of each
-//! other's word, are in `word_rules.rs`, those of the maxima in `maximum_rules.rs`.
+//! other's word, are in `word_rules.rs`, those of the maxima in `maximum_rules.rs`, and
+//! those of takes in `take_rules.rs`; what books meet of takes too is in `taken.rs`.
 
 use crate::aims::{self, Scene};
 use crate::event::Event;
@@ -11,6 +12,10 @@ use crate::plan::MOST_UNITS;
 use crate::protocol::{Protocol, PROTOCOLS};
 use crate::sound::{next_by_rule, priority};
 use crate::step::Outcome;
+use crate::take_rules::{
+    call_in_part, no_owner, other_owner, owner_of_closed, two_holders, waits_with_takes,
+    wrong_saved,
+};
 use crate::trials::Trial;
 use crate::whole::{DELAY, EAGER, RUNNING, SECOND, TASKS, USER};
 use crate::word_rules::{
@@ -29,7 +34,7 @@ const SECOND_ALONE: &[Protocol] = &[Protocol::Second];
 const FIRST_ALONE: &[Protocol] = &[Protocol::First];
 
 #[rustfmt::skip] // a line each
-pub const RULES: [(&str, &[Protocol], IsMet); 42] = [
+pub const RULES: [(&str, &[Protocol], IsMet); 49] = [
     ("accepted with a lazy call", BOTH, accepted_with_call),
     ("accepted without a lazy call", BOTH, accepted_without_call),
     ("an acquire that is an eager call", BOTH, raising),
@@ -47,8 +52,15 @@ pub const RULES: [(&str, &[Protocol], IsMet); 42] = [
     ("10 for a ceiling above a maximum alone, of an open lock", BOTH, above_open),
     ("10 for a maximum one below its base alone", BOTH, one_below_base),
     ("10 for a maximum past the last task alone", BOTH, maximum_past_tasks),
+    ("accepted while a task waits that has taken a lock twice", BOTH, waits_with_takes),
+    ("10 for a lock open for two tasks alone, taken twice by one", BOTH, two_holders),
+    ("10 for no owner of a lock taken twice alone", BOTH, no_owner),
+    ("10 for another owner of a lock taken twice alone", BOTH, other_owner),
+    ("10 for an owner of a lock without a take alone", BOTH, owner_of_closed),
+    ("10 for a wrong saved word of a lock taken again alone", BOTH, wrong_saved),
 
     ("an unlock that calls with the priority unchanged", SECOND_ALONE, call_of_equal),
+    ("an unlock that calls and leaves its lock open", SECOND_ALONE, call_in_part),
     ("a newcomer above both words", SECOND_ALONE, above_both),
     ("a newcomer above the user word, at the next word", SECOND_ALONE, at_the_next_word),
     ("work with the next word at the worker's base", SECOND_ALONE, spared_at_base),
@@ -88,7 +100,7 @@ fn accepted_without_call(_: &Trial, outcome: &Outcome) -> bool {
     is_accepted(outcome) && outcome.stepped.call == 0
 }
 
-/// The newest lock, which the unlock closes, did not raise the running task.
+/// The newest take, which the unlock gives back, did not raise the running task.
 fn call_of_equal(trial: &Trial, outcome: &Outcome) -> bool {
     let Some(task) = trial.given.running().filter(|_| outcome.stepped.call == 1) else {
         return false;
@@ -196,7 +208,7 @@ fn older_lock(trial: &Trial, outcome: &Outcome) -> bool {
         .given
         .running()
         .filter(|_| outcome.stepped.number == 19);
-    task.is_some_and(|task| trial.given.open_locks(task).contains(&usize::from(lock)))
+    task.is_some_and(|task| trial.given.takes(task).contains(&usize::from(lock)))
 }
 
 /// The newest section would take the work, and an older one doesn't.
@@ -208,7 +220,7 @@ fn older_section(trial: &Trial, outcome: &Outcome) -> bool {
         .given
         .running()
         .filter(|_| outcome.stepped.number == 21);
-    let newest = task.and_then(|task| trial.given.open_locks(task).pop());
+    let newest = task.and_then(|task| trial.given.takes(task).pop());
     newest.is_some_and(|lock| {
         let left = aims::left(&trial.given.plan(), &trial.given, lock);
         usize::from(amount) <= left

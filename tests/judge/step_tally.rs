@@ -8,6 +8,7 @@ use crate::refusals::{FROM_STEPS, WORDS};
 use crate::sound::CONDITIONS;
 use crate::step::Outcome;
 use crate::step_rules::RULES;
+use crate::taken::{Taken, SITUATIONS};
 use crate::trials::Trial;
 use crate::whole::{figure, FIGURES};
 
@@ -26,6 +27,7 @@ pub struct StepTally {
     alone: [usize; CONDITIONS.len()],
     changed: Vec<usize>,
     met: [usize; RULES.len()],
+    taken: [usize; SITUATIONS.len()],
 }
 
 impl StepTally {
@@ -38,6 +40,7 @@ impl StepTally {
             alone: [0; CONDITIONS.len()],
             changed: vec![0; FIGURES],
             met: [0; RULES.len()],
+            taken: [0; SITUATIONS.len()],
         }
     }
 
@@ -46,6 +49,12 @@ impl StepTally {
         let all = RULES.into_iter().zip(self.met);
         let own = all.filter(|((_, of, _), _)| of.contains(&self.protocol));
         own.map(|((name, _, _), times)| (name, times))
+    }
+
+    /// The same of those about a lock that is taken again, which both can meet.
+    fn taken(&self) -> impl Iterator<Item = (&'static str, usize)> + '_ {
+        let all = SITUATIONS.iter().zip(self.taken);
+        all.map(|(situation, times)| (situation.name, times))
     }
 
     /// The conditions that this protocol asks, by place.
@@ -69,6 +78,19 @@ impl StepTally {
             let is_own = of.contains(&self.protocol);
             *times += usize::from(is_own && is_met(trial, outcome));
         }
+        if outcome.broken.is_empty() {
+            self.count_taken(trial, outcome.stepped.number);
+        }
+    }
+
+    fn count_taken(&mut self, trial: &Trial, number: u8) {
+        let plan = trial.given.plan();
+        let Some(taken) = Taken::at(&plan, &trial.given, trial.event) else {
+            return;
+        };
+        for (times, is_met) in self.taken.iter_mut().zip(taken.is(number)) {
+            *times += usize::from(is_met);
+        }
     }
 
     /// What was met too seldom for the comparison to mean much.
@@ -91,7 +113,7 @@ impl StepTally {
             ask(format!("broken: {name}"), self.broken[place], LEAST_BROKEN);
             ask(format!("alone: {name}"), self.alone[place], LEAST_BROKEN);
         }
-        for (name, times) in self.rules() {
+        for (name, times) in self.rules().chain(self.taken()) {
             ask(name.to_string(), times, LEAST_MET);
         }
         let is_changed = |number: &usize| self.changed[*number] > 0;
@@ -121,7 +143,7 @@ impl StepTally {
             println!("  {broken:>6} {alone:>7}  {}", CONDITIONS[place].name);
         }
         println!("rules that are easy to miss:");
-        for (name, times) in self.rules() {
+        for (name, times) in self.rules().chain(self.taken()) {
             println!("  {times:>6}  {name}");
         }
     }

@@ -5,6 +5,7 @@ use crate::plan::NOBODY;
 use crate::protocol::ByProtocol;
 use crate::refusals::{FROM_BOOKS, WORDS};
 use crate::replay::Outcome;
+use crate::taken::Counts;
 
 #[derive(Default)]
 pub struct Tally {
@@ -21,6 +22,8 @@ pub struct Tally {
     answers: [usize; WORDS.len()],
     /// The least and the greatest place of each number.
     places: [Option<(u32, u32)>; WORDS.len()],
+    /// What was met of locks that are taken again.
+    taken: Counts,
     /// Tasks whose delay isn't 0, and those whose delay equals their bound.
     delayed: usize,
     at_bound: usize,
@@ -38,6 +41,7 @@ impl Tally {
         self.same_again += same_again(&outcome.answers.first.rows, outcome.accepted.first);
         self.eager_calls += u64::from(answer.eager_calls);
         self.at_maximum += outcome.at_maximum;
+        self.taken.add(&outcome.taken);
         let number = usize::from(answer.number);
         self.answers[number] += 1;
         let (least, most) = self.places[number].unwrap_or((answer.place, answer.place));
@@ -82,7 +86,9 @@ impl Tally {
             ("a delay that reaches its bound", self.at_bound > 0),
         ];
         let rules = rules.map(|(what, met)| (what.to_string(), met));
-        let all = numbers.chain(rules);
+        let taken = self.taken.named(true).into_iter();
+        let taken = taken.map(|(what, times)| (what.to_string(), times > 0));
+        let all = numbers.chain(rules).chain(taken);
         all.filter(|(_, met)| !met).map(|(what, _)| what).collect()
     }
 
@@ -101,6 +107,10 @@ impl Tally {
                 " [not from a book]"
             };
             println!("  {number:>3} {times:>7}  {places:<12}  {words}{note}");
+        }
+        println!("locks taken again in the generated books:");
+        for (name, times) in self.taken.named(true) {
+            println!("  {times:>6}  {name}");
         }
     }
 

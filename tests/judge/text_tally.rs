@@ -2,8 +2,10 @@
 //! each mistake at each word of each record among them, and whether the rules that are easy
 //! to miss were met.
 
+use crate::book;
 use crate::compose::{Ending, MOST_TEXT};
 use crate::composing::{Composing, Outcome};
+use crate::event::Event;
 use crate::forms::FORMS;
 use crate::text::Fault;
 
@@ -31,7 +33,7 @@ const REFUSALS: [(u8, Option<u32>, bool); 11] = [
 type IsMet = fn(&Composing, &Outcome) -> bool;
 
 #[rustfmt::skip] // a line each
-const RULES: [(&str, IsMet); 16] = [
+const RULES: [(&str, IsMet); 17] = [
     ("a shown book that is accepted", |c, _| c.shown.is_some()),
     ("a shown book that is refused", |c, o| c.shown.is_none() && c.text.starts_with(b"# refused") && !is_book(o)),
     ("no newline at the end of a book's text", |c, o| is_book(o) && c.text.last() != Some(&b'\n')),
@@ -45,6 +47,7 @@ const RULES: [(&str, IsMet); 16] = [
     ("spaces before a name", |c, o| is_book(o) && has(c, b"\n  task")),
     ("an event before a task", |c, o| is_book(o) && is_before(c, b"release", b"task")),
     ("a use before a lock", |c, o| is_book(o) && is_before(c, b"use", b"lock")),
+    ("a lock taken twice, one after the other", |_, o| is_book(o) && takes_twice(&o.composed.book)),
     ("a mistake in a word with a tab", |c, o| is_mistake(o) && has(c, b"\t")),
     ("a mistake in a text with a byte above 127", |c, o| is_mistake(o) && c.text.iter().any(|byte| *byte > 127)),
     ("a text without a byte", |c, _| c.text.is_empty()),
@@ -207,6 +210,14 @@ fn first(composing: &Composing, bytes: &[u8]) -> Option<usize> {
 
 fn has(composing: &Composing, bytes: &[u8]) -> bool {
     first(composing, bytes).is_some()
+}
+
+/// Whether two acquires of one lock follow each other in a book.
+fn takes_twice(book: &[u8]) -> bool {
+    let events = book::cut(book).unwrap_or_default().events;
+    let is_acquire = |record: [u8; 4]| record[0] == Event::Acquire(0).record()[0];
+    let is_twice = |two: &[[u8; 4]]| two[0] == two[1] && is_acquire(two[0]);
+    events.windows(2).any(is_twice)
 }
 
 fn is_before(composing: &Composing, one: &[u8], other: &[u8]) -> bool {

@@ -116,9 +116,7 @@ fn aimed_event(random: &mut Random, plan: &Plan, given: &Whole) -> (Event, Optio
 /// An event that a sound state accepts. An unlock, at which the protocols part, is
 /// more likely than another.
 fn accepted_event(random: &mut Random, plan: &Plan, given: &Whole) -> Event {
-    let newest = given
-        .running()
-        .and_then(|task| given.open_locks(task).pop());
+    let newest = given.running().and_then(|task| given.takes(task).pop());
     match newest {
         Some(lock) if random.one_in(4) => Event::Unlock(lock as u8),
         _ => aims::accepted(random, plan, given),
@@ -128,7 +126,7 @@ fn accepted_event(random: &mut Random, plan: &Plan, given: &Whole) -> Event {
 /// An event that a sound state refuses. What few states can refuse is tried
 /// first half of the time; an unknown task can always be named.
 fn refused_event(random: &mut Random, plan: &Plan, given: &Whole) -> (Event, u8) {
-    let mut numbers: Vec<u8> = (12..=22).collect();
+    let mut numbers = vec![12, 13, 14, 15, 17, 18, 19, 20, 21, 22];
     random.shuffle(&mut numbers);
     if random.one_in(2) {
         numbers.splice(0..0, [12, 18, 17]);

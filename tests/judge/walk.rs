@@ -5,16 +5,20 @@
 use crate::aims;
 use crate::eager::Eager;
 use crate::event::Event;
-use crate::plan::{Plan, MOST_OPEN, MOST_TASKS};
+use crate::plan::{Plan, MOST_TAKES, MOST_TASKS};
 use crate::random::Random;
 use crate::wrong::Wrong;
 
 /// How strongly each sort of event is favoured; 0 for never.
 pub struct Style {
+    /// A take of a lock that the running task has not open.
     pub acquire: usize,
+    /// A take of one that it has open.
+    pub again: usize,
     pub unlock: usize,
     /// A release that waits only for the newest open lock: above the priority
-    /// under that lock, not above the running task's. Its unlock is a lazy call.
+    /// without that lock, not above the running task's. The unlock that closes it is
+    /// a lazy call.
     pub release_behind_lock: usize,
     /// A release strictly above the running task's priority.
     pub release_above: usize,
@@ -36,6 +40,7 @@ pub struct Style {
 
 pub const MIXED: Style = Style {
     acquire: 6,
+    again: 3,
     unlock: 4,
     release_behind_lock: 3,
     release_above: 3,
@@ -48,9 +53,11 @@ pub const MIXED: Style = Style {
     seeks_raises: false,
 };
 
-/// Short sections with a more urgent task waiting behind each.
+/// Short sections with a more urgent task waiting behind each. Each lock is taken once, as
+/// in the books that the benchmark has always had.
 pub const CONTENDED: Style = Style {
     acquire: 12,
+    again: 0,
     unlock: 10,
     release_behind_lock: 12,
     release_above: 3,
@@ -63,9 +70,16 @@ pub const CONTENDED: Style = Style {
     seeks_raises: true,
 };
 
-/// Locks are opened far more often than closed.
+/// The same, and locks are taken again inside their sections.
+pub const CONTENDED_AGAIN: Style = Style {
+    again: 8,
+    ..CONTENDED
+};
+
+/// Locks are taken far more often than given back, and mostly others than before.
 pub const DEEP: Style = Style {
     acquire: 24,
+    again: 3,
     unlock: 3,
     release_behind_lock: 2,
     release_above: 1,
@@ -81,6 +95,7 @@ pub const DEEP: Style = Style {
 /// Mostly release, work, finish and tick.
 pub const PLAIN: Style = Style {
     acquire: 2,
+    again: 0,
     unlock: 4,
     release_behind_lock: 0,
     release_above: 4,
@@ -93,8 +108,45 @@ pub const PLAIN: Style = Style {
     seeks_raises: false,
 };
 
-/// The refusals that a walk can be asked for.
-pub const WANTED: [u8; 9] = [12, 13, 14, 15, 16, 18, 19, 21, 22];
+/// The same, and locks are taken again.
+pub const PLAIN_AGAIN: Style = Style { again: 4, ..PLAIN };
+
+/// Few locks, which are taken again and again and given back in parts, with work between
+/// and more urgent tasks behind them.
+pub const AGAIN: Style = Style {
+    acquire: 3,
+    again: 9,
+    unlock: 8,
+    release_behind_lock: 3,
+    release_above: 1,
+    release_tie: 1,
+    release_any: 1,
+    work: 8,
+    finish: 3,
+    tick: 1,
+    most_released: 4,
+    seeks_raises: false,
+};
+
+/// As many takes as can be of as few locks as can be.
+pub const HEAPED: Style = Style {
+    acquire: 2,
+    again: 40,
+    unlock: 2,
+    release_behind_lock: 2,
+    release_above: 1,
+    release_tie: 1,
+    release_any: 1,
+    work: 2,
+    finish: 1,
+    tick: 1,
+    most_released: MOST_TASKS,
+    seeks_raises: false,
+};
+
+/// The refusals that a walk can be asked for. 21 is there twice: there is the most to tell
+/// apart of it, by nests and by takes, and many a walk never comes to a limit.
+pub const WANTED: [u8; 9] = [12, 13, 14, 15, 18, 19, 21, 21, 22];
 
 /// A refusal that a walk shall end in.
 #[derive(Clone, Copy)]
@@ -102,26 +154,51 @@ pub struct Wanted {
     pub number: u8,
     /// Not before this place.
     pub from: usize,
-    /// Only while the running task has as many locks open as it can.
-    pub with_most_open: bool,
+    /// Only while the running task has as many takes as it can.
+    pub with_most_takes: bool,
 }
 
 impl Wanted {
     fn is_due(&self, place: usize, eager: &Eager) -> bool {
-        let open = eager
-            .running()
-            .map_or(0, |task| eager.open_locks(task).len());
-        place >= self.from && (open == MOST_OPEN || !self.with_most_open)
+        let takes = eager.running().map_or(0, |task| eager.takes(task).len());
+        place >= self.from && (takes == MOST_TAKES || !self.with_most_takes)
     }
 
-    /// An event that is refused as wanted, if the state has one. For 21 the walk
-    /// mostly goes on until an older section is the one that would be passed.
-    fn event(&self, random: &mut Random, plan: &Plan, eager: &Eager) -> Option<Event> {
-        let is_dull = self.number == 21 && !aims::outer_section_is_tightest(plan, eager);
-        if is_dull && !random.one_in(20) {
+    /// An event that is refused as wanted, if the state has one. Mostly the walk goes on
+    /// until that is of interest.
+    fn event(
+        &self,
+        random: &mut Random,
+        plan: &Plan,
+        eager: &Eager,
+        latest: Option<&Event>,
+    ) -> Option<Event> {
+        if !random.one_in(self.patience(plan, eager, latest)) {
             return None;
         }
         aims::refused(random, plan, eager, self.number)
+    }
+
+    /// Of so many such states one is taken. For 21 it is of interest that an older section
+    /// is the one that would be passed, or that of a lock that is taken again; for both 21
+    /// and 22 that the latest event gave a take back, and another of the same lock is left.
+    fn patience(&self, plan: &Plan, eager: &Eager, latest: Option<&Event>) -> usize {
+        if !matches!(self.number, 21 | 22) {
+            return 1;
+        }
+        let takes = eager.running().map_or(&[][..], |task| eager.takes(task));
+        let is_in_part = match latest {
+            Some(Event::Unlock(lock)) => takes.contains(&usize::from(*lock)),
+            _ => false,
+        };
+        let is_older = aims::outer_section_is_tightest(plan, eager);
+        let is_repeated = aims::repeated_section_is_tightest(plan, eager);
+        match self.number {
+            21 if is_older || is_repeated && is_in_part => 1,
+            21 if is_repeated => 8,
+            22 if is_in_part => 1,
+            _ => 20,
+        }
     }
 }
 
@@ -139,7 +216,7 @@ pub fn walk(
     let mut events = Vec::new();
     while events.len() < length {
         if let Some(wanted) = wanted.filter(|wanted| wanted.is_due(events.len(), &eager)) {
-            if let Some(event) = wanted.event(random, plan, &eager) {
+            if let Some(event) = wanted.event(random, plan, &eager, events.last()) {
                 assert_eq!(eager.step(event), Err(wanted.number), "the wanted refusal");
                 events.push(event);
                 break;
@@ -194,29 +271,35 @@ fn acts(
     task: usize,
     choices: &mut Vec<(usize, Event)>,
 ) {
-    let open = eager.open_locks(task);
+    let takes = eager.takes(task);
     let priority = eager.priority(task);
     let may_open: Vec<usize> = (0..plan.locks.len())
-        .filter(|lock| plan.declares(task, *lock) && !open.contains(lock))
+        .filter(|lock| plan.declares(task, *lock) && !takes.contains(lock))
         .collect();
     let raises: Vec<usize> = may_open
         .iter()
         .copied()
         .filter(|lock| plan.locks[*lock].ceiling > priority)
         .collect();
-    if open.len() < MOST_OPEN {
+    if takes.len() < MOST_TAKES {
         let raising = random.pick_any(&raises).filter(|_| style.seeks_raises);
         let is_dull = style.seeks_raises && raising.is_none();
         if let Some(lock) = raising.or_else(|| random.pick_any(&may_open)) {
             let weight = style.acquire / if is_dull { 4 } else { 1 };
             choices.push((weight, Event::Acquire(lock as u8)));
         }
+        if style.again > 0 && !takes.is_empty() {
+            // Half of the time the newest once more, else any, be it under others.
+            let newest = takes.last().copied().filter(|_| random.one_in(2));
+            let lock = newest.unwrap_or_else(|| random.pick(takes));
+            choices.push((style.again, Event::Acquire(lock as u8)));
+        }
     }
     let released = (0..plan.bases.len())
         .filter(|other| eager.is_released(*other))
         .count();
     let is_in_haste = style.seeks_raises && (raises.is_empty() || released >= style.most_released);
-    match open.last() {
+    match takes.last() {
         None => {
             let weight = style.finish * if is_in_haste { 8 } else { 1 };
             choices.push((weight, Event::Finish));
@@ -226,7 +309,7 @@ fn acts(
     let room = aims::room(plan, eager, task);
     if room > 0 {
         let amount = match random.below(8) {
-            0 | 1 if !open.is_empty() => room,
+            0 | 1 if !takes.is_empty() => room,
             0 => random.between(1, room),
             _ => random.between(1, room.min(6)),
         };
@@ -270,8 +353,10 @@ fn releases(
         add(style.release_tie, &|base| base == priority);
         add(style.release_any, &|_| true);
     }
-    if let Some((_, under)) = eager.open_locks(running).split_last() {
-        let ceilings = under.iter().map(|lock| plan.locks[*lock].ceiling);
+    let takes = eager.takes(running);
+    if let Some(newest) = takes.last() {
+        let others = takes.iter().filter(|lock| *lock != newest);
+        let ceilings = others.map(|lock| plan.locks[*lock].ceiling);
         let restored = ceilings.fold(plan.bases[running], u8::max);
         add(style.release_behind_lock, &|base| {
             restored < base && base <= priority

@@ -2,7 +2,7 @@
 //! of the plan, then those of the state. Every field has all its places, also
 //! those past the plan's tasks and locks.
 
-use crate::plan::{Lock, Plan, MOST_LOCKS, MOST_OPEN, MOST_TASKS, NOBODY};
+use crate::plan::{Lock, Plan, MOST_LOCKS, MOST_TAKES, MOST_TASKS, NOBODY};
 
 /// What a field has its figures for.
 #[derive(Clone, Copy, PartialEq, Eq)]
@@ -11,7 +11,7 @@ pub enum Per {
     One,
     Task,
     Lock,
-    /// A place in the row of a task: `MOST_OPEN` of them for each task.
+    /// A place in the row of a task: `MOST_TAKES` of them for each task.
     Slot,
 }
 
@@ -45,7 +45,7 @@ impl Field {
             Per::One => 1,
             Per::Task => MOST_TASKS,
             Per::Lock => MOST_LOCKS,
-            Per::Slot => MOST_TASKS * MOST_OPEN,
+            Per::Slot => MOST_TASKS * MOST_TAKES,
         }
     }
 
@@ -62,7 +62,7 @@ impl Field {
             Per::Task => format!("{name} of task {place}"),
             Per::Lock => format!("{name} of lock {place}"),
             Per::Slot => {
-                let (task, at) = (place / MOST_OPEN, place % MOST_OPEN);
+                let (task, at) = (place / MOST_TAKES, place % MOST_TAKES);
                 format!("{name} of task {task}, place {at}")
             }
         }
@@ -94,11 +94,11 @@ pub const EAGER: Field = LAZY.then("eager", Per::One, 4);
 pub const RELEASED: Field = EAGER.then("released", Per::Task, 4);
 pub const KEPT: Field = RELEASED.then("kept", Per::Task, 1);
 pub const DELAY: Field = KEPT.then("delay", Per::Task, 2);
-/// How many locks a task has open.
-pub const OPEN: Field = DELAY.then("open", Per::Task, 1);
-/// The open locks of a task, newest first.
-pub const ROW: Field = OPEN.then("row", Per::Slot, 1);
-/// The words that the task's acquires saved, newest first.
+/// How many takes a task has.
+pub const DEPTH: Field = DELAY.then("depth", Per::Task, 1);
+/// The takes of a task, each by its lock, newest first.
+pub const ROW: Field = DEPTH.then("row", Per::Slot, 1);
+/// The words that were saved at these takes, newest first.
 pub const SAVED: Field = ROW.then("saved", Per::Slot, 1);
 pub const UNITS: Field = SAVED.then("units", Per::Lock, 2);
 /// The task that has the lock open, plus one; 0 for a closed lock.
@@ -106,7 +106,7 @@ pub const OWNER: Field = UNITS.then("owner", Per::Lock, 1);
 
 pub const FIELDS: [Field; 21] = [
     TASKS, LOCKS, BASE, MAXIMUM, CEILING, LIMIT, USES, ACCEPTED, RUNNING, USER, SECOND, LAZY,
-    EAGER, RELEASED, KEPT, DELAY, OPEN, ROW, SAVED, UNITS, OWNER,
+    EAGER, RELEASED, KEPT, DELAY, DEPTH, ROW, SAVED, UNITS, OWNER,
 ];
 
 pub const PLAN_BYTES: usize = USES.end();
@@ -145,7 +145,7 @@ pub fn number_of(field: Field, place: usize) -> usize {
 
 /// The place of a slot in the fields of rows.
 pub fn slot(task: usize, at: usize) -> usize {
-    MOST_OPEN * task + at
+    MOST_TAKES * task + at
 }
 
 #[derive(Clone, PartialEq, Eq)]

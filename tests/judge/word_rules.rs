@@ -8,7 +8,7 @@ use crate::sound::{kernel_word, next_by_rule, next_word, CONDITIONS};
 use crate::step::Outcome;
 use crate::step_rules::{is_accepted, raising, working};
 use crate::trials::Trial;
-use crate::whole::{slot, Whole, OPEN, SAVED, SECOND, USER};
+use crate::whole::{slot, Whole, DEPTH, SAVED, SECOND, USER};
 
 fn second(whole: &Whole) -> u64 {
     whole.get(SECOND, 0)
@@ -114,7 +114,7 @@ fn raises_inside(trial: &Trial, outcome: &Outcome) -> bool {
     let (given, after) = (&trial.given, &outcome.stepped.after);
     let is_inside = given
         .running()
-        .is_some_and(|task| given.get(OPEN, task) > 0);
+        .is_some_and(|task| given.get(DEPTH, task) > 0);
     let goes_on = is_accepted(outcome) && given.running() == after.running();
     is_inside && goes_on && second(given) < second(after)
 }

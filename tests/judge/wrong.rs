@@ -1,5 +1,6 @@
 //! Ways to go wrong on purpose: the four mistakes of RULES 18.4 and one close to
-//! them, others that only single steps can show, some of the count of eager calls,
+//! them, others that only single steps can show, some of a lock that is taken again,
+//! the four of RULES 18.12 among them, some of the count of eager calls,
 //! some of the kernel word, which is the first protocol's, some of the writer of
 //! books, some of a lock with one user, some of the maximum of a task, some of
 //! the sizes, and some of books in words. The judge can follow one of them; a right program
@@ -41,8 +42,8 @@ pub enum Wrong {
     No20,
     /// A delay starts again from 0 when its two bytes are full.
     DelayWraps,
-    /// One more lock can be open than the rules allow.
-    OneMoreOpen,
+    /// One more take can be had than the rules allow.
+    OneMoreTake,
     /// The word of a task that finishes stays as its kept priority.
     KeptStays,
     /// A tick leaves the kernel word as it is.
@@ -68,6 +69,33 @@ pub enum Wrong {
     KernelWordAsNext,
     /// Work is nobody's delay where the kernel word is not above the worker's base.
     SparedByKernelWord,
+    /// The units of a lock go back to 0 at any unlock of it, also where it stays open.
+    UnitsAtFirstReturn,
+    /// A lock has no owner from the first unlock of it on, also where it stays open.
+    OwnerAtFirstReturn,
+    /// The units of a section start anew where its lock is taken again.
+    AgainStartsAnew,
+    /// Work counts once for each take of a lock.
+    ChargedByTake,
+    /// 18 counts open locks, and not takes.
+    LocksCounted,
+    /// A take of an open lock is refused by 16, as it once was.
+    AgainRefused,
+    /// A take of an open lock saves no word.
+    AgainSavesNothing,
+    /// An unlock restores what was before the first take of its lock, also where other
+    /// takes of it are left.
+    RestoresAtOnce,
+    /// A take of an open lock is an eager call.
+    AgainIsCall,
+    /// So is an unlock that leaves its lock open.
+    InPartIsCall,
+    /// 19 asks for any open lock: the newest take of it leaves the row.
+    AnyTakeReturned,
+    /// A state is not sound where a lock is taken twice.
+    AgainInStateRefused,
+    /// A state is sound also where a lock is open for two tasks.
+    OpenForTwoInState,
     /// Every acquire and every unlock is an eager call.
     EveryLockAct,
     /// Of those that change a priority only acquires are eager calls.
@@ -140,10 +168,18 @@ pub enum Wrong {
     ExplainedBySecond,
     /// Of a book that is refused it is not said that there was no call.
     NoCallUnsaid,
+    /// 18 and 19 are said in the words of before a lock could be taken again.
+    OldWords,
+    /// 21 is explained with the units since the newest take of the lock.
+    UnitsOfNewestTake,
+    /// 21 is explained as if the first unlock of a lock had ended its section.
+    UnitsSinceReturn,
+    /// 19 and 22 are explained by the oldest take.
+    OldestTake,
 }
 
 /// The wrong ways under the names of the command line.
-pub const WRONG_WAYS: [(&str, Wrong); 60] = [
+pub const WRONG_WAYS: [(&str, Wrong); 77] = [
     ("tail", Wrong::Tail),
     ("at-or-above", Wrong::AtOrAbove),
     ("gives-way", Wrong::GivesWay),
@@ -155,7 +191,7 @@ pub const WRONG_WAYS: [(&str, Wrong); 60] = [
     ("no-17", Wrong::No17),
     ("no-20", Wrong::No20),
     ("delay-wraps", Wrong::DelayWraps),
-    ("one-more-open", Wrong::OneMoreOpen),
+    ("one-more-take", Wrong::OneMoreTake),
     ("kept-stays", Wrong::KeptStays),
     ("tick-leaves-kernel-word", Wrong::TickLeavesKernelWord),
     ("acquire-sets-kernel-word", Wrong::AcquireSetsKernelWord),
@@ -168,6 +204,19 @@ pub const WRONG_WAYS: [(&str, Wrong); 60] = [
     ("kernel-word-unbounded", Wrong::KernelWordUnbounded),
     ("kernel-word-as-next", Wrong::KernelWordAsNext),
     ("spared-by-kernel-word", Wrong::SparedByKernelWord),
+    ("units-at-first-return", Wrong::UnitsAtFirstReturn),
+    ("owner-at-first-return", Wrong::OwnerAtFirstReturn),
+    ("again-starts-anew", Wrong::AgainStartsAnew),
+    ("charged-by-take", Wrong::ChargedByTake),
+    ("locks-counted", Wrong::LocksCounted),
+    ("again-refused", Wrong::AgainRefused),
+    ("again-saves-nothing", Wrong::AgainSavesNothing),
+    ("restores-at-once", Wrong::RestoresAtOnce),
+    ("again-is-call", Wrong::AgainIsCall),
+    ("in-part-is-call", Wrong::InPartIsCall),
+    ("any-take-returned", Wrong::AnyTakeReturned),
+    ("again-in-state-refused", Wrong::AgainInStateRefused),
+    ("open-for-two-in-state", Wrong::OpenForTwoInState),
     ("every-lock-act", Wrong::EveryLockAct),
     ("acquires-alone", Wrong::AcquiresAlone),
     ("room-before-8", Wrong::RoomBefore8),
@@ -204,6 +253,10 @@ pub const WRONG_WAYS: [(&str, Wrong); 60] = [
     ("newest-passed", Wrong::NewestPassed),
     ("explained-by-second", Wrong::ExplainedBySecond),
     ("no-call-unsaid", Wrong::NoCallUnsaid),
+    ("old-words", Wrong::OldWords),
+    ("units-of-newest-take", Wrong::UnitsOfNewestTake),
+    ("units-since-return", Wrong::UnitsSinceReturn),
+    ("oldest-take", Wrong::OldestTake),
 ];
 
 impl Wrong {
@@ -256,6 +309,10 @@ impl Wrong {
                 | Wrong::NewestPassed
                 | Wrong::ExplainedBySecond
                 | Wrong::NoCallUnsaid
+                | Wrong::OldWords
+                | Wrong::UnitsOfNewestTake
+                | Wrong::UnitsSinceReturn
+                | Wrong::OldestTake
         )
     }
 
@@ -290,11 +347,15 @@ impl Wrong {
     }
 
     /// Whether an acquire or an unlock is an eager call, by whether it changes
-    /// the priority of the task that does it.
-    pub fn counts(self, act: Event, changes: bool) -> bool {
+    /// the priority of the task that does it. One of several is an acquire of an open
+    /// lock, and an unlock that leaves its lock open.
+    pub fn counts(self, act: Event, changes: bool, is_one_of_several: bool) -> bool {
+        let is_acquire = matches!(act, Event::Acquire(_));
         match self {
             Wrong::EveryLockAct => true,
-            Wrong::AcquiresAlone => changes && matches!(act, Event::Acquire(_)),
+            Wrong::AcquiresAlone => changes && is_acquire,
+            Wrong::AgainIsCall => changes || (is_one_of_several && is_acquire),
+            Wrong::InPartIsCall => changes || (is_one_of_several && !is_acquire),
             _ => changes,
         }
     }

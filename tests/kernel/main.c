@@ -1,6 +1,6 @@
 /* Runs lists of events on this kernel, and says who ran after each event.
  *
- *     kernel [--patience MILLISECONDS] [--wrong stays|raises-nothing]
+ *     kernel [--patience MILLISECONDS] [--wrong stays|raises-nothing|forgets-again]
  *     kernel --can
  *
  * From standard input it takes requests as the program `batch` does, for a replay alone: u32 command (1), u32 protocol, u32
@@ -74,6 +74,8 @@ static bool read_words(int count, char **words, struct options *options) {
             options->wrong = STAYS;
         } else if (strcmp(words[k], "--wrong") == 0 && strcmp(value, "raises-nothing") == 0) {
             options->wrong = RAISES_NOTHING;
+        } else if (strcmp(words[k], "--wrong") == 0 && strcmp(value, "forgets-again") == 0) {
+            options->wrong = FORGETS_AGAIN;
         } else {
             return false;
         }
@@ -85,7 +87,8 @@ static bool read_words(int count, char **words, struct options *options) {
 int main(int count, char **words) {
     struct options options = {.patience = 10000};
     if (!read_words(count, words, &options)) {
-        fprintf(stderr, "usage: kernel [--patience MILLISECONDS] [--wrong stays|raises-nothing]\n       kernel --can\n");
+        fprintf(stderr, "usage: kernel [--patience MILLISECONDS] [--wrong stays|raises-nothing|forgets-again]\n"
+                        "       kernel --can\n");
         return USAGE;
     }
     const char *lacks = machine_lacks();

@@ -6,6 +6,7 @@
 #define _GNU_SOURCE
 #include "threads.h"
 
+#include <errno.h>
 #include <pthread.h>
 #include <sched.h>
 #include <semaphore.h>
@@ -50,13 +51,20 @@ static void wait_for(sem_t *sem) {
 
 /* ---- the events */
 
-/* Does an event. False for an unlock by one that does not hold the lock and an acquire by one that does, which the C library
- * refuses, and where the driver would have to act. An acquire of a lock that another one holds waits. */
+/* A take of a lock that the thread holds is counted by the C library and asks the kernel for nothing; of a lock that another
+ * one holds it waits. */
+static bool take(pthread_mutex_t *lock) {
+    int refused = pthread_mutex_lock(lock);
+    return refused == 0 || (wrong == FORGETS_AGAIN && refused == EDEADLK);
+}
+
+/* Does an event. False for an unlock by one that does not hold the lock, which the C library refuses, and where the driver
+ * would have to act. */
 static bool act(struct runner *self, const uint8_t *event) {
     uint8_t id = event[1];
     switch (event[0]) {
     case RELEASE: return sem_post(&tasks[id].released) == 0;
-    case ACQUIRE: return self != &driver && pthread_mutex_lock(&locks[id]) == 0;
+    case ACQUIRE: return self != &driver && take(&locks[id]);
     case UNLOCK: return self != &driver && pthread_mutex_unlock(&locks[id]) == 0;
     case FINISH:
         if (self == &driver) return false;
@@ -93,10 +101,12 @@ static void *driver_thread(void *argument) {
 
 /* ---- the start */
 
+/* Of either type a lock is given back by its holder alone. One that forgets refuses its holder's second take. */
 static bool make_lock(pthread_mutex_t *lock, int ceiling) {
+    int type = wrong == FORGETS_AGAIN ? PTHREAD_MUTEX_ERRORCHECK : PTHREAD_MUTEX_RECURSIVE;
     int protocol = wrong == RAISES_NOTHING ? PTHREAD_PRIO_NONE : PTHREAD_PRIO_PROTECT;
     pthread_mutexattr_t attr;
-    return pthread_mutexattr_init(&attr) == 0 && pthread_mutexattr_settype(&attr, PTHREAD_MUTEX_ERRORCHECK) == 0 &&
+    return pthread_mutexattr_init(&attr) == 0 && pthread_mutexattr_settype(&attr, type) == 0 &&
            pthread_mutexattr_setprotocol(&attr, protocol) == 0 &&
            pthread_mutexattr_setprioceiling(&attr, ceiling) == 0 && pthread_mutex_init(lock, &attr) == 0;
 }

@@ -20,6 +20,7 @@ enum wrong {
     NOTHING,
     STAYS,          /* whoever takes the event in the middle goes on for ever */
     RAISES_NOTHING, /* the locks have no ceiling */
+    FORGETS_AGAIN,  /* a take of a lock that the task has open is not counted, so the first unlock frees the lock */
 };
 
 /* What is known of a run, in memory that its watcher shares. */

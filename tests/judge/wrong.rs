@@ -79,7 +79,7 @@ pub enum Wrong {
     ChargedByTake,
     /// 18 counts open locks, and not takes.
     LocksCounted,
-    /// A take of an open lock is refused by 16, as it once was.
+    /// A take of an open lock is refused, by the number that is withdrawn.
     AgainRefused,
     /// A take of an open lock saves no word.
     AgainSavesNothing,
@@ -168,7 +168,7 @@ pub enum Wrong {
     ExplainedBySecond,
     /// Of a book that is refused it is not said that there was no call.
     NoCallUnsaid,
-    /// 18 and 19 are said in the words of before a lock could be taken again.
+    /// 18 and 19 are said in words that speak of open locks, and not of takes.
     OldWords,
     /// 21 is explained with the units since the newest take of the lock.
     UnitsOfNewestTake,

@@ -4,7 +4,7 @@
 use crate::wrong::Wrong;
 
 /// `MEANINGS[n]` is what refusal n means; there is no refusal 0, and 16 is never given.
-const MEANINGS: [&str; 25] = [
+const MEANINGS: [&str; 27] = [
     "",
     "the book has fewer than 32 bytes",
     "a book has 1 to 200 tasks, and at most 32 locks, 6400 uses and 12000 events",
@@ -30,6 +30,8 @@ const MEANINGS: [&str; 25] = [
     "the task finishes with a lock open",
     "the buffer is shorter than the book",
     "a use names a lock whose ceiling is above the task's maximum",
+    "no job goes on like this: its items are like w2 and [0 w1], one space apart, with 1 to 65535 units, locks 0 to 31 and 8 sections deep at most",
+    "there are fewer than four bytes of event space for each event of the job",
 ];
 
 pub fn meaning(number: u8) -> &'static str {

@@ -8,6 +8,8 @@ pub const MOST_USES: usize = 6_400;
 pub const MOST_EVENTS: usize = 12_000;
 /// The most takes that one task may have at once, of one lock or of several.
 pub const MOST_TAKES: usize = 8;
+/// The most sections that stand one in another in a drawn job.
+pub const MOST_NESTED: usize = 8;
 /// The most events that a state may have accepted.
 pub const MOST_ACCEPTED: u32 = 1_000_000;
 /// The most units of a section, of one work and of a delay.

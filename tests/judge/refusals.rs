@@ -1,8 +1,8 @@
-//! The refusal numbers in words, and which of them a whole book, a single step
-//! and a writing can be answered with.
+//! The refusal numbers in words, and which of them a whole book, a single step, a
+//! writing and the reading of a job can be answered with.
 
 /// `WORDS[n]` says when number n is given; 0 stands for no refusal.
-pub const WORDS: [&str; 25] = [
+pub const WORDS: [&str; 27] = [
     "nothing refused",
     "the book is shorter than its contents",
     "a count is out of its range",
@@ -28,12 +28,14 @@ pub const WORDS: [&str; 25] = [
     "a finish before all takes are given back",
     "the buffer is shorter than the book",
     "a use of a lock whose ceiling is above the task's maximum",
+    "a text that is no job",
+    "fewer than four bytes of event space for each event of a job",
 ];
 
 /// The answers that whole books can get. The others cannot come up there: a
 /// fresh start leads to neither 10 nor 17, 11 needs more events than a book
 /// holds, a book that works nothing is refused with 8, so that 20 is left to the
-/// single step, and 23 is the writer's. 16 is nowhere an answer.
+/// single step, 23 is the writer's, and 25 and 26 are about jobs. 16 is nowhere an answer.
 pub const FROM_BOOKS: [u8; 19] = [
     0, 1, 2, 3, 4, 5, 6, 7, 24, 8, 9, 12, 13, 14, 15, 18, 19, 21, 22,
 ];
@@ -43,6 +45,9 @@ pub const FROM_STEPS: [u8; 13] = [0, 10, 11, 12, 13, 14, 15, 17, 18, 19, 20, 21,
 
 /// The answers that writings can get, in the order of their tests.
 pub const FROM_WRITINGS: [u8; 9] = [0, 2, 4, 5, 6, 7, 24, 8, 23];
+
+/// The answers that the readings of jobs can get, in the order of their tests.
+pub const FROM_JOBS: [u8; 3] = [0, 25, 26];
 
 /// A number with its words.
 pub fn named(number: u8) -> String {

@@ -3,8 +3,9 @@
 //! the four of RULES 18.12 among them, some of the count of eager calls,
 //! some of the kernel word, which is the first protocol's, some of the writer of
 //! books, some of a lock with one user, some of the maximum of a task, some of
-//! the sizes, and some of books in words. The judge can follow one of them; a right program
-//! must then differ from it, which shows that the judge is able to fail a program.
+//! the sizes, some of books in words, some of jobs as they are drawn, and some of jobs in
+//! the line of a text. The judge can follow one of them; a right program must then differ
+//! from it, which shows that the judge is able to fail a program.
 //!
 //! A kernel that cuts wrongly is none of them: in a sound state there is nothing to
 //! cut, and any other is refused, so no program can show it. What the judge's own
@@ -176,10 +177,79 @@ pub enum Wrong {
     UnitsSinceReturn,
     /// 19 and 22 are explained by the oldest take.
     OldestTake,
+    /// The line of a job has no release.
+    NoRelease,
+    /// The spaces behind the items of such a line belong to them.
+    SpacesKept,
+    /// The items of such a line are words with any number of spaces between them.
+    ItemsAsWords,
+    /// The place of 25 in such a line counts from the line's start.
+    PlaceInLine,
+    /// What is wrong with items counts only where no line has another mistake.
+    ItemsLast,
+    /// The release of such a line takes some of the space for the job's events.
+    ReleaseTakesSpace,
+    /// A number of a job may have zeros in front.
+    ZeroInFront,
+    /// There may be more than one space between two items.
+    SpaceTwice,
+    /// A job may end with a space.
+    SpaceAtEnd,
+    /// There may be a space in a section without items.
+    SpaceInEmpty,
+    /// An item may follow a section without a space.
+    NoSpaceAfterSection,
+    /// The sections that are open at the text's end are closed there.
+    OpenAtEnd,
+    /// Nine sections may stand one in another.
+    NinthSection,
+    /// No more than seven may.
+    SevenSections,
+    /// A job has eight sections at most, wherever they stand.
+    SectionsCounted,
+    /// There may be a lock 32.
+    Lock32,
+    /// There may be 65,536 units, which are cut to their bytes.
+    Units65536,
+    /// A text without a byte is no job.
+    EmptyRefused,
+    /// No section of a lock stands in another one of it.
+    AgainInJobRefused,
+    /// 25 names the byte after the one that it should.
+    PlaceOneLate,
+    /// Where a job ends too soon, 25 names its last byte.
+    PlaceOfLastByte,
+    /// 26 is tested before 25.
+    EventSpaceFirst,
+    /// Each event wants five bytes of space.
+    FiveBytes,
+    /// 26 tells how many events there are.
+    EventsBeside26,
+    /// Beside 25 the events are laid down that the words up to the wrong one have.
+    LaidBeside25,
+    /// Beside 26 those events are laid down that there is space for.
+    LaidBeside26,
+    /// Every unlock of a job is of its outermost section.
+    OutermostUnlocked,
+    /// A job has no finish.
+    NoFinish,
+    /// The space after the events of a job is cleared.
+    SpaceCleared,
+}
+
+/// What a way goes wrong about. All else is then as the rules have it, but that jobs stand
+/// in texts too.
+#[derive(Clone, Copy, PartialEq, Eq)]
+pub enum Subject {
+    /// To read or to write words.
+    Words,
+    /// To read jobs.
+    Jobs,
+    Others,
 }
 
 /// The wrong ways under the names of the command line.
-pub const WRONG_WAYS: [(&str, Wrong); 77] = [
+pub const WRONG_WAYS: [(&str, Wrong); 106] = [
     ("tail", Wrong::Tail),
     ("at-or-above", Wrong::AtOrAbove),
     ("gives-way", Wrong::GivesWay),
@@ -257,6 +327,35 @@ pub const WRONG_WAYS: [(&str, Wrong); 77] = [
     ("units-of-newest-take", Wrong::UnitsOfNewestTake),
     ("units-since-return", Wrong::UnitsSinceReturn),
     ("oldest-take", Wrong::OldestTake),
+    ("no-release", Wrong::NoRelease),
+    ("spaces-kept", Wrong::SpacesKept),
+    ("items-as-words", Wrong::ItemsAsWords),
+    ("place-in-line", Wrong::PlaceInLine),
+    ("items-last", Wrong::ItemsLast),
+    ("release-takes-space", Wrong::ReleaseTakesSpace),
+    ("zero-in-front", Wrong::ZeroInFront),
+    ("space-twice", Wrong::SpaceTwice),
+    ("space-at-end", Wrong::SpaceAtEnd),
+    ("space-in-empty", Wrong::SpaceInEmpty),
+    ("no-space-after-section", Wrong::NoSpaceAfterSection),
+    ("open-at-end", Wrong::OpenAtEnd),
+    ("ninth-section", Wrong::NinthSection),
+    ("seven-sections", Wrong::SevenSections),
+    ("sections-counted", Wrong::SectionsCounted),
+    ("lock-32", Wrong::Lock32),
+    ("units-65536", Wrong::Units65536),
+    ("empty-refused", Wrong::EmptyRefused),
+    ("again-in-job-refused", Wrong::AgainInJobRefused),
+    ("place-one-late", Wrong::PlaceOneLate),
+    ("place-of-last-byte", Wrong::PlaceOfLastByte),
+    ("event-space-first", Wrong::EventSpaceFirst),
+    ("five-bytes", Wrong::FiveBytes),
+    ("events-beside-26", Wrong::EventsBeside26),
+    ("laid-beside-25", Wrong::LaidBeside25),
+    ("laid-beside-26", Wrong::LaidBeside26),
+    ("outermost-unlocked", Wrong::OutermostUnlocked),
+    ("no-finish", Wrong::NoFinish),
+    ("space-cleared", Wrong::SpaceCleared),
 ];
 
 impl Wrong {
@@ -288,32 +387,59 @@ impl Wrong {
         only == protocol
     }
 
-    /// Whether it is a way to read or to write words. All else is then as the rules have
-    /// it.
-    pub fn is_of_words(self) -> bool {
-        matches!(
-            self,
+    pub fn subject(self) -> Subject {
+        match self {
             Wrong::LinesFromZero
-                | Wrong::ReturnKept
-                | Wrong::CommentAtStartAlone
-                | Wrong::TabParts
-                | Wrong::LastUnlimited
-                | Wrong::WordTooManyPasses
-                | Wrong::ZerosRefused
-                | Wrong::LastMistake
-                | Wrong::OneByteFewer
-                | Wrong::LineOfNext
-                | Wrong::EventsFromZero
-                | Wrong::RefusedTwice
-                | Wrong::WaitedForItself
-                | Wrong::NewestPassed
-                | Wrong::ExplainedBySecond
-                | Wrong::NoCallUnsaid
-                | Wrong::OldWords
-                | Wrong::UnitsOfNewestTake
-                | Wrong::UnitsSinceReturn
-                | Wrong::OldestTake
-        )
+            | Wrong::ReturnKept
+            | Wrong::CommentAtStartAlone
+            | Wrong::TabParts
+            | Wrong::LastUnlimited
+            | Wrong::WordTooManyPasses
+            | Wrong::ZerosRefused
+            | Wrong::LastMistake
+            | Wrong::OneByteFewer
+            | Wrong::LineOfNext
+            | Wrong::EventsFromZero
+            | Wrong::RefusedTwice
+            | Wrong::WaitedForItself
+            | Wrong::NewestPassed
+            | Wrong::ExplainedBySecond
+            | Wrong::NoCallUnsaid
+            | Wrong::OldWords
+            | Wrong::UnitsOfNewestTake
+            | Wrong::UnitsSinceReturn
+            | Wrong::OldestTake
+            | Wrong::NoRelease
+            | Wrong::SpacesKept
+            | Wrong::ItemsAsWords
+            | Wrong::PlaceInLine
+            | Wrong::ItemsLast
+            | Wrong::ReleaseTakesSpace => Subject::Words,
+            Wrong::ZeroInFront
+            | Wrong::SpaceTwice
+            | Wrong::SpaceAtEnd
+            | Wrong::SpaceInEmpty
+            | Wrong::NoSpaceAfterSection
+            | Wrong::OpenAtEnd
+            | Wrong::NinthSection
+            | Wrong::SevenSections
+            | Wrong::SectionsCounted
+            | Wrong::Lock32
+            | Wrong::Units65536
+            | Wrong::EmptyRefused
+            | Wrong::AgainInJobRefused
+            | Wrong::PlaceOneLate
+            | Wrong::PlaceOfLastByte
+            | Wrong::EventSpaceFirst
+            | Wrong::FiveBytes
+            | Wrong::EventsBeside26
+            | Wrong::LaidBeside25
+            | Wrong::LaidBeside26
+            | Wrong::OutermostUnlocked
+            | Wrong::NoFinish
+            | Wrong::SpaceCleared => Subject::Jobs,
+            _ => Subject::Others,
+        }
     }
 
     /// How many tasks, locks, uses and events a book has at most.

@@ -13,28 +13,6 @@ use Rattle.rules.proofs.Numbers.Stored.{length-stored, stored-on, stored-past, 
 use Rattle.rules.proofs.Books.ReadBack.{word-size, long-size, book-size}
 use Rattle.book.specs.Room.{Room, PartRoom, withPart}
 
--- ---- the bytes of a number
-
-pub word-stored : (out : List ℕ) (i w : ℕ) → set (set out i (w % 256)) (i + 1) (w / 256) ≡ stored out i (two w)
-unfolding stored
-word-stored out i w = ap (λ k. set (set out i (w % 256)) k (w / 256)) (add-one i)
-
-pub long-stored : (out : List ℕ) (i w : ℕ)
-    → set (set (set (set out i (w % 256)) (i + 1) (w / 256 % 256)) (i + 2) (w / 65536 % 256)) (i + 3) (w / 16777216) ≡ stored out i (four w)
-unfolding stored
-long-stored out i w =
-    let a : i + 1 ≡ suc i = add-one i in
-    let b : i + 2 ≡ suc (suc i) = omega arith in
-    let c : i + 3 ≡ suc (suc (suc i)) = omega arith in
-    rw (a, b, c)
-
--- the bytes after the first are within the list
-pub second-in : (out : List ℕ) (i x : ℕ) → i + 3 < length out → i + 1 < length (set out i x)
-second-in out i x h = omega (arith, length-set out i x)
-
-pub third-in : (out : List ℕ) (i x y : ℕ) → i + 3 < length out → i + 2 < length (set (set out i x) (i + 1) y)
-third-in out i x y h = omega (arith, length-set (set out i x) (i + 1) y, length-set out i x)
-
 -- ---- one part after another
 
 -- a part is laid, and what is left goes on after it

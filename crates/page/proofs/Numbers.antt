@@ -8,6 +8,7 @@ use native.Mathlib.Omega.{arith}
 use lib.Dec.{ltb}
 use lib.ListN.{length, length-append}
 use borrow.Author.Tests.{lt-ltb, le-ltb}
+use Rattle.rules.specs.Numbers.Choice.{if_then_else_}
 use Rattle.rules.proofs.Numbers.Choice.{if-true, if-false, lt-or-le}
 use Rattle.page.specs.Page.{Page, typed}
 use Rattle.page.specs.Decimal.{digit, digitsIn, digits}
@@ -66,3 +67,8 @@ in-few (suc k) (suc d) n h = one-longer k n (suc d) (λ l. in-few k d (n / 10) (
 pub digits-few : (d n : ℕ) → n < 10 ^ suc d → length (digits n) ≤ suc d
 unfolding digits
 digits-few d n h = in-few (suc n) d n h
+
+-- and at least one
+pub digits-some : (n : ℕ) → 1 ≤ length (digits n)
+unfolding digits digitsIn
+digits-some n = omega (arith, length-append (if ltb n 10 then [] else digitsIn n (n / 10)) (digit (n % 10) ∷ []))

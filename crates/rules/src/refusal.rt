@@ -2,7 +2,7 @@ ghost use mathlib.Core.Path.{_≡_};
 ghost use Prim.Native.Nat.{_<_};
 ghost use Rattle.rules.specs.Numbers.Refusal.{numberOf, placeOf};
 
-// Why a book, a plan, a state or an event is refused, in the order of the numbers of RULES 5.1. There is
+// Why a book, a plan, a state, an event or a job is refused, in the order of the numbers of RULES 5.1. There is
 // none for 16, which is withdrawn.
 pub enum Refusal {
     ShortBook,
@@ -28,6 +28,8 @@ pub enum Refusal {
     StillOpen,
     ShortBuffer,
     AboveMaximum,
+    WrongJob,
+    ShortSpace,
 }
 
 // Its place among them, from 1.
@@ -58,6 +60,8 @@ fn place(why: Refusal) -> u8
         Refusal::StillOpen => 21,
         Refusal::ShortBuffer => 22,
         Refusal::AboveMaximum => 23,
+        Refusal::WrongJob => 24,
+        Refusal::ShortSpace => 25,
     }
 }
 

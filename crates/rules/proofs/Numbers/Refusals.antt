@@ -34,6 +34,8 @@ in-range Refusal.PastLimit = (omega arith, omega arith, λ e. omega arith)
 in-range Refusal.StillOpen = (omega arith, omega arith, λ e. omega arith)
 in-range Refusal.ShortBuffer = (omega arith, omega arith, λ e. omega arith)
 in-range Refusal.AboveMaximum = (omega arith, omega arith, λ e. omega arith)
+in-range Refusal.WrongJob = (omega arith, omega arith, λ e. omega arith)
+in-range Refusal.ShortSpace = (omega arith, omega arith, λ e. omega arith)
 
 pub numbered : (why : Refusal) → (0 < numberOf why) × (numberOf why < 100)
 numbered why = let (a, b, c) = in-range why in (a, b)

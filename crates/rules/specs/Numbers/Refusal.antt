@@ -58,6 +58,10 @@ numberOf Refusal.StillOpen = 22
 numberOf Refusal.ShortBuffer = 23
 -- a task may take a lock whose ceiling is above the task's maximum
 numberOf Refusal.AboveMaximum = 24
+-- the text of a job is not of its form
+numberOf Refusal.WrongJob = 25
+-- there are fewer than four bytes of event space for each event of a job
+numberOf Refusal.ShortSpace = 26
 
 -- a refusal's place in the order of the numbers, from 1: they follow each other, but for 16
 unfoldable pub placeOf : Refusal → ℕ

@@ -1,6 +1,6 @@
 -- `book::number::put_long` meets its contract. The four bytes, the low one first. Assumes nothing.
 use borrow.Author.Needs.{needs}
-use Rattle.book.proofs.Laying.{long-stored, second-in, third-in}
+use Rattle.rules.proofs.Numbers.Stored.{long-stored, second-in, third-in}
 use Rattle.book.proofs.number.put_long.Statement.{statement}
 use Rattle.book.proofs.number.put_long.Tie as tie
 

@@ -1,6 +1,6 @@
 -- `book::number::put_word` meets its contract. The low byte, then the high one. Assumes nothing.
 use borrow.Author.Needs.{needs}
-use Rattle.book.proofs.Laying.{word-stored}
+use Rattle.rules.proofs.Numbers.Stored.{word-stored}
 use Rattle.book.proofs.number.put_word.Statement.{statement}
 use Rattle.book.proofs.number.put_word.Tie as tie
 

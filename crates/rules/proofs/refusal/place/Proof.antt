@@ -20,10 +20,11 @@ place-spec =
     (tie.spec
     (search needs) (search needs) (search needs) (search needs) (search needs) (search needs) (search needs) (search needs) (search needs) (search needs)
     (search needs) (search needs) (search needs) (search needs) (search needs) (search needs) (search needs) (search needs) (search needs) (search needs)
-    (search needs) (search needs) (search needs)
+    (search needs) (search needs) (search needs) (search needs) (search needs)
     (λ c. (search known, search needs)) (λ c. (search known, search needs)) (λ c. (search known, search needs)) (λ c. (search known, search needs))
     (λ c. (search known, search needs)) (λ c. (search known, search needs)) (λ c. (search known, search needs)) (λ c. (search known, search needs))
     (λ c. (search known, search needs)) (λ c. (search known, search needs)) (λ c. (search known, search needs)) (λ c. (search known, search needs))
     (λ c. (search known, search needs)) (λ c. (search known, search needs)) (λ c. (search known, search needs)) (λ c. (search known, search needs))
     (λ c. (search known, search needs)) (λ c. (search known, search needs)) (λ c. (search known, search needs)) (λ c. (search known, search needs))
-    (λ c. (search known, search needs)) (λ c. (search known, search needs)) (λ c. (search known, search needs)))
+    (λ c. (search known, search needs)) (λ c. (search known, search needs)) (λ c. (search known, search needs)) (λ c. (search known, search needs))
+    (λ c. (search known, search needs)))

@@ -67,7 +67,7 @@ pub fn nested(random: &mut Random, depth: usize) -> Vec<Item> {
     let mut body = any(random, 0);
     for level in 1..=depth {
         // A section of the lock that the one in it has, now and then.
-        if !random.one_in(3) {
+        if !random.one_in(6) {
             lock = some_lock(random);
         }
         let mut around = beside(random, level);
@@ -95,7 +95,7 @@ pub fn work(random: &mut Random) -> Item {
     })
 }
 
-fn some_lock(random: &mut Random) -> u8 {
+pub fn some_lock(random: &mut Random) -> u8 {
     match random.below(2) {
         0 => random.below(MOST_LOCKS) as u8,
         _ => random.pick(&LOCKS),

@@ -1,9 +1,10 @@
-//! What was made by hand: the cases of the six files and the set pieces, each
+//! What was made by hand: the cases of the seven files and the set pieces, each
 //! with its expected answer. The judge's own answers are held against these
 //! before any program's are held against the judge's.
 
 use crate::book_cases::{self, BookCase};
 use crate::boundaries::{self, SetPiece};
+use crate::job_cases::{self, JobCase};
 use crate::run_cases::{self, RunCase};
 use crate::show_cases::{self, ShowCase};
 use crate::step_cases::{self, StepCase};
@@ -18,6 +19,7 @@ pub struct ByHand {
     pub writings: Vec<WriteCase>,
     pub texts: Vec<TextCase>,
     pub shows: Vec<ShowCase>,
+    pub jobs: Vec<JobCase>,
 }
 
 /// Nothing if a case cannot be read, which is told.
@@ -31,6 +33,7 @@ pub fn read() -> Option<ByHand> {
         writings: write_cases::cases().map_err(told).ok()?,
         texts: text_cases::cases().map_err(told).ok()?,
         shows: show_cases::cases().map_err(told).ok()?,
+        jobs: job_cases::cases().map_err(told).ok()?,
     })
 }
 
@@ -44,12 +47,14 @@ impl ByHand {
         let writings = (self.writings.len(), write_cases::test(&self.writings));
         let texts = (self.texts.len(), text_cases::test(&self.texts));
         let shows = (self.shows.len(), show_cases::test(&self.shows));
+        let jobs = (self.jobs.len(), job_cases::test(&self.jobs));
         let mut right = tell("hand-made steps", steps);
         right &= tell("hand-made runs", runs);
         right &= tell("hand-made books", books);
         right &= tell("hand-made writings", writings);
         right &= tell("hand-made texts", texts);
         right &= tell("hand-made shows and explanations", shows);
+        right &= tell("hand-made jobs", jobs);
         right & tell("set pieces at the edges of the rules", pieces)
     }
 }

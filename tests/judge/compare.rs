@@ -3,6 +3,7 @@
 
 use crate::check::Checked;
 use crate::compose::Composed;
+use crate::job::JobRead;
 use crate::refusals::named;
 use crate::replay::{Answer, FILL};
 use crate::step::Stepped;
@@ -105,6 +106,18 @@ pub fn writings(judge: &Written, program: &Written) -> Vec<String> {
     let place = |at: usize| format!("byte {at}");
     let buffer = bytes("buffer", &judge.buffer, &program.buffer, place);
     differences.found.extend(buffer);
+    differences.found
+}
+
+/// The same for the answer to the reading of a job.
+pub fn readings(judge: &JobRead, program: &JobRead) -> Vec<String> {
+    let mut differences = Differences::with(PROGRAM);
+    differences.number(judge.number, program.number);
+    differences.field("place", judge.place, program.place);
+    differences.field("events", judge.events, program.events);
+    let place = |at: usize| format!("in the record of event {} (byte {at})", at / 4);
+    let space = bytes("event space", &judge.space, &program.space, place);
+    differences.found.extend(space);
     differences.found
 }
 

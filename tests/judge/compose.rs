@@ -4,7 +4,7 @@
 use crate::book::Refusal;
 use crate::forms::FORMS;
 use crate::meanings::meaning;
-use crate::text::{self, Fault, Mistake, Records};
+use crate::text::{self, Fault, Mistake, Records, Unread};
 use crate::wire::MOST_BYTES;
 use crate::writer;
 use crate::wrong::Wrong;
@@ -25,7 +25,7 @@ pub enum Ending {
     Book,
     TooLong,
     Mistake(Mistake),
-    /// A refusal, and the line that can be named.
+    /// A refusal of the records, or of the items of a job, and the line that can be named.
     Refused(Refusal, Option<usize>),
 }
 
@@ -58,7 +58,10 @@ fn write(text: &[u8], wrong: Wrong) -> Result<Vec<u8>, Ending> {
     if text.len() > most {
         return Err(Ending::TooLong);
     }
-    let records = text::read(text, wrong).map_err(Ending::Mistake)?;
+    let records = text::read(text, wrong).map_err(|unread| match unread {
+        Unread::Mistake(mistake) => Ending::Mistake(mistake),
+        Unread::Items(refusal, line) => Ending::Refused(refusal, Some(line)),
+    })?;
     let mut written = writer::write(&records.draft, MOST_BYTES, wrong);
     if written.number != 0 {
         let refusal = Refusal {
@@ -118,7 +121,7 @@ fn mistake_in_words(mistake: Mistake) -> String {
     format!("line {line}: word {word} is {what}; write {}", form.line)
 }
 
-/// The names of all records, as a sentence has them.
+/// All names, as a sentence has them.
 fn names() -> String {
     let names: Vec<&str> = FORMS.iter().map(|form| form.name()).collect();
     let (last, others) = names.split_last().expect("there are forms");

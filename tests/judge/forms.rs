@@ -1,13 +1,14 @@
-//! RULES 19.2: the nine records that a line of a text can be. The table stands here
-//! once; who reads a line, who writes one and who says what a line has to look like
-//! takes it from here.
+//! RULES 19.2: the nine records that a line of a text can be, and the job, which is several.
+//! The table stands here once; who reads a line, who writes one and who says what a line has
+//! to look like takes it from here.
 
 use crate::draft::Draft;
 use crate::event::Event;
 
 /// A record in words.
 pub struct Form {
-    /// The line as it is to be written: the name, and a word for each number.
+    /// The line as it is to be written: the name, and a word for each number. A job's has
+    /// one more for its items.
     pub line: &'static str,
     /// The part that it belongs to, from 0: tasks, locks, uses, events.
     pub part: usize,
@@ -19,7 +20,7 @@ const BYTE: u64 = 255;
 const TWO_BYTES: u64 = 65_535;
 
 #[rustfmt::skip] // a line each
-pub const FORMS: [Form; 9] = [
+pub const FORMS: [Form; 10] = [
     Form { line: "task BASE MAXIMUM", part: 0, most: &[BYTE, BYTE] },
     Form { line: "lock CEILING LIMIT", part: 1, most: &[BYTE, TWO_BYTES] },
     Form { line: "use TASK LOCK", part: 2, most: &[BYTE, BYTE] },
@@ -29,6 +30,7 @@ pub const FORMS: [Form; 9] = [
     Form { line: "work UNITS", part: 3, most: &[TWO_BYTES] },
     Form { line: "finish", part: 3, most: &[] },
     Form { line: "tick", part: 3, most: &[] },
+    Form { line: "job TASK ITEMS", part: 3, most: &[BYTE] },
 ];
 
 impl Form {
@@ -41,8 +43,14 @@ impl Form {
         FORMS.iter().position(|form| form.name().as_bytes() == word)
     }
 
+    /// Whether the text of a job stands behind the numbers.
+    pub fn has_items(&self) -> bool {
+        self.name() == "job"
+    }
+
     /// Puts the record with these numbers, as many as the form has, behind the others
-    /// of its part. A number is cut to the bytes that its field has.
+    /// of its part. A number is cut to the bytes that its field has. Of a job it is the
+    /// first record.
     pub fn put(&self, numbers: &[u64], records: &mut Draft) {
         let byte = |at: usize| numbers[at] as u8;
         let two = |at: usize| numbers[at] as u16;
@@ -53,7 +61,7 @@ impl Form {
                 return records.locks.push([byte(0), 0, low, high]);
             }
             "use" => return records.uses.push([byte(0), byte(1)]),
-            "release" => Event::Release(byte(0)),
+            "release" | "job" => Event::Release(byte(0)),
             "acquire" => Event::Acquire(byte(0)),
             "unlock" => Event::Unlock(byte(0)),
             "work" => Event::Work(two(0)),

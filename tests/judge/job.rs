@@ -183,14 +183,22 @@ fn first_event(start: &[u8], wrong: Wrong) -> Option<Event> {
 /// front of it. What is greater than four bytes can hold is none that is asked for.
 fn number(digits: &[u8], wrong: Wrong) -> Option<u32> {
     let digits = std::str::from_utf8(digits).ok()?;
-    let digits = match (digits.trim_start_matches('0'), wrong) {
-        ("", Wrong::ZeroInFront) if !digits.is_empty() => "0",
-        (shortest, Wrong::ZeroInFront) => shortest,
+    let digits = match wrong {
+        Wrong::ZeroInFront => without_zeros(digits),
         _ => digits,
     };
     let number: u32 = digits.parse().ok()?;
     let length = number.checked_ilog10().unwrap_or(0) + 1;
     (digits.len() == length as usize).then_some(number)
+}
+
+/// Digits without zeros in front; of nothing but zeros one is left.
+fn without_zeros(digits: &str) -> &str {
+    let shortest = digits.trim_start_matches('0');
+    match shortest {
+        "" => &digits[digits.len().saturating_sub(1)..],
+        _ => shortest,
+    }
 }
 
 /// False where a wrong way refuses a text by a look at the whole of it.

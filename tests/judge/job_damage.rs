@@ -1,21 +1,23 @@
 //! Damaged jobs: what a tired person and a broken cable make of the text of one. Where it
 //! stops being a job is worked out here, without the reader, if it is known.
 
-use crate::body;
+use crate::body::{self, Item};
 use crate::plan::{MOST_LOCKS, MOST_NESTED, MOST_UNITS};
 use crate::random::Random;
 
-pub const DAMAGES: [&str; 24] = [
+pub const DAMAGES: [&str; 26] = [
     "two spaces",
     "a zero in front of units",
     "a zero in front of a lock",
     "units too great",
     "a lock too great",
     "a ninth section",
-    "a space in front of a closing bracket",
+    "a space before a closing bracket",
     "a space at the end",
     "a space in front",
+    "a space in an empty section",
     "a space missing",
+    "a space missing after a section",
     "a closing bracket missing",
     "a closing bracket too many",
     "a closing bracket too many at the end",
@@ -85,16 +87,22 @@ pub fn damaged(random: &mut Random, way: &str) -> Damaged {
     };
     let mut items = body::nested(random, depth);
     // Now there are spaces, letters and brackets of all sorts.
-    items.insert(random.below(items.len() + 1), body::work(random));
+    let at = random.below(items.len() + 1);
+    items.insert(at, body::work(random));
+    items.insert(at, Item::Section(body::some_lock(random), Vec::new()));
     let text = body::text(&items).into_bytes();
     damage(random, text, way)
 }
 
 fn damage(random: &mut Random, mut text: Vec<u8>, way: &str) -> Damaged {
     let length = text.len();
-    let mut some = |bytes: &[u8]| some_place(random, &text, bytes);
-    let (space, opening, closing) = (some(b" "), some(b"["), some(b"]"));
-    let (letter, digit) = (some(b"w"), some(b"0123456789"));
+    let mut some = |is_one: &dyn Fn(usize) -> bool| some_place(random, &text, is_one);
+    let space = some(&|at| text[at] == b' ');
+    let opening = some(&|at| text[at] == b'[');
+    let closing = some(&|at| text[at] == b']');
+    let letter = some(&|at| text[at] == b'w');
+    let after_section = some(&|at| text[..at].ends_with(b"]") && text[at] == b' ');
+    let after_lock = some(&|at| is_after_lock(&text, at) && text[at] == b']');
     let any = random.below(length);
     let place = match way {
         "two spaces" => put(&mut text, space, b" ") + 1,
@@ -115,13 +123,12 @@ fn damage(random: &mut Random, mut text: Vec<u8>, way: &str) -> Damaged {
             let at = eighth_body(&text);
             put(&mut text, at, b" [7]") + 1
         }
-        "a space in front of a closing bracket" => put(&mut text, closing, b" ") + 1,
+        "a space in an empty section" => put(&mut text, after_lock, b" ") + 1,
+        "a space before a closing bracket" => put(&mut text, closing, b" ") + 1,
         "a space at the end" => put(&mut text, length, b" ") + 1,
         "a space in front" => put(&mut text, 0, b" "),
-        "a space missing" => {
-            text.remove(space);
-            space
-        }
+        "a space missing" => take(&mut text, space),
+        "a space missing after a section" => take(&mut text, after_section),
         "no units" => put_number(&mut text, letter + 1, b""),
         "no lock" => put_number(&mut text, opening + 1, b""),
         "a sign" => {
@@ -129,47 +136,26 @@ fn damage(random: &mut Random, mut text: Vec<u8>, way: &str) -> Damaged {
             let number = random.pick(&[letter, opening]) + 1;
             put(&mut text, number, sign)
         }
-        "upper case" => {
-            text[letter] = b'W';
-            letter
-        }
-        "a byte that is in no job" => {
-            text[any] = random.pick(&FOREIGN);
-            any
-        }
+        "upper case" => change(&mut text, letter, b'W'),
+        "a byte that is in no job" => change(&mut text, any, random.pick(&FOREIGN)),
         "such a byte too many" => put(&mut text, any, &[random.pick(&FOREIGN)]),
         "a closing bracket too many at the end" => put(&mut text, length, b"]"),
         _ => {
+            // It is not known where this stops being a job, or whether.
             let byte = some_byte(random);
-            damage_blindly(random, &mut text, (opening, closing, digit), byte, way);
+            match way {
+                "a closing bracket missing" => take(&mut text, closing),
+                "a closing bracket too many" => put(&mut text, closing, b"]"),
+                "an opening bracket missing" => take(&mut text, opening),
+                "an opening bracket for another byte" => change(&mut text, any, b'['),
+                "a byte changed" => change(&mut text, any, byte),
+                "a byte missing" => take(&mut text, any),
+                _ => put(&mut text, any, &[byte]),
+            };
             return (text, None);
         }
     };
     (text, Some(place))
-}
-
-/// The damages after which it is not known where the text stops being a job, or whether.
-fn damage_blindly(
-    random: &mut Random,
-    text: &mut Vec<u8>,
-    (opening, closing, digit): (usize, usize, usize),
-    byte: u8,
-    way: &str,
-) {
-    let any = random.below(text.len());
-    match way {
-        "a closing bracket missing" => drop(text.remove(closing)),
-        "a closing bracket too many" => {
-            put(text, random.pick(&[digit + 1, closing]), b"]");
-        }
-        "an opening bracket missing" => drop(text.remove(opening)),
-        "an opening bracket for another byte" => text[any] = b'[',
-        "a byte changed" => text[any] = byte,
-        "a byte missing" => drop(text.remove(any)),
-        _ => {
-            put(text, any, &[byte]);
-        }
-    }
 }
 
 /// A byte that may stand in a job, mostly.
@@ -180,12 +166,28 @@ fn some_byte(random: &mut Random) -> u8 {
     }
 }
 
-/// The place of one of these bytes, of which there is one at least.
-fn some_place(random: &mut Random, text: &[u8], bytes: &[u8]) -> usize {
-    let places: Vec<usize> = (0..text.len())
-        .filter(|at| bytes.contains(&text[*at]))
-        .collect();
+/// A place of this sort, of which there is one at least.
+fn some_place(random: &mut Random, text: &[u8], is_one: &dyn Fn(usize) -> bool) -> usize {
+    let places: Vec<usize> = (0..text.len()).filter(|at| is_one(*at)).collect();
     random.pick(&places)
+}
+
+/// Whether a lock ends before a place.
+fn is_after_lock(text: &[u8], at: usize) -> bool {
+    let digits = text[..at].iter().rev();
+    let digits = digits.take_while(|byte| byte.is_ascii_digit()).count();
+    digits > 0 && text[..at - digits].ends_with(b"[")
+}
+
+/// Takes the byte at a place out, and says which place.
+fn take(text: &mut Vec<u8>, at: usize) -> usize {
+    text.remove(at);
+    at
+}
+
+fn change(text: &mut [u8], at: usize, byte: u8) -> usize {
+    text[at] = byte;
+    at
 }
 
 /// Puts bytes in front of what is at a place, and says which place.

@@ -164,7 +164,10 @@ fn short(number: u64) -> Vec<u8> {
         length += 1;
     }
     let digit = |place: u32| (number / base.pow(place) % base) as usize;
-    (0..length).rev().map(|place| OF_SHORT[digit(place)]).collect()
+    (0..length)
+        .rev()
+        .map(|place| OF_SHORT[digit(place)])
+        .collect()
 }
 
 /// How many texts of up to so many bytes `short` has.
@@ -172,26 +175,24 @@ pub fn short_texts(most: u32) -> usize {
     (0..=most).map(|length| OF_SHORT.len().pow(length)).sum()
 }
 
-/// About 60,000 bytes: right, or wrong near the end, in the middle or at once.
+/// About 60,000 bytes: right, or with a byte too many, near the end or anywhere. There is so
+/// much work that the most space holds all events.
 fn long(random: &mut Random, turn: u64) -> Made {
     let mut body = Vec::new();
     let mut size = 0;
     while size < 60_000 {
-        let more = body::nested(random, depth_in_turn(turn, body.len()));
+        let depth = body.len() % (MOST_NESTED + 1);
+        let mut more = body::nested(random, depth);
+        more.extend((0..2 * depth).map(|_| body::work(random)));
         size += body::text(&more).len() + 1;
         body.extend(more);
     }
-    let text = body::text(&body).into_bytes();
+    let mut text = body::text(&body).into_bytes();
     let at = match turn % 4 {
         0 | 1 => return (LONG, text, Some(Ok(body::events(&body)))),
         2 => text.len() - random.below(20),
         _ => random.below(text.len()),
     };
-    let mut text = text;
     text.insert(at, b'x');
     (LONG, text, Some(Err(at)))
-}
-
-fn depth_in_turn(turn: u64, items: usize) -> usize {
-    (turn as usize + items) % (MOST_NESTED + 1)
 }

@@ -1,8 +1,9 @@
 //! An independent judge of the scheduler project: a second reading of the rules,
-//! with its own reader and writer of books and of texts, its own schedulers and its own
-//! test of soundness. It makes books, records, texts and states, has the program under
-//! judgement replay, check, write, show, explain, compose and step them, and compares every
-//! field, figure and byte of every answer with its own. It shares no line with what it judges.
+//! with its own reader and writer of books and of texts, its own reader of jobs, its own
+//! schedulers and its own test of soundness. It makes books, records, texts, jobs and states,
+//! has the program under judgement replay, check, write, show, explain, compose, read and
+//! step them, and compares every field, figure and byte of every answer with its own. It
+//! shares no line with what it judges.
 //!
 //!     judge [OPTION..] -- COMMAND ARGS..
 //!     judge --self [OPTION..]
@@ -23,6 +24,8 @@
 
 mod again;
 mod aims;
+mod beginnings;
+mod body;
 mod book;
 mod book_cases;
 #[rustfmt::skip] // its tables read better a line each
@@ -38,18 +41,26 @@ mod cuts;
 mod damage;
 mod demands;
 mod draft;
+mod drawn;
 mod eager;
 mod event;
 mod explain;
 mod forms;
 mod generate;
 mod history;
+mod job;
+mod job_cases;
+mod job_damage;
+mod job_lines;
+mod job_tally;
+mod jobs;
 mod judging;
 mod kernel;
 mod kernel_tally;
 mod kernel_trial;
 mod layout;
 mod lazy;
+mod lenient;
 mod lists;
 mod maximum_rules;
 mod meanings;
@@ -60,6 +71,7 @@ mod plans;
 mod program;
 mod protocol;
 mod random;
+mod reading;
 mod record_lines;
 mod refusals;
 mod replay;
@@ -68,6 +80,7 @@ mod requests;
 mod resume;
 mod rounds;
 mod run_cases;
+mod short_jobs;
 mod show;
 mod show_cases;
 mod show_tally;
@@ -101,6 +114,7 @@ mod writing;
 mod writings;
 mod wrong;
 
+use job_tally::JobTally;
 use judging::Ending;
 use protocol::{ByProtocol, Protocol, PROTOCOLS};
 use requests::Amounts;
@@ -129,6 +143,7 @@ usage: judge [OPTION..] -- COMMAND ARGS..
 --long N    books of the most events (40)
 --steps N   single steps (200000)
 --writes N  books to be written (10000)
+--jobs N    jobs to be read (40000)
 --lists N   lists for a real kernel (100)
 --book FILE for a real kernel this book alone, event by event
 --wrong WAY the judge itself goes wrong, in one of the ways that --ways lists
@@ -141,6 +156,7 @@ const DEFAULT: Amounts = Amounts {
     long: 40,
     steps: 200_000,
     writings: 10_000,
+    jobs: 40_000,
     lists: 100,
 };
 
@@ -184,6 +200,11 @@ impl Options {
         self.amounts.short >= DEFAULT.short
     }
 
+    /// Whether so many jobs were asked for that all must be reached.
+    pub fn has_all_jobs(&self) -> bool {
+        self.amounts.jobs >= DEFAULT.jobs
+    }
+
     /// Whether so many lists were asked for that all must be reached.
     pub fn has_all_lists(&self) -> bool {
         self.amounts.lists >= DEFAULT.lists
@@ -222,6 +243,11 @@ impl Options {
         let by_texts = is_reached("texts", &texts.missing(), self.has_all_books());
         let by_shows = is_reached("shows", &shows.missing(), self.has_all_books());
         by_texts && by_shows
+    }
+
+    /// The same for the generated jobs.
+    pub fn is_covered_by_jobs(&self, jobs: &JobTally) -> bool {
+        is_reached("jobs", &jobs.missing(), self.has_all_jobs())
     }
 }
 
@@ -292,6 +318,7 @@ fn options(words: &[String]) -> Result<Options, String> {
             "--long" => options.amounts.long = number(value()?)?,
             "--steps" => options.amounts.steps = number(value()?)?,
             "--writes" => options.amounts.writings = number(value()?)?,
+            "--jobs" => options.amounts.jobs = number(value()?)?,
             "--lists" => options.amounts.lists = number(value()?)?,
             "--wrong" => {
                 let name = value()?;

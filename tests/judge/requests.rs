@@ -1,6 +1,6 @@
 //! What a program under judgement is asked, and in which order: the hand-made
-//! cases, the set pieces, then generated books, writings, texts and steps in turn, and
-//! the long books last. Every book is replayed by both protocols, checked and,
+//! cases, the set pieces, then generated books, writings, texts, jobs and steps in turn,
+//! and the long books last. Every book is replayed by both protocols, checked and,
 //! where its records can be taken out of it, written again; what is written is
 //! checked before. Every book by hand and many another is shown, explained by both
 //! protocols, and composed again from what shows it.
@@ -8,7 +8,9 @@
 use crate::by_hand::ByHand;
 use crate::composing::Composing;
 use crate::generate::{self, Case};
+use crate::jobs;
 use crate::protocol::{Protocol, PROTOCOLS};
+use crate::reading::Reading;
 use crate::texts;
 use crate::trials::{self, Trial};
 use crate::wire::{self, Command};
@@ -25,6 +27,7 @@ pub enum Ask {
     Compose(Composing),
     Show(Arc<Case>),
     Explain(Arc<Case>, Protocol),
+    Job(Reading),
 }
 
 #[derive(Clone, Copy, PartialEq, Eq)]
@@ -58,16 +61,18 @@ impl Request {
             Ask::Compose(_) => (Command::Compose, none, 0),
             Ask::Show(_) => (Command::Show, none, 0),
             Ask::Explain(_, protocol) => (Command::Explain, *protocol, 0),
+            Ask::Job(reading) => (Command::Job, none, reading.room),
         };
         wire::request(command, protocol, &self.payload(), room)
     }
 
-    /// A book, a plan with a state and an event, records, or a text.
+    /// A book, a plan with a state and an event, records, or a text or a job.
     pub fn payload(&self) -> Cow<'_, [u8]> {
         match &self.ask {
             Ask::Replay(case, _) | Ask::Check(case) => Cow::from(&case.book),
             Ask::Show(case) | Ask::Explain(case, _) => Cow::from(&case.book),
             Ask::Compose(composing) => Cow::from(&composing.text),
+            Ask::Job(reading) => Cow::from(&reading.text),
             Ask::Step(trial) => {
                 let record = trial.event.record();
                 Cow::from([trial.given.bytes(), &record[..]].concat())
@@ -98,13 +103,15 @@ impl Request {
                 let (name, told) = (protocol.name(), case.told());
                 format!("explanation by the {name} protocol of {told}")
             }
+            Ask::Job(reading) => format!("reading of {}", reading.told()),
         }
     }
 }
 
-/// How many generated steps there are for each short book, as long as there are
-/// both.
+/// How many generated steps and jobs there are for each short book, as long as there are
+/// all.
 const STEPS_FOR_A_BOOK: u64 = 10;
+const JOBS_FOR_A_BOOK: u64 = 2;
 
 /// Of so many short books one has a text that is generated beside it, of so many one is
 /// shown and explained, and of so many long books.
@@ -120,6 +127,7 @@ pub struct Amounts {
     pub long: u64,
     pub steps: u64,
     pub writings: u64,
+    pub jobs: u64,
     /// Lists for a real kernel.
     pub lists: u64,
 }
@@ -133,18 +141,20 @@ pub fn by_hand(by_hand: ByHand) -> impl Iterator<Item = Request> {
     let writings = by_hand.writings.into_iter().map(|case| case.writing);
     let texts = by_hand.texts.into_iter().map(|case| case.composing);
     let shows = by_hand.shows.into_iter().map(|case| case.case);
+    let jobs = by_hand.jobs.into_iter().map(|case| case.reading);
     let books = runs.chain(books).chain(pieces).map(Arc::new).chain(shows);
     let asks = steps
         .chain(books.flat_map(|case| of_book(case, true)))
         .chain(writings.flat_map(of_writing))
-        .chain(texts.map(Ask::Compose));
+        .chain(texts.map(Ask::Compose))
+        .chain(jobs.map(Ask::Job));
     asks.map(|ask| Request {
         ask,
         source: Source::ByHand,
     })
 }
 
-/// Generated books, writings, texts and steps in turn, then the long books.
+/// Generated books, writings, texts, jobs and steps in turn, then the long books.
 pub fn generated(amounts: Amounts) -> impl Iterator<Item = Request> {
     let Amounts {
         seed,
@@ -152,9 +162,12 @@ pub fn generated(amounts: Amounts) -> impl Iterator<Item = Request> {
         long,
         steps,
         writings,
+        jobs,
         ..
     } = amounts;
-    let turns = short.max(writings).max(steps.div_ceil(STEPS_FOR_A_BOOK));
+    let of_steps = steps.div_ceil(STEPS_FOR_A_BOOK);
+    let of_jobs = jobs.div_ceil(JOBS_FOR_A_BOOK);
+    let turns = short.max(writings).max(of_steps).max(of_jobs);
     let in_turn = (0..turns).flat_map(move |turn| {
         let is_shown = turn % SHORT_SHOWN_IN == 0;
         let book = || of_book(Arc::new(generate::short(seed, turn)), is_shown);
@@ -162,11 +175,13 @@ pub fn generated(amounts: Amounts) -> impl Iterator<Item = Request> {
         let has_text = turn < short && turn % BOOKS_FOR_A_TEXT == 0;
         let text = has_text.then(|| texts::text(seed, turn / BOOKS_FOR_A_TEXT));
         let writing = (turn < writings).then(|| of_writing(writings::writing(seed, turn)));
-        let first = STEPS_FOR_A_BOOK * turn;
-        let numbers = first..(first + STEPS_FOR_A_BOOK).min(steps);
-        let steps = numbers.map(move |number| Ask::Step(trials::trial(seed, number)));
+        let in_turn = |each: u64, all: u64| each * turn..(each * (turn + 1)).min(all);
+        let steps = in_turn(STEPS_FOR_A_BOOK, steps);
+        let steps = steps.map(move |number| Ask::Step(trials::trial(seed, number)));
+        let jobs = in_turn(JOBS_FOR_A_BOOK, jobs);
+        let jobs = jobs.map(move |number| Ask::Job(jobs::reading(seed, number)));
         let asks = book.into_iter().chain(writing).flatten();
-        asks.chain(text.map(Ask::Compose)).chain(steps)
+        asks.chain(text.map(Ask::Compose)).chain(jobs).chain(steps)
     });
     let long = (0..long).flat_map(move |number| {
         let is_shown = number % LONG_SHOWN_IN == 0;

@@ -16,17 +16,14 @@ pub struct TextCase {
 }
 
 /// Pieces of text that have names.
-type Pieces = Vec<(&'static str, Vec<u8>)>;
+pub type Pieces = Vec<(&'static str, Vec<u8>)>;
 
 pub fn cases() -> Result<Vec<TextCase>, String> {
     let mut cases: Vec<TextCase> = Vec::new();
     let mut pieces = Pieces::new();
     let read = |line: &'static str| {
-        if let Some(piece) = line.strip_prefix("let ") {
-            let (name, text) = piece.split_once(" = ").ok_or("no ` = ` in a piece")?;
-            let text = expand(text, &pieces)?;
-            pieces.push((name, text));
-            return Ok(());
+        if let Some(named) = line.strip_prefix("let ") {
+            return piece(named, &mut pieces);
         }
         let case = case(&columns(line), &pieces)?;
         let is_same = |other: &TextCase| other.composing.name == case.composing.name;
@@ -66,8 +63,16 @@ fn case(columns: &[&str], pieces: &Pieces) -> Result<TextCase, String> {
     })
 }
 
+/// `NAME = TEXT`: one piece more.
+pub fn piece(line: &'static str, pieces: &mut Pieces) -> Result<(), String> {
+    let (name, text) = line.split_once(" = ").ok_or("no ` = ` in a piece")?;
+    let text = expand(text, pieces)?;
+    pieces.push((name, text));
+    Ok(())
+}
+
 /// The bytes that a notation stands for.
-fn expand(text: &str, pieces: &Pieces) -> Result<Vec<u8>, String> {
+pub fn expand(text: &str, pieces: &Pieces) -> Result<Vec<u8>, String> {
     let mut bytes = Vec::new();
     let mut rest = text;
     while let Some(at) = rest.find(['\\', '{']) {

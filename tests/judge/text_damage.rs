@@ -2,13 +2,15 @@
 //! of single bytes.
 
 use crate::forms::{Form, FORMS};
+use crate::job_lines;
 use crate::random::Random;
 
-/// The words of a line. A text is damaged as such lines, before it is laid out.
+/// The words of a line; the items of a job are one. A text is damaged as such lines, before
+/// it is laid out.
 pub type Words = Vec<Vec<u8>>;
 
 /// The damages of lines and words. Those that can fall on many words stand here twice.
-pub const DAMAGES: [&str; 20] = [
+pub const DAMAGES: [&str; 24] = [
     "a word missing",
     "a word missing",
     "a word twice",
@@ -29,6 +31,10 @@ pub const DAMAGES: [&str; 20] = [
     "two lines joined",
     "a line of any words",
     "a record without numbers",
+    "a job too many",
+    "a job with damaged items",
+    "a job with damaged items",
+    "a job with two spaces in its items",
 ];
 
 /// Numbers that are too great for some field, or for all: by what two, four or eight bytes
@@ -66,6 +72,11 @@ pub fn damage(random: &mut Random, lines: &mut Vec<Words>, way: &str) {
             lines[at].extend(second);
         }
         "a line of any words" => lines.insert(at, any_words(random)),
+        "a job too many" => lines.insert(at, job_lines::right_line(random)),
+        "a job with damaged items" => lines.insert(at, job_lines::any_damaged_line(random)),
+        "a job with two spaces in its items" => {
+            lines.insert(at, job_lines::damaged_line(random, &["two spaces"]));
+        }
         _ => damage_words(random, &mut lines[at], way),
     }
 }
@@ -178,6 +189,10 @@ pub fn any_words(random: &mut Random) -> Words {
             _ => random.below(4).to_string().into_bytes(),
         };
         words.push(word);
+    }
+    if form.has_items() && count == right {
+        let items = Some(job_lines::some_items(random));
+        words.extend(items.filter(|items| !items.is_empty()));
     }
     words
 }

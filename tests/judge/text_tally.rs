@@ -7,6 +7,7 @@ use crate::compose::{Ending, MOST_TEXT};
 use crate::composing::{Composing, Outcome};
 use crate::event::Event;
 use crate::forms::FORMS;
+use crate::plan::MOST_NESTED;
 use crate::text::Fault;
 
 /// Each answer is given so often, and each rule met; the longest texts are few.
@@ -15,7 +16,7 @@ const LEAST_LONGEST: usize = 2;
 
 /// The refusals that can be given, each with its entry where it is 2, and with a line or
 /// without.
-const REFUSALS: [(u8, Option<u32>, bool); 11] = [
+const REFUSALS: [(u8, Option<u32>, bool); 13] = [
     (2, Some(1), false),
     (2, Some(1), true),
     (2, Some(2), true),
@@ -27,13 +28,15 @@ const REFUSALS: [(u8, Option<u32>, bool); 11] = [
     (7, None, true),
     (24, None, true),
     (8, None, true),
+    (25, None, true),
+    (26, None, true),
 ];
 
 /// Whether a text is an example of a rule.
 type IsMet = fn(&Composing, &Outcome) -> bool;
 
 #[rustfmt::skip] // a line each
-const RULES: [(&str, IsMet); 17] = [
+const RULES: [(&str, IsMet); 27] = [
     ("a shown book that is accepted", |c, _| c.shown.is_some()),
     ("a shown book that is refused", |c, o| c.shown.is_none() && c.text.starts_with(b"# refused") && !is_book(o)),
     ("no newline at the end of a book's text", |c, o| is_book(o) && c.text.last() != Some(&b'\n')),
@@ -51,6 +54,16 @@ const RULES: [(&str, IsMet); 17] = [
     ("a mistake in a word with a tab", |c, o| is_mistake(o) && has(c, b"\t")),
     ("a mistake in a text with a byte above 127", |c, o| is_mistake(o) && c.text.iter().any(|byte| *byte > 127)),
     ("a text without a byte", |c, _| c.text.is_empty()),
+    ("a job", |c, o| is_book(o) && has_job(c, |job| !job.items.is_empty())),
+    ("a job without items", |c, o| is_book(o) && has_job(c, |job| job.items.is_empty())),
+    ("a job as deep as can be", |c, o| is_book(o) && has_job(c, |job| depth(job.items) == MOST_NESTED)),
+    ("a job with several spaces before its items", |c, o| is_book(o) && has_job(c, |job| job.rest.starts_with(b"  ") && !job.items.is_empty())),
+    ("a job with spaces behind its items", |c, o| is_book(o) && has_job(c, |job| job.rest.ends_with(b" ") && !job.items.is_empty())),
+    ("a job with zeros in front of its task", |c, o| is_book(o) && has_job(c, |job| job.task.starts_with(b"00"))),
+    ("a job with a comment behind it", |c, o| is_book(o) && has_job(c, |job| job.line.contains(&b'#'))),
+    ("a job with a carriage return behind it", |c, o| is_book(o) && has_job(c, |job| job.line.ends_with(b"\r"))),
+    ("2 by a record of a job", |c, o| is_2(o) && named_job(c, o).is_some()),
+    ("25 for two spaces between items", |c, o| named_job(c, o).is_some_and(|job| job.items.windows(2).any(|two| two == b"  "))),
 ];
 
 #[rustfmt::skip] // a line each
@@ -69,7 +82,10 @@ fn mistakes() -> Vec<(Option<usize>, usize, Fault)> {
                 [Fault::Missing, Fault::NoNumber, Fault::More].map(|fault| (Some(at), word, fault)),
             );
         }
-        all.push((Some(at), form.most.len() + 2, Fault::TooMany));
+        // What stands behind the numbers of a job are its items.
+        if !form.has_items() {
+            all.push((Some(at), form.most.len() + 2, Fault::TooMany));
+        }
     }
     all
 }
@@ -223,4 +239,56 @@ fn takes_twice(book: &[u8]) -> bool {
 fn is_before(composing: &Composing, one: &[u8], other: &[u8]) -> bool {
     let (one, other) = (first(composing, one), first(composing, other));
     one.is_some() && one < other
+}
+
+/// The line of a job.
+struct Job<'t> {
+    /// From its name on.
+    line: &'t [u8],
+    task: &'t [u8],
+    /// What stands behind the task, but for a comment and a carriage return at the end.
+    rest: &'t [u8],
+    items: &'t [u8],
+}
+
+fn job(line: &[u8]) -> Option<Job<'_>> {
+    let line = line.trim_ascii_start();
+    let content = line.split(|byte| *byte == b'#').next()?;
+    let content = content.strip_suffix(b"\r").unwrap_or(content);
+    let words = content.strip_prefix(b"job ")?.trim_ascii_start();
+    let end = words.iter().position(|byte| *byte == b' ');
+    let (task, rest) = words.split_at(end.unwrap_or(words.len()));
+    Some(Job {
+        line,
+        task,
+        rest,
+        items: rest.trim_ascii(),
+    })
+}
+
+fn has_job(composing: &Composing, is_such: impl Fn(&Job) -> bool) -> bool {
+    let mut lines = composing.text.split(|byte| *byte == b'\n');
+    lines.any(|line| job(line).is_some_and(|job| is_such(&job)))
+}
+
+/// The job whose line a refusal names.
+fn named_job<'t>(composing: &'t Composing, outcome: &Outcome) -> Option<Job<'t>> {
+    let Ending::Refused(_, Some(number)) = outcome.ending else {
+        return None;
+    };
+    let mut lines = composing.text.split(|byte| *byte == b'\n');
+    lines.nth(number - 1).and_then(job)
+}
+
+/// How many sections stand one in another in items that are right.
+fn depth(items: &[u8]) -> usize {
+    let open = items.iter().scan(0, |open, byte| {
+        match byte {
+            b'[' => *open += 1,
+            b']' => *open -= 1,
+            _ => {}
+        }
+        Some(*open)
+    });
+    open.max().unwrap_or(0)
 }

@@ -1,7 +1,7 @@
 //! The generated texts: which text the n-th one of a seed is. Half are the records of a
-//! short book, right or wrong, in all sorts of layout; in the others lines, words or bytes
-//! are damaged. Some are as long as a text can be, or have as many records as a book, or
-//! more than two bytes can count.
+//! short book, right or wrong, in all sorts of layout, and some of the jobs among them in one
+//! line; in the others lines, words or bytes are damaged. Some are as long as a text can be,
+//! or have as many records as a book, or more than two bytes can count.
 
 use crate::book::Refusal;
 use crate::compose::{Ending, MOST_TEXT};
@@ -10,6 +10,7 @@ use crate::damage;
 use crate::draft::Draft;
 use crate::event::Event;
 use crate::generate;
+use crate::job_lines;
 use crate::layout::{lines_of, order, Layout};
 use crate::plan::{MOST_EVENTS, MOST_LOCKS, MOST_TASKS, MOST_USES};
 use crate::plans;
@@ -28,7 +29,7 @@ const FAULTS: [&[u8]; 17] = [
 
 /// Of so many texts one is about as long as can be and one has a count of about 65,536.
 const LONGEST_IN: u64 = 1_000;
-/// Of so many one has as many records as a book can, or one more.
+/// Of so many one has as many records as a book can, or one more, and one has them in jobs.
 const GREAT_IN: u64 = 200;
 /// Of so many one has lines of any words.
 const ANY_IN: u64 = 20;
@@ -43,6 +44,8 @@ pub fn text(seed: u64, number: u64) -> Composing {
         far_count(random, turn)
     } else if number % GREAT_IN == 2 {
         great(random, (number / GREAT_IN) as usize)
+    } else if number % GREAT_IN == 4 {
+        great_jobs(random, (number / GREAT_IN) as usize)
     } else if number % ANY_IN == 3 {
         any(random)
     } else {
@@ -59,19 +62,30 @@ pub fn text(seed: u64, number: u64) -> Composing {
 /// What it is, the text, and how it has to end, where that is known.
 type Made = (String, Vec<u8>, Option<Ending>);
 
-/// The records of a short book. Every second one is damaged, and then its end is not
-/// foretold.
+/// A line that is to be laid out.
+struct Line {
+    words: Words,
+    part: usize,
+    /// How many records it has.
+    records: usize,
+}
+
+/// The records of a short book, and often some jobs. Every second one is damaged, and then
+/// its end is not foretold.
 fn short(random: &mut Random, number: usize) -> Made {
-    let records = records(random, FAULTS[number / 2 % FAULTS.len()]);
+    let mut records = records(random, FAULTS[number / 2 % FAULTS.len()]);
+    if random.one_in(2) {
+        job_lines::put_jobs(random, &mut records);
+    }
     let layout = Layout::any(random);
-    let order = order(random, records.counts());
-    let mut lines = in_order(&records, &order);
+    let lines = some_order(random, &records);
     let mut damages = Vec::new();
     if number % 2 == 0 {
-        let (text, numbers) = laid_out(random, &layout, &lines);
-        let ending = foretold(&records, &order, &numbers);
+        let (text, numbers) = laid_out(random, &layout, &words_of(&lines));
+        let ending = foretold(&records, &lines, &numbers);
         return ("short book".to_string(), text, Some(ending));
     }
+    let mut lines = words_of(&lines);
     let (times, of_bytes) = random.pick(&[(1, 0), (1, 0), (2, 0), (0, 1), (0, 2), (1, 1)]);
     for _ in 0..times {
         let way = random.pick(&DAMAGES);
@@ -95,11 +109,31 @@ fn records(random: &mut Random, faults: &[u8]) -> Draft {
     records
 }
 
-/// The lines of all records, in the order of the parts that is given.
-fn in_order(records: &Draft, order: &[usize]) -> Vec<Words> {
-    let mut parts = lines_of(records).map(Vec::into_iter);
-    let next = |part: &usize| parts[*part].next().expect("a line for each record");
-    order.iter().map(next).collect()
+/// The lines of all records, the parts in some order or mixed, and some of the jobs among
+/// the events in one line.
+fn some_order(random: &mut Random, records: &Draft) -> Vec<Line> {
+    let [tasks, locks, uses, events] = lines_of(records);
+    let one = |lines: Vec<Words>| -> Vec<(Words, usize)> {
+        let each = lines.into_iter().map(|words| (words, 1));
+        each.collect()
+    };
+    let events = job_lines::joined(random, records, events);
+    let parts = [one(tasks), one(locks), one(uses), events];
+    let order = order(random, parts.each_ref().map(Vec::len));
+    let mut parts = parts.map(Vec::into_iter);
+    let lines = order.into_iter().map(|part| {
+        let (words, records) = parts[part].next().expect("as many lines as there are");
+        Line {
+            words,
+            part,
+            records,
+        }
+    });
+    lines.collect()
+}
+
+fn words_of(lines: &[Line]) -> Vec<Words> {
+    lines.iter().map(|line| line.words.clone()).collect()
 }
 
 /// The text of these lines, in a layout that keeps it short enough to be composed.
@@ -113,7 +147,7 @@ fn laid_out(random: &mut Random, layout: &Layout, lines: &[Words]) -> (Vec<u8>, 
 
 /// How a text of these records has to end, by the writer and by where they were put. What
 /// has no words became a limit or a work of 0, which the same numbers refuse.
-fn foretold(records: &Draft, order: &[usize], numbers: &[usize]) -> Ending {
+fn foretold(records: &Draft, lines: &[Line], numbers: &[usize]) -> Ending {
     let written = writer::write(records, MOST_BYTES, Wrong::Nothing);
     let (number, place) = (written.number, written.place);
     let most = [MOST_TASKS, MOST_LOCKS, MOST_USES, MOST_EVENTS];
@@ -125,12 +159,10 @@ fn foretold(records: &Draft, order: &[usize], numbers: &[usize]) -> Ending {
         (6 | 24, at) => (2, at),
         (_, at) => (3, at),
     };
-    let of_part = order
-        .iter()
-        .zip(numbers)
-        .filter(|(other, _)| **other == part);
-    let line = of_part.map(|(_, number)| *number).nth(at);
-    Ending::Refused(Refusal { number, place }, line)
+    let of_part = lines.iter().zip(numbers);
+    let of_part = of_part.filter(|(line, _)| line.part == part);
+    let mut of_records = of_part.flat_map(|(line, number)| vec![*number; line.records]);
+    Ending::Refused(Refusal { number, place }, of_records.nth(at))
 }
 
 /// About as many bytes as a text can have. What fills them says nothing: one comment, empty
@@ -173,9 +205,9 @@ fn far_count(random: &mut Random, turn: usize) -> Made {
         2 => draft.uses.resize(count, [0, 0]),
         _ => draft.events.resize(count, Event::Tick.record()),
     }
-    let order = order(random, draft.counts());
-    let (text, numbers) = Layout::plain().lay_out(random, &in_order(&draft, &order));
-    let ending = foretold(&draft, &order, &numbers);
+    let lines = some_order(random, &draft);
+    let (text, numbers) = Layout::plain().lay_out(random, &words_of(&lines));
+    let ending = foretold(&draft, &lines, &numbers);
     (
         format!("{count} records of part {part}"),
         text,
@@ -217,10 +249,48 @@ fn great(random: &mut Random, turn: usize) -> Made {
             "no task"
         }
     };
-    let order = order(random, draft.counts());
+    let lines = some_order(random, &draft);
     let layout = Layout::any(random);
-    let (text, numbers) = laid_out(random, &layout, &in_order(&draft, &order));
-    let ending = foretold(&draft, &order, &numbers);
+    let (text, numbers) = laid_out(random, &layout, &words_of(&lines));
+    let ending = foretold(&draft, &lines, &numbers);
+    (sort.to_string(), text, Some(ending))
+}
+
+/// About as many events as can be, in jobs.
+fn great_jobs(random: &mut Random, turn: usize) -> Made {
+    let (sort, jobs) = job_lines::great(turn);
+    let records: usize = jobs.iter().map(|(_, records)| *records).sum();
+    // Only their number counts here.
+    let draft = Draft {
+        tasks: vec![[1, 1]],
+        events: vec![Event::Tick.record(); records],
+        ..Draft::default()
+    };
+    let task = [b"task", &b"1"[..], b"1"].map(<[u8]>::to_vec).to_vec();
+    let mut lines = vec![Line {
+        words: task,
+        part: 0,
+        records: 1,
+    }];
+    lines.extend(jobs.into_iter().map(|(words, records)| Line {
+        words,
+        part: 3,
+        records,
+    }));
+    let layout = Layout::any(random);
+    let (text, numbers) = laid_out(random, &layout, &words_of(&lines));
+    // A job has one record more than events.
+    let is_refused = |line: &Line| line.records > MOST_EVENTS + 1;
+    let ending = match lines.iter().position(is_refused) {
+        Some(at) => {
+            let refusal = Refusal {
+                number: 26,
+                place: 0,
+            };
+            Ending::Refused(refusal, Some(numbers[at]))
+        }
+        None => foretold(&draft, &lines, &numbers),
+    };
     (sort.to_string(), text, Some(ending))
 }
 

@@ -6,6 +6,7 @@ use crate::check::Checked;
 use crate::compare;
 use crate::explain::explain;
 use crate::generate::Case;
+use crate::job_tally::JobTally;
 use crate::protocol::ByProtocol;
 use crate::refusals::named;
 use crate::replay;
@@ -48,6 +49,7 @@ pub struct Verdict<'o> {
     writings: WriteTally,
     texts: TextTally,
     shows: ShowTally,
+    jobs: JobTally,
     /// The book that was replayed last, and the judge's answers for it, which are
     /// those for both protocols.
     replayed: Option<(Arc<Case>, replay::Outcome)>,
@@ -68,6 +70,7 @@ impl<'o> Verdict<'o> {
             writings: WriteTally::default(),
             texts: TextTally::new(),
             shows: ShowTally::new(),
+            jobs: JobTally::new(),
             replayed: None,
             checked: None,
         }
@@ -139,6 +142,15 @@ impl<'o> Verdict<'o> {
                 }
                 (compare::texts(words.as_bytes(), &reply), None)
             }
+            Ask::Job(reading) => {
+                let reply = wire::read_job(replies, reading.room)?;
+                let outcome = reading.read(wrong);
+                if is_generated {
+                    self.jobs.count(reading, &outcome);
+                }
+                let found = compare::readings(&outcome.read, &reply);
+                (found, outcome.violation)
+            }
         };
         self.heard += 1;
         self.by_hand += usize::from(!is_generated);
@@ -190,20 +202,24 @@ impl<'o> Verdict<'o> {
         self.writings.print_table();
         self.texts.print_table();
         self.shows.print_table();
+        self.jobs.print_table();
         println!("{}", self.books.summary());
         println!("{}", self.steps.second.summary());
         println!("{}", self.steps.first.summary());
         println!("{}", self.writings.summary());
         println!("{}", self.texts.summary());
         println!("{}", self.shows.summary());
+        println!("{}", self.jobs.summary());
         println!(
             "{} replies, {} of them to hand-made cases and set pieces: {} differ",
             self.heard, self.by_hand, self.differing,
         );
         let in_words = self.options.is_covered_in_words(&self.texts, &self.shows);
+        let by_jobs = self.options.is_covered_by_jobs(&self.jobs);
         self.options
             .is_covered(&self.books, &self.steps, &self.writings)
             && in_words
+            && by_jobs
     }
 }
 
@@ -225,6 +241,9 @@ fn tell(request: &Request, found: &[String]) {
             for line in composing.text.split_inclusive(|byte| *byte == b'\n') {
                 println!("    \"{}\"", line.escape_ascii());
             }
+        }
+        Ask::Job(reading) if reading.text.len() <= SHORT_BOOK => {
+            println!("    \"{}\"", reading.text.escape_ascii());
         }
         Ask::Step(trial) => tell_state(trial),
         Ask::Write(writing) if writing.payload().len() <= SHORT_BOOK => {

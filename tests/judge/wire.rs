@@ -36,6 +36,10 @@
 //! 7, explain by the protocol: the payload is a book; the room is 0. The reply is u32 length
 //! of the words, then the words, from the line `in words` on.
 //!
+//! 8, read a job: the payload is a text, the room its event space in bytes. The reply is u8
+//! number, u32 place, u32 how many events there are, then the whole event space, which the
+//! program fills with the byte 0xEE before the reading.
+//!
 //! A real kernel is asked 1 as well, and has another reply (`tests/kernel`): u8
 //! ending, u32 events taken, u8 who took it for each of these (255 for nobody),
 //! u8 1 if the calls for another priority were counted, u32 how many. After the
@@ -45,6 +49,7 @@
 use crate::book::LARGEST_BOOK;
 use crate::check::Checked;
 use crate::compose::{Composed, MOST_TEXT};
+use crate::job::JobRead;
 use crate::protocol::Protocol;
 use crate::replay::Answer;
 use crate::step::Stepped;
@@ -52,7 +57,7 @@ use crate::whole::Whole;
 use crate::writer::Written;
 use std::io::{Error, Read, Result};
 
-/// Neither a row space nor a buffer is ever greater than this, nor is a book
+/// No row space, buffer or event space is ever greater than this, nor is a book
 /// whose counts are not far too great.
 pub const MOST_BYTES: usize = 65_536;
 
@@ -60,7 +65,7 @@ pub const MOST_BYTES: usize = 65_536;
 /// bytes can count.
 pub const MOST_RECORDS: usize = 65_600;
 
-/// No payload is greater than this: a text may have some more bytes than can be composed.
+/// No payload is greater than this: a text may have one byte more than can be composed.
 const MOST_PAYLOAD: usize = MOST_TEXT + 1;
 
 /// No right reply has a text or a book of so many bytes.
@@ -78,6 +83,7 @@ pub enum Command {
     Compose = 5,
     Show = 6,
     Explain = 7,
+    Job = 8,
 }
 
 pub fn request(command: Command, protocol: Protocol, payload: &[u8], room: usize) -> Vec<u8> {
@@ -155,6 +161,20 @@ pub fn read_compose(input: &mut impl Read) -> Result<Composed> {
     Ok(Composed {
         book: read_bytes(input, book)?,
         line: read_bytes(input, line)?,
+    })
+}
+
+pub fn read_job(input: &mut impl Read, room: usize) -> Result<JobRead> {
+    let number = read_u8(input)?;
+    let place = read_u32(input)?;
+    let events = read_u32(input)?;
+    let mut space = vec![0; room];
+    input.read_exact(&mut space)?;
+    Ok(JobRead {
+        number,
+        place,
+        events,
+        space,
     })
 }
 

@@ -76,7 +76,7 @@ fn answer(text: &str) -> Result<(u64, u64, u64), String> {
 }
 
 /// Bytes of two hexadecimal digits each.
-fn digits(text: &str) -> Result<Vec<u8>, String> {
+pub fn digits(text: &str) -> Result<Vec<u8>, String> {
     let digits: Vec<char> = text.chars().filter(|digit| *digit != ' ').collect();
     let byte = |pair: &[char]| u8::from_str_radix(&String::from_iter(pair), 16).ok();
     let bytes: Option<Vec<u8>> = digits.chunks(2).map(byte).collect();

@@ -5,14 +5,16 @@ use Prim.Native.Nat.{ℕ, suc, _+_, _*_, _/_, _%_, _≤_, _<_}
 use native.Mathlib.Nat.{add-zero}
 use native.Mathlib.Omega.{arith}
 use lib.Dec.{ltb}
-use lib.ListN.{length, set, length-set}
+use lib.ListN.{length, set, length-set, length-append}
 use borrow.Author.Tests.{lt-ltb, le-ltb}
-use Rattle.rules.specs.Numbers.Place.{at, stored}
+use Rattle.rules.specs.Numbers.Place.{at, stored, tabulate}
+use Rattle.rules.specs.Books.Book.{long}
 use Rattle.rules.specs.Books.Bytes.{four, longBytes}
 use Rattle.rules.specs.Books.Event.{eventNumber}
 use Rattle.rules.specs.declared.event.Event.{Event}
 use Rattle.rules.proofs.Numbers.Choice.{if-true, if-false}
 use Rattle.rules.proofs.Numbers.Stored.{length-stored, stored-on, long-stored}
+use Rattle.rules.proofs.Books.ReadBack.{read-all, read-long, long-size}
 use Rattle.jobs.specs.Reader.{Answer, prepend}
 use Rattle.jobs.specs.Reader.Answer.{refused, read}
 use Rattle.jobs.specs.Job.{recordsOf}
@@ -50,6 +52,10 @@ module _ (s : List ℕ) (n : ℕ) where
 
   pub place-three : (i j k a b c : ℕ) → n < length s / 4 → n * 4 + 3 < length (set (set (set s i a) j b) k c)
   place-three i j k a b c l = simp length-set (omega arith)
+
+  there : n < length s / 4 → recordIn s n ≡ long s (n * 4)
+  unfolding recordIn
+  there l = if-true (ltb n (length s / 4)) _ _ (lt-ltb n (length s / 4) l)
 
 -- ---- a sheet
 
@@ -93,3 +99,10 @@ lay-fits (e ∷ es) s n l =
   where
     fits : n < length s / 4 → lay (sheet s n) e ≡ sheet (stored s (n * 4) (four (eventNumber e))) (n + 1)
     fits h = ap (λ x. sheet x (n + 1)) (if-true (ltb n (length s / 4)) _ _ (lt-ltb n (length s / 4) h))
+
+-- records at the start of space, read again
+pub records-back : (ws rest : List ℕ) → tabulate (length ws) (recordIn (longBytes ws ++ rest)) ≡ ws
+records-back ws rest = read-all 0 ws (recordIn (longBytes ws ++ rest)) one
+  where
+    one : (i : ℕ) → i < length ws → recordIn (longBytes ws ++ rest) i ≡ at ws i
+    one i l = there (longBytes ws ++ rest) i (omega (arith, length-append (longBytes ws) rest, long-size ws)) ∙ read-long ws rest i l

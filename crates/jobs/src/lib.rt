@@ -8,6 +8,7 @@ use crate::read::scan;
 use rules::answer::Verdict;
 use rules::refusal::Refusal;
 ghost use mathlib.Core.Path.{_≡_};
+ghost use Prim.Native.Nat.{_*_, _≤_};
 ghost use Rattle.jobs.specs.Job.{jobAnswer, readWith, jobOf};
 
 // What the reading of a job comes to: what was refused, and how many events there are, 0 beside a refusal.
@@ -19,6 +20,7 @@ pub struct Job {
 // 25 and 26 of a job's text, for so many bytes of event space. It is read into no space: nothing is written.
 pub fn check_job(text: &[u8], room: usize) -> Job
     ensures { λ r. ⌜ r ≡ jobAnswer (now (text .entry)) room ⌝ }
+    ensures { λ r. ⌜ r .events * 4 ≤ room ⌝ }
 {
     let mut none = [0u8; 1];
     let found = scan(text, &mut none);

@@ -18,7 +18,7 @@ use Rattle.rules.proofs.Numbers.Choice.{if-true, if-false}
 use Rattle.rules.proofs.Numbers.Stored.{length-stored}
 use Rattle.page.specs.Page.{Page, page, typed}
 use Rattle.page.proofs.Typed.{typed-bytes, typed-length}
-use Rattle.texts.specs.Lines.{readLines, recordsOf, firstWrong, lineOfRecord}
+use Rattle.texts.specs.Lines.{linesOf, readLines, recordsOf, firstWrong, lineOfRecord}
 use Rattle.texts.specs.declared.line.Line.{Line}
 use Rattle.texts.specs.declared.lines.First.{First}
 use Rattle.texts.proofs.Small.{tasks-below, uses-below}
@@ -49,7 +49,7 @@ abbrev pub zeros : ℕ → List ℕ
 zeros n = replicate n 0
 
 -- as many as there is room for
-module _ (lines : List Line) (n : ℕ) (ys : List ℕ) (r part : ℕ) (h : page ys r ≡ typed (page (zeros n) 0) (recordsOf part lines)) where
+module _ (lines : List (List ℕ)) (n : ℕ) (ys : List ℕ) (r part : ℕ) (h : page ys r ≡ typed (page (zeros n) 0) (recordsOf part lines)) where
   kept : take r ys ≡ take n (recordsOf part lines)
   kept = kept-front (zeros n) ys r (recordsOf part lines) h ∙ ap (λ k. take k (recordsOf part lines)) (length-replicate n 0)
 
@@ -64,30 +64,30 @@ module _ (lines : List Line) (n : ℕ) (ys : List ℕ) (r part : ℕ) (h : page 
     length-stored (zeros n) 0 (recordsOf part lines),
   )
 
-pub tasks-small : (text : List ℕ) (n : ℕ) (ys : List ℕ) (r : ℕ) → page ys r ≡ typed (page (zeros n) 0) (recordsOf 0 (readLines text)) → Small (take r ys)
+pub tasks-small : (text : List ℕ) (n : ℕ) (ys : List ℕ) (r : ℕ) → page ys r ≡ typed (page (zeros n) 0) (recordsOf 0 (linesOf text)) → Small (take r ys)
 tasks-small text n ys r h = record {
-  below = λ i. rw (kept (readLines text) n ys r 0 h) (front-small n (recordsOf 0 (readLines text)) (tasks-below text) i);
+  below = λ i. rw (kept (linesOf text) n ys r 0 h) (front-small n (recordsOf 0 (linesOf text)) (tasks-below text) i);
 }
 
-pub uses-small : (text : List ℕ) (n : ℕ) (ys : List ℕ) (r : ℕ) → page ys r ≡ typed (page (zeros n) 0) (recordsOf 2 (readLines text)) → Small (take r ys)
+pub uses-small : (text : List ℕ) (n : ℕ) (ys : List ℕ) (r : ℕ) → page ys r ≡ typed (page (zeros n) 0) (recordsOf 2 (linesOf text)) → Small (take r ys)
 uses-small text n ys r h = record {
-  below = λ i. rw (kept (readLines text) n ys r 2 h) (front-small n (recordsOf 2 (readLines text)) (uses-below text) i);
+  below = λ i. rw (kept (linesOf text) n ys r 2 h) (front-small n (recordsOf 2 (linesOf text)) (uses-below text) i);
 }
 
 pub text-written : (text ts ls us es buffer : List ℕ) (n m u k : ℕ) (w : Wrote) → w ≡ writeOf (take n ts) (take m ls) (take u us) (take k es) buffer
-    → page ts n ≡ typed (page (zeros (suc maxTasks)) 0) (recordsOf 0 (readLines text))
-    → page ls m ≡ typed (page (zeros (suc maxLocks)) 0) (recordsOf 1 (readLines text))
-    → page us u ≡ typed (page (zeros (suc maxUses)) 0) (recordsOf 2 (readLines text))
-    → page es k ≡ typed (page (zeros (suc maxEvents)) 0) (recordsOf 3 (readLines text))
-    → w ≡ written (readLines text) buffer
+    → page ts n ≡ typed (page (zeros (suc maxTasks)) 0) (recordsOf 0 (linesOf text))
+    → page ls m ≡ typed (page (zeros (suc maxLocks)) 0) (recordsOf 1 (linesOf text))
+    → page us u ≡ typed (page (zeros (suc maxUses)) 0) (recordsOf 2 (linesOf text))
+    → page es k ≡ typed (page (zeros (suc maxEvents)) 0) (recordsOf 3 (linesOf text))
+    → w ≡ written (linesOf text) buffer
 text-written text ts ls us es buffer n m u k w h a b c d =
-    h ∙ ap (λ x. writeOf x (take m ls) (take u us) (take k es) buffer) (kept (readLines text) (suc maxTasks) ts n 0 a)
-    ∙ ap (λ x. writeOf (take (suc maxTasks) (recordsOf 0 (readLines text))) x (take u us) (take k es) buffer) (kept (readLines text) (suc maxLocks) ls m 1 b)
-    ∙ ap (λ x. writeOf (take (suc maxTasks) (recordsOf 0 (readLines text))) (take (suc maxLocks) (recordsOf 1 (readLines text))) x (take k es) buffer)
-    (kept (readLines text) (suc maxUses) us u 2 c)
-    ∙ ap (λ x. writeOf (take (suc maxTasks) (recordsOf 0 (readLines text))) (take (suc maxLocks) (recordsOf 1 (readLines text)))
-    (take (suc maxUses) (recordsOf 2 (readLines text))) x buffer) (kept (readLines text) (suc maxEvents) es k 3 d)
-    ∙ cut-write (recordsOf 0 (readLines text)) (recordsOf 1 (readLines text)) (recordsOf 2 (readLines text)) (recordsOf 3 (readLines text)) buffer
+    h ∙ ap (λ x. writeOf x (take m ls) (take u us) (take k es) buffer) (kept (linesOf text) (suc maxTasks) ts n 0 a)
+    ∙ ap (λ x. writeOf (take (suc maxTasks) (recordsOf 0 (linesOf text))) x (take u us) (take k es) buffer) (kept (linesOf text) (suc maxLocks) ls m 1 b)
+    ∙ ap (λ x. writeOf (take (suc maxTasks) (recordsOf 0 (linesOf text))) (take (suc maxLocks) (recordsOf 1 (linesOf text))) x (take k es) buffer)
+    (kept (linesOf text) (suc maxUses) us u 2 c)
+    ∙ ap (λ x. writeOf (take (suc maxTasks) (recordsOf 0 (linesOf text))) (take (suc maxLocks) (recordsOf 1 (linesOf text)))
+    (take (suc maxUses) (recordsOf 2 (linesOf text))) x buffer) (kept (linesOf text) (suc maxEvents) es k 3 d)
+    ∙ cut-write (recordsOf 0 (linesOf text)) (recordsOf 1 (linesOf text)) (recordsOf 2 (linesOf text)) (recordsOf 3 (linesOf text)) buffer
 
 -- ---- a refusal
 
@@ -117,7 +117,7 @@ refused-said p r lines n number part k why place h a b c d =
 
 -- ---- the whole
 
-module _ (text buffer bytes : List ℕ) (w : Written) (h : wroteWith w bytes ≡ written (readLines text) buffer) (p : Page) where
+module _ (text buffer bytes : List ℕ) (w : Written) (h : wroteWith w bytes ≡ written (linesOf text) buffer) (p : Page) where
   as-told : (v : Verdict) → w .verdict ≡ v → composedRecords text buffer ≡ composedAs v (readLines text) (wroteWith w bytes)
   unfolding composedRecords
   as-told v e = rw (sym h) (ap (λ x. composedAs x (readLines text) (wroteWith w bytes)) e)

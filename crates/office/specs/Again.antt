@@ -6,7 +6,7 @@ use lib.ListN.{length, take}
 use Rattle.rules.specs.Numbers.Answer.{verdictNumber}
 use Rattle.rules.specs.Books.Book.{tasksOf, locksOf, usesOf, eventNumbersOf, checkOf}
 use Rattle.rules.specs.Books.Bytes.{Bytes}
-use Rattle.texts.specs.Lines.{readLines, recordsOf, firstWrong}
+use Rattle.texts.specs.Lines.{linesOf, readLines, recordsOf, firstWrong}
 use Rattle.texts.specs.declared.lines.First.{First}
 use Rattle.office.specs.Ran.{rowSpace}
 use Rattle.office.specs.Show.{shownOf}
@@ -15,10 +15,10 @@ use Rattle.office.specs.Compose.{textSpace, Composed, composeOf}
 -- the text of a book: no line has a mistake, the records of each part are the book's, and it is no longer than a text may be
 pub record ReadAgain (b : List ℕ) : Type 0 where
   pub right : firstWrong 0 (readLines (shownOf b)) ≡ First.None
-  pub tasks : recordsOf 0 (readLines (shownOf b)) ≡ tasksOf b
-  pub locks : recordsOf 1 (readLines (shownOf b)) ≡ locksOf b
-  pub uses : recordsOf 2 (readLines (shownOf b)) ≡ usesOf b
-  pub events : recordsOf 3 (readLines (shownOf b)) ≡ eventNumbersOf b
+  pub tasks : recordsOf 0 (linesOf (shownOf b)) ≡ tasksOf b
+  pub locks : recordsOf 1 (linesOf (shownOf b)) ≡ locksOf b
+  pub uses : recordsOf 2 (linesOf (shownOf b)) ≡ usesOf b
+  pub events : recordsOf 3 (linesOf (shownOf b)) ≡ eventNumbersOf b
   pub fits : length (shownOf b) ≤ textSpace
 
 -- the book that composing gives, in a buffer that has room for it

@@ -10,7 +10,7 @@ use Rattle.rules.specs.Books.Write.{Wrote, writeOf}
 use Rattle.rules.specs.declared.refusal.Refusal.{Refusal}
 use Rattle.rules.specs.declared.answer.Verdict.{Verdict}
 use Rattle.page.specs.Says.{says}
-use Rattle.texts.specs.Lines.{readLines, recordsOf, firstWrong, lineOfRecord}
+use Rattle.texts.specs.Lines.{linesOf, readLines, recordsOf, firstWrong, lineOfRecord}
 use Rattle.texts.specs.declared.line.Line.{Line}
 use Rattle.texts.specs.declared.lines.First.{First}
 use Rattle.wording.specs.Mistakes.{mistakeOf, refusalWords, refusalAtLine}
@@ -53,8 +53,8 @@ refusedAt n why place = if eqb n 0 then refusalWords why place else refusalAtLin
 unfoldable pub refusedBy : List Line → Refusal → ℕ → List ℕ
 refusedBy lines why place = refusedAt (lineOfRecord (refusedPart (numberOf why) place) (refusedRecord (numberOf why) place) 0 lines) why place
 
--- the records of a text as its writer leaves them
-abbrev pub written : List Line → List ℕ → Wrote
+-- the records of a text's lines as their writer leaves them
+abbrev pub written : List (List ℕ) → List ℕ → Wrote
 written lines buffer = writeOf (recordsOf 0 lines) (recordsOf 1 lines) (recordsOf 2 lines) (recordsOf 3 lines) buffer
 
 unfoldable pub composedAs : Verdict → List Line → Wrote → Composed
@@ -63,7 +63,7 @@ composedAs (Verdict.Refused why place) lines w = record { length = 0; bytes = w 
 
 -- a text without a mistake, and with one
 unfoldable pub composedRecords : List ℕ → List ℕ → Composed
-composedRecords text buffer = composedAs (written (readLines text) buffer .verdict) (readLines text) (written (readLines text) buffer)
+composedRecords text buffer = composedAs (written (linesOf text) buffer .verdict) (readLines text) (written (linesOf text) buffer)
 
 unfoldable pub composedBy : First → List ℕ → List ℕ → Composed
 composedBy First.None text buffer = composedRecords text buffer

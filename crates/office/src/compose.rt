@@ -25,7 +25,7 @@ ghost use Rattle.rules.specs.Numbers.Capacity.{maxTasks, maxUses};
 ghost use Rattle.rules.specs.Numbers.Place.{at, renewed};
 ghost use Rattle.rules.specs.Books.Write.{writeOf, wroteWith};
 ghost use Rattle.page.specs.Page.{page, typed};
-ghost use Rattle.texts.specs.Lines.{readLines};
+ghost use Rattle.texts.specs.Lines.{linesOf, readLines};
 ghost use Rattle.office.specs.Compose.{tooLong, entryPart, refusedPart, refusedRecord, refusedAt, refusedBy, written, composedRecords, composeOf};
 ghost use Rattle.office.specs.Answered.{answered, answerOf};
 ghost use Rattle.office.specs.Small.{Small};
@@ -122,7 +122,7 @@ fn write_kept(
 
 // The book of a text's records.
 fn write_text(text: &[u8], out: &mut [u8]) -> Written
-    ensures { λ r. ⌜ wroteWith r (now (out .exit)) ≡ written (readLines (now (text .entry))) (now (out .entry)) ⌝ }
+    ensures { λ r. ⌜ wroteWith r (now (out .exit)) ≡ written (linesOf (now (text .entry))) (now (out .entry)) ⌝ }
 {
     let mut tasks = [0u32; TASK_ROOM];
     let n = collect(text, 0, &mut tasks);
@@ -190,7 +190,7 @@ fn put_refused_at(said: &mut [u8], n: usize, why: Refusal, place: usize) -> usiz
     if n == 0 {
         return put_refusal(said, 0, why, place);
     }
-    put_refusal_at(said, 0, why, place, n)
+    put_refusal_at(said, 0, why, place, n as u64)
 }
 
 fn put_refused_by(text: &[u8], said: &mut [u8], why: Refusal, place: usize) -> usize

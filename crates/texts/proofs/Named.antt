@@ -6,7 +6,7 @@ use mathlib.Core.Bool.{Bool, true, false}
 use lib.Dec.{eqb}
 use Rattle.rules.specs.Numbers.Choice.{if_then_else_}
 use Rattle.rules.specs.Books.Event.{kindOf, idOf, amountOf}
-use Rattle.texts.specs.Kind.{fieldsOf, mostOf, partOf, recordOf}
+use Rattle.texts.specs.Kind.{fieldsOf, mostOf, partOf, recordOf, hasItems}
 use Rattle.texts.specs.declared.kind.Kind.{Kind}
 
 -- of a case that is known
@@ -16,8 +16,15 @@ fields-known kind case n e h l = (h ∙ ap fieldsOf (sym e), l)
 pub part-known : (kind case : Kind) (n : ℕ) → kind ≡ case → n ≡ partOf case → n ≡ partOf kind
 part-known kind case n e h = h ∙ ap partOf (sym e)
 
+pub items-known : (kind case : Kind) (t : Bool) → kind ≡ case → t ≡ hasItems case → t ≡ hasItems kind
+items-known kind case t e h = h ∙ ap hasItems (sym e)
+
 pub record-known : (kind case : Kind) (a b n : ℕ) → kind ≡ case → n ≡ recordOf case a b → n ≡ recordOf kind a b
 record-known kind case a b n e h = h ∙ ap (λ k. recordOf k a b) (sym e)
+
+pub record-job : (kind : Kind) (a b : ℕ) → kind ≡ Kind.Job → 1 + a * 256 ≡ recordOf kind a b
+unfolding recordOf kindOf idOf amountOf
+record-job kind a b e = record-known kind Kind.Job a b (1 + a * 256) e (omega arith)
 
 pub record-release : (kind : Kind) (a b : ℕ) → kind ≡ Kind.Release → 1 + a * 256 ≡ recordOf kind a b
 unfolding recordOf kindOf idOf amountOf
@@ -54,3 +61,4 @@ most-within Kind.Unlock w = omega arith
 most-within Kind.Work w = omega arith
 most-within Kind.Finish w = omega arith
 most-within Kind.Tick w = omega arith
+most-within Kind.Job w = omega arith

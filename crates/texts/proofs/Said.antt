@@ -1,16 +1,21 @@
 -- The ways through the code that reads one line. Assumes nothing.
 use mathlib.Core.Path.{_≡_, refl, sym, _∙_, ap}
+use mathlib.Core.Bool.{Bool, true, false}
 use mathlib.Core.List.{List, [], _∷_}
 use Prim.Native.Nat.{ℕ, _+_, _≤_, _<_}
 use native.Mathlib.Omega.{arith}
 use lib.Dec.{ltb}
 use lib.ListN.{length, take, drop, length-drop}
 use borrow.Author.Tests.{lt-ltb, le-ltb}
+use Rattle.rules.specs.declared.answer.Verdict.{Verdict}
+use Rattle.rules.specs.declared.refusal.Refusal.{Refusal}
 use Rattle.rules.proofs.Numbers.Choice.{if-true, if-false, by-test}
-use Rattle.texts.specs.Cut.{space, hash, upTo, spacesOf, before, trimmed}
-use Rattle.texts.specs.Kind.{kindNamed, fieldsOf, mostOf, partOf, recordOf}
+use Rattle.jobs.specs.Job.{jobAnswer}
+use Rattle.jobs.specs.declared.Job.{Job}
+use Rattle.texts.specs.Cut.{space, hash, upTo, spacesOf, withoutSpaces, before, trimmed, bare}
+use Rattle.texts.specs.Kind.{kindNamed, fieldsOf, mostOf, partOf, recordOf, hasItems}
 use Rattle.texts.specs.Number.{numberOf}
-use Rattle.texts.specs.Line.{withoutReturn, wordLength, fieldOf, fieldLength, afterField, ended, withSecond, withFirst, namedLine, wordsLine, lineOf}
+use Rattle.texts.specs.Line.{withoutReturn, contentOf, wordLength, fieldOf, fieldLength, afterField, plainLine, jobRoom, jobSaid, jobLine, ended, withSecond, withFirst, namedLine, wordsLine, lineOf, itemsAfter, itemsOf}
 use Rattle.texts.specs.declared.kind.Kind.{Kind}
 use Rattle.texts.specs.declared.kind.Named.{Named}
 use Rattle.texts.specs.declared.number.Mistake.{Mistake}
@@ -67,19 +72,41 @@ field-within kind w v bytes r h e = by-test (ltb w (fieldsOf kind))
 
 -- ---- after the numbers
 
-pub ended-so : (kind : Kind) (a b p w : ℕ) (bytes : List ℕ) → p ≡ partOf kind → w ≡ recordOf kind a b → length bytes ≡ 0
-    → Line.Record p w ≡ ended kind a b bytes
-unfolding ended
-ended-so kind a b p w bytes e f l = ap (λ q. Line.Record q w) e ∙ ap (Line.Record (partOf kind)) f ∙ ap (ended kind a b) (sym (none bytes l))
+pub plain-so : (kind : Kind) (a b p w : ℕ) (bytes : List ℕ) → p ≡ partOf kind → w ≡ recordOf kind a b → length bytes ≡ 0
+    → Line.Record p w ≡ plainLine kind a b bytes
+unfolding plainLine
+plain-so kind a b p w bytes e f l = ap (λ q. Line.Record q w) e ∙ ap (Line.Record (partOf kind)) f ∙ ap (plainLine kind a b) (sym (none bytes l))
 
-ended-more : (kind : Kind) (a b : ℕ) (bytes : List ℕ) → (length bytes ≡ 0 → ⊥) → Line.Wrong kind (fieldsOf kind + 2) Mistake.TooMany ≡ ended kind a b bytes
-unfolding ended
-ended-more kind a b [] n = absurd (n refl)
-ended-more kind a b (c ∷ cs) n = refl
+plain-more : (kind : Kind) (a b : ℕ) (bytes : List ℕ) → (length bytes ≡ 0 → ⊥) → Line.Wrong kind (fieldsOf kind + 2) Mistake.TooMany ≡ plainLine kind a b bytes
+unfolding plainLine
+plain-more kind a b [] n = absurd (n refl)
+plain-more kind a b (c ∷ cs) n = refl
 
-pub ended-not : (kind : Kind) (a b f : ℕ) (bytes : List ℕ) → f ≡ fieldsOf kind → (length bytes ≡ 0 → ⊥)
-    → Line.Wrong kind (f + 2) Mistake.TooMany ≡ ended kind a b bytes
-ended-not kind a b f bytes e n = ap (λ k. Line.Wrong kind (k + 2) Mistake.TooMany) e ∙ ended-more kind a b bytes n
+pub plain-not : (kind : Kind) (a b f : ℕ) (bytes : List ℕ) → f ≡ fieldsOf kind → (length bytes ≡ 0 → ⊥)
+    → Line.Wrong kind (f + 2) Mistake.TooMany ≡ plainLine kind a b bytes
+plain-not kind a b f bytes e n = ap (λ k. Line.Wrong kind (k + 2) Mistake.TooMany) e ∙ plain-more kind a b bytes n
+
+pub ended-plain : (kind : Kind) (a b : ℕ) (bytes : List ℕ) (t : Bool) (r : Line) → r ≡ plainLine kind a b bytes → t ≡ hasItems kind → t ≡ false
+    → r ≡ ended kind a b bytes
+unfolding ended
+ended-plain kind a b bytes t r h e f = h ∙ sym (if-false (hasItems kind) _ _ (sym e ∙ f))
+
+-- a job
+module _ (items : List ℕ) (w : ℕ) (job : Job) (h : job ≡ jobAnswer items jobRoom) where
+  pub job-right : (v : Verdict) → v ≡ job .verdict → v ≡ Verdict.Passed → Line.Job w (job .events + 1) ≡ jobLine w items
+  unfolding jobLine jobSaid
+  job-right v e f = rw (sym h) (ap (λ x. jobSaid w x (job .events)) (sym f ∙ e))
+
+  pub job-wrong : (v : Verdict) (why : Refusal) (place : ℕ) → v ≡ job .verdict → v ≡ Verdict.Refused why place → Line.Refused why place ≡ jobLine w items
+  unfolding jobLine jobSaid
+  job-wrong v why place e f = rw (sym h) (ap (λ x. jobSaid w x (job .events)) (sym f ∙ e))
+
+pub ended-job : (kind : Kind) (a b n w : ℕ) (bytes : List ℕ) (t : Bool) (r : Line) → r ≡ jobLine w (take n bytes) → w ≡ recordOf kind a b → n ≡ withoutSpaces bytes
+    → t ≡ hasItems kind → t ≡ true
+    → r ≡ ended kind a b bytes
+unfolding ended
+ended-job kind a b n w bytes t r h g l e f =
+    h ∙ ap (λ k. jobLine w (take k bytes)) l ∙ ap (λ k. jobLine k (bare bytes)) g ∙ sym (if-true (hasItems kind) _ _ (sym e ∙ f))
 
 -- ---- its two numbers
 
@@ -137,12 +164,17 @@ module _ (bytes : List ℕ) (n m : ℕ) (named : Named) (some : length bytes ≡
 
 -- ---- and the line around it
 
-pub content-so : (bytes : List ℕ) (n : ℕ) (r : Line) → r ≡ wordsLine (rest n bytes) → n ≡ spacesOf bytes → r ≡ wordsLine (trimmed bytes)
-content-so bytes n r h e = h ∙ ap wordsLine (rest-is n bytes) ∙ ap (λ k. wordsLine (drop k bytes)) e
+pub words-so : (line : List ℕ) (n m k : ℕ) → n ≡ withoutReturn line → m ≡ upTo hash (take n line) → k ≡ spacesOf (take m (take n line))
+    → rest k (take m (take n line)) ≡ trimmed (contentOf line)
+words-so line n m k e f g =
+    rest-is k (take m (take n line)) ∙ ap (λ x. drop x (take m (take n line))) g ∙ ap (λ x. trimmed (take x (take n line))) f ∙ ap (λ x. trimmed (before hash (take x line))) e
 
-pub commented-so : (bytes : List ℕ) (n : ℕ) (r : Line) → r ≡ wordsLine (trimmed (take n bytes)) → n ≡ upTo hash bytes → r ≡ wordsLine (trimmed (before hash bytes))
-commented-so bytes n r h e = h ∙ ap (λ k. wordsLine (trimmed (take k bytes))) e
-
-pub line-so : (line : List ℕ) (n : ℕ) (r : Line) → r ≡ wordsLine (trimmed (before hash (take n line))) → n ≡ withoutReturn line → r ≡ lineOf line
+pub line-so : (line bytes : List ℕ) (r : Line) → r ≡ wordsLine bytes → bytes ≡ trimmed (contentOf line) → r ≡ lineOf line
 unfolding lineOf
-line-so line n r h e = h ∙ ap (λ k. wordsLine (trimmed (before hash (take k line)))) e
+line-so line bytes r h e = h ∙ ap wordsLine e
+
+pub items-so : (line bytes : List ℕ) (n m k : ℕ) → bytes ≡ trimmed (contentOf line) → n ≡ wordLength bytes → m ≡ fieldLength Kind.Job 0 (rest n bytes)
+    → k ≡ withoutSpaces (rest m (rest n bytes)) → take k (rest m (rest n bytes)) ≡ itemsOf line
+items-so line bytes n m k b e f g =
+    ap (λ x. take x (rest m (rest n bytes))) g ∙ ap bare (rest-is m (rest n bytes) ∙ ap (λ x. drop x (rest n bytes)) f)
+    ∙ ap (λ x. bare (afterField Kind.Job 0 x)) (rest-is n bytes ∙ ap (λ x. drop x bytes) e) ∙ ap itemsAfter b

@@ -1,18 +1,19 @@
 -- The numbers of a record that was read are at most what they may be, so that two bytes hold a task and a use. Assumes nothing.
 use mathlib.Core.Path.{_≡_, refl, sym, _∙_}
-use mathlib.Core.List.{List, [], _∷_, _++_, map}
+use mathlib.Core.List.{List, [], _∷_, _++_}
 use Prim.Native.Nat.{ℕ, zero, suc, _+_, _≤_, _<_}
 use native.Mathlib.Omega.{arith}
 use lib.Dec.{eqb, ltb}
 use lib.ListN.{drop}
-use borrow.Author.Tests.{eqb-true}
+use borrow.Author.Tests.{eqb-true, ne-eqb}
 use Rattle.rules.specs.Numbers.Choice.{if_then_else_}
 use Rattle.rules.specs.Numbers.Place.{at}
-use Rattle.rules.proofs.Numbers.Choice.{if-true, if-false, by-test}
+use Rattle.rules.specs.declared.answer.Verdict.{Verdict}
+use Rattle.rules.proofs.Numbers.Choice.{if-true, if-false, by-test, either}
 use Rattle.texts.specs.Cut.{space, before, trimmed}
-use Rattle.texts.specs.Kind.{kindNamed, fieldsOf, mostOf, partOf, recordOf}
-use Rattle.texts.specs.Line.{wordLength, fieldOf, afterField, contentOf, ended, withSecond, withFirst, namedLine, wordsLine, lineOf}
-use Rattle.texts.specs.Lines.{linesOf, readLines, ofPart, recordsOf}
+use Rattle.texts.specs.Kind.{kindNamed, fieldsOf, mostOf, partOf, recordOf, hasItems}
+use Rattle.texts.specs.Line.{wordLength, fieldOf, afterField, contentOf, plainLine, jobSaid, jobLine, ended, withSecond, withFirst, namedLine, wordsLine, lineOf, itemsOf, itemNumbers}
+use Rattle.texts.specs.Lines.{linesOf, ofPart, recordsOf}
 use Rattle.texts.specs.declared.kind.Kind.{Kind}
 use Rattle.texts.specs.declared.kind.Named.{Named}
 use Rattle.texts.specs.declared.number.Number.{Number}
@@ -27,8 +28,10 @@ Fits part w = (part ≡ 0 → w < 65536) × (part ≡ 2 → w < 65536)
 Kept : Line → Type 0
 Kept Line.Blank = Unit
 Kept (Line.Record part w) = Fits part w
+Kept (Line.Job w n) = Unit
 Kept Line.Unknown = Unit
 Kept (Line.Wrong kind word m) = Unit
+Kept (Line.Refused why place) = Unit
 
 -- a number is at most what it may be
 field-most : (kind : Kind) (w v : ℕ) (bytes : List ℕ) → fieldOf kind w bytes ≡ Number.Value v → v ≤ mostOf kind w
@@ -48,11 +51,21 @@ record-fits Kind.Unlock a b h g = (λ e. absurd (omega arith), λ e. absurd (ome
 record-fits Kind.Work a b h g = (λ e. absurd (omega arith), λ e. absurd (omega arith))
 record-fits Kind.Finish a b h g = (λ e. absurd (omega arith), λ e. absurd (omega arith))
 record-fits Kind.Tick a b h g = (λ e. absurd (omega arith), λ e. absurd (omega arith))
+record-fits Kind.Job a b h g = (λ e. absurd (omega arith), λ e. absurd (omega arith))
+
+plain-kept : (kind : Kind) (a b : ℕ) (bytes : List ℕ) → a ≤ mostOf kind 0 → b ≤ mostOf kind 1 → Kept (plainLine kind a b bytes)
+unfolding plainLine Kept
+plain-kept kind a b [] h g = record-fits kind a b h g
+plain-kept kind a b (c ∷ cs) h g = tt
+
+said-kept : (w : ℕ) (v : Verdict) (events : ℕ) → Kept (jobSaid w v events)
+unfolding jobSaid Kept
+said-kept w Verdict.Passed events = tt
+said-kept w (Verdict.Refused why place) events = tt
 
 ended-kept : (kind : Kind) (a b : ℕ) (bytes : List ℕ) → a ≤ mostOf kind 0 → b ≤ mostOf kind 1 → Kept (ended kind a b bytes)
-unfolding ended Kept
-ended-kept kind a b [] h g = record-fits kind a b h g
-ended-kept kind a b (c ∷ cs) h g = tt
+unfolding ended jobLine
+ended-kept kind a b bytes h g = either Kept (hasItems kind) _ _ (said-kept (recordOf kind a b) _ _) (plain-kept kind a b bytes h g)
 
 second-kept : (kind : Kind) (a : ℕ) (n : Number) (bytes rest : List ℕ) → n ≡ fieldOf kind 1 bytes → a ≤ mostOf kind 0 → Kept (withSecond kind a n rest)
 unfolding withSecond Kept
@@ -89,24 +102,26 @@ one-below : (w : ℕ) → w < 65536 → (i : ℕ) → at (w ∷ []) i < 65536
 one-below w l zero = l
 one-below w l (suc i) = omega arith
 
--- of the part of the tasks, or of the uses
-module _ (part : ℕ) (which : (w : ℕ) → Fits part w → w < 65536) where
-  part-below : (line : Line) → Kept line → (i : ℕ) → at (ofPart part line) i < 65536
+-- of the part of the tasks, or of the uses; a job is of neither
+module _ (part : ℕ) (which : (w : ℕ) → Fits part w → w < 65536) (plain : part ≡ 3 → ⊥) where
+  part-below : (line : Line) (items : List ℕ) → Kept line → (i : ℕ) → at (ofPart part line items) i < 65536
   unfolding ofPart Kept
-  part-below Line.Blank k i = omega arith
-  part-below (Line.Record p w) k i = by-test (eqb p part)
+  part-below Line.Blank items k i = omega arith
+  part-below (Line.Record p w) items k i = by-test (eqb p part)
       (λ e. rw (if-true (eqb p part) (w ∷ []) [] e) (one-below w (which w (rw (← eqb-true p part e) k)) i))
       (λ e. rw (if-false (eqb p part) (w ∷ []) [] e) (omega arith))
-  part-below Line.Unknown k i = omega arith
-  part-below (Line.Wrong kind word m) k i = omega arith
+  part-below (Line.Job w n) items k i = rw (if-false (eqb part 3) (w ∷ itemNumbers items) [] (ne-eqb part 3 plain)) (omega arith)
+  part-below Line.Unknown items k i = omega arith
+  part-below (Line.Wrong kind word m) items k i = omega arith
+  part-below (Line.Refused why place) items k i = omega arith
 
-  lines-below : (lines : List (List ℕ)) → (i : ℕ) → at (recordsOf part (map lineOf lines)) i < 65536
+  lines-below : (lines : List (List ℕ)) → (i : ℕ) → at (recordsOf part lines) i < 65536
   unfolding recordsOf
   lines-below [] i = omega arith
-  lines-below (l ∷ ls) i = below-append (ofPart part (lineOf l)) (recordsOf part (map lineOf ls)) (part-below (lineOf l) (line-kept l)) (lines-below ls) i
+  lines-below (l ∷ ls) i = below-append (ofPart part (lineOf l) (itemsOf l)) (recordsOf part ls) (part-below (lineOf l) (itemsOf l) (line-kept l)) (lines-below ls) i
 
-pub tasks-below : (text : List ℕ) (i : ℕ) → at (recordsOf 0 (readLines text)) i < 65536
-tasks-below text i = lines-below 0 (λ w f. f .0 refl) (linesOf text) i
+pub tasks-below : (text : List ℕ) (i : ℕ) → at (recordsOf 0 (linesOf text)) i < 65536
+tasks-below text i = lines-below 0 (λ w f. f .0 refl) (λ e. omega arith) (linesOf text) i
 
-pub uses-below : (text : List ℕ) (i : ℕ) → at (recordsOf 2 (readLines text)) i < 65536
-uses-below text i = lines-below 2 (λ w f. f .1 refl) (linesOf text) i
+pub uses-below : (text : List ℕ) (i : ℕ) → at (recordsOf 2 (linesOf text)) i < 65536
+uses-below text i = lines-below 2 (λ w f. f .1 refl) (λ e. omega arith) (linesOf text) i

@@ -31,12 +31,20 @@ upTo x bytes = until (λ c. eqb c x) bytes
 unfoldable pub spacesOf : List ℕ → ℕ
 spacesOf bytes = until (λ c. not (eqb c space)) bytes
 
--- the bytes before the first x, and those after the spaces
+-- how many bytes stand before the spaces at the end
+unfoldable pub withoutSpaces : List ℕ → ℕ
+withoutSpaces [] = 0
+withoutSpaces (c ∷ cs) = if eqb (withoutSpaces cs) 0 then (if eqb c space then 0 else 1) else suc (withoutSpaces cs)
+
+-- the bytes before the first x, those after the spaces, and those before the spaces at the end
 abbrev pub before : ℕ → List ℕ → List ℕ
 before x bytes = take (upTo x bytes) bytes
 
 abbrev pub trimmed : List ℕ → List ℕ
 trimmed bytes = drop (spacesOf bytes) bytes
+
+abbrev pub bare : List ℕ → List ℕ
+bare bytes = take (withoutSpaces bytes) bytes
 
 -- the same bytes
 unfoldable pub same : List ℕ → List ℕ → Bool

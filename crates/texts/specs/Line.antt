@@ -1,12 +1,16 @@
 -- RULES 19.1 to 19.4: what one line says. Assumes nothing.
-use mathlib.Core.List.{List, [], _∷_}
-use Prim.Native.Nat.{ℕ, _+_, _-_}
+use mathlib.Core.List.{List, [], _∷_, map}
+use Prim.Native.Nat.{ℕ, _+_, _*_, _-_}
 use lib.Dec.{eqb, ltb}
 use lib.ListN.{length, take, drop}
+use Rattle.rules.specs.Numbers.Capacity.{maxEvents}
 use Rattle.rules.specs.Numbers.Choice.{if_then_else_}
 use Rattle.rules.specs.Numbers.Place.{at}
-use Rattle.texts.specs.Cut.{return, space, hash, upTo, before, spacesOf, trimmed}
-use Rattle.texts.specs.Kind.{kindNamed, fieldsOf, mostOf, partOf, recordOf}
+use Rattle.rules.specs.Books.Event.{eventNumber}
+use Rattle.rules.specs.declared.answer.Verdict.{Verdict}
+use Rattle.jobs.specs.Job.{jobEvents, jobAnswer}
+use Rattle.texts.specs.Cut.{return, space, hash, upTo, before, spacesOf, trimmed, bare}
+use Rattle.texts.specs.Kind.{kindNamed, fieldsOf, mostOf, partOf, recordOf, hasItems}
 use Rattle.texts.specs.Number.{numberOf}
 use Rattle.texts.specs.declared.kind.Kind.{Kind}
 use Rattle.texts.specs.declared.kind.Named.{Named}
@@ -40,10 +44,23 @@ fieldLength kind w bytes = if ltb w (fieldsOf kind) then wordLength bytes else 0
 abbrev pub afterField : Kind → ℕ → List ℕ → List ℕ
 afterField kind w bytes = drop (fieldLength kind w bytes) bytes
 
--- after its numbers nothing may stand
+-- after its numbers nothing may stand; in a job its items do, which have room for all events of a book
+unfoldable pub plainLine : Kind → ℕ → ℕ → List ℕ → Line
+plainLine kind a b [] = Line.Record (partOf kind) (recordOf kind a b)
+plainLine kind a b (c ∷ cs) = Line.Wrong kind (fieldsOf kind + 2) Mistake.TooMany
+
+abbrev pub jobRoom : ℕ
+jobRoom = maxEvents * 4
+
+unfoldable pub jobSaid : ℕ → Verdict → ℕ → Line
+jobSaid w Verdict.Passed events = Line.Job w (events + 1)
+jobSaid w (Verdict.Refused why place) events = Line.Refused why place
+
+unfoldable pub jobLine : ℕ → List ℕ → Line
+jobLine w items = jobSaid w (jobAnswer items jobRoom .verdict) (jobAnswer items jobRoom .events)
+
 unfoldable pub ended : Kind → ℕ → ℕ → List ℕ → Line
-ended kind a b [] = Line.Record (partOf kind) (recordOf kind a b)
-ended kind a b (c ∷ cs) = Line.Wrong kind (fieldsOf kind + 2) Mistake.TooMany
+ended kind a b bytes = if hasItems kind then jobLine (recordOf kind a b) (bare bytes) else plainLine kind a b bytes
 
 -- its second number, and its first: the words 3 and 2 of the line
 unfoldable pub withSecond : Kind → ℕ → Number → List ℕ → Line
@@ -66,3 +83,16 @@ wordsLine (c ∷ cs) = namedLine (kindNamed (before space (c ∷ cs))) (drop (wo
 
 unfoldable pub lineOf : List ℕ → Line
 lineOf line = wordsLine (trimmed (contentOf line))
+
+-- ---- its job
+
+-- the items in a line that is a job: what stands after the name and the task's number
+abbrev pub itemsAfter : List ℕ → List ℕ
+itemsAfter words = bare (afterField Kind.Job 0 (drop (wordLength words) words))
+
+abbrev pub itemsOf : List ℕ → List ℕ
+itemsOf line = itemsAfter (trimmed (contentOf line))
+
+-- their events as numbers
+unfoldable pub itemNumbers : List ℕ → List ℕ
+itemNumbers items = map eventNumber (jobEvents items jobRoom)

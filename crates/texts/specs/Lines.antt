@@ -2,10 +2,10 @@
 use mathlib.Core.Bool.{Bool, true, false}
 use mathlib.Core.List.{List, [], _∷_, _++_, map}
 use Prim.Native.Nat.{ℕ, suc, _-_}
-use lib.Dec.{eqb}
+use lib.Dec.{eqb, ltb}
 use Rattle.rules.specs.Numbers.Choice.{if_then_else_}
 use Rattle.texts.specs.Cut.{newline}
-use Rattle.texts.specs.Line.{lineOf}
+use Rattle.texts.specs.Line.{lineOf, itemsOf, itemNumbers}
 use Rattle.texts.specs.declared.line.Line.{Line}
 use Rattle.texts.specs.declared.lines.First.{First}
 
@@ -23,39 +23,44 @@ linesOf (c ∷ cs) = if eqb c newline then [] ∷ linesOf cs else longer c (line
 abbrev pub readLines : List ℕ → List Line
 readLines text = map lineOf (linesOf text)
 
--- a line is a record of this part: its number
-unfoldable pub ofPart : ℕ → Line → List ℕ
-ofPart part Line.Blank = []
-ofPart part (Line.Record p w) = if eqb p part then w ∷ [] else []
-ofPart part Line.Unknown = []
-ofPart part (Line.Wrong kind word m) = []
+-- the records of this part that a line says, as numbers: one, or those of a job; these are its items
+unfoldable pub ofPart : ℕ → Line → (items : List ℕ) → List ℕ
+ofPart part Line.Blank items = []
+ofPart part (Line.Record p w) items = if eqb p part then w ∷ [] else []
+ofPart part (Line.Job w n) items = if eqb part 3 then w ∷ itemNumbers items else []
+ofPart part Line.Unknown items = []
+ofPart part (Line.Wrong kind word m) items = []
+ofPart part (Line.Refused why place) items = []
 
--- the records of a part, in order
-unfoldable pub recordsOf : ℕ → List Line → List ℕ
+-- the records of a part that these lines say, in order
+unfoldable pub recordsOf : ℕ → List (List ℕ) → List ℕ
 recordsOf part [] = []
-recordsOf part (l ∷ ls) = ofPart part l ++ recordsOf part ls
+recordsOf part (l ∷ ls) = ofPart part (lineOf l) (itemsOf l) ++ recordsOf part ls
 
--- a line is neither blank nor a record
+-- a line is neither blank, a record nor a job
 unfoldable pub isWrong : Line → Bool
 isWrong Line.Blank = false
 isWrong (Line.Record p w) = false
+isWrong (Line.Job w n) = false
 isWrong Line.Unknown = true
 isWrong (Line.Wrong kind word m) = true
+isWrong (Line.Refused why place) = true
 
 -- the first of them, and its number, where n lines stand before these
 unfoldable pub firstWrong : ℕ → List Line → First
 firstWrong n [] = First.None
 firstWrong n (l ∷ ls) = if isWrong l then First.At (suc n) l else firstWrong (suc n) ls
 
--- a line is a record of this part
-unfoldable pub inPart : ℕ → Line → Bool
-inPart part Line.Blank = false
-inPart part (Line.Record p w) = eqb p part
-inPart part Line.Unknown = false
-inPart part (Line.Wrong kind word m) = false
+-- how many records of this part a line says
+unfoldable pub countIn : ℕ → Line → ℕ
+countIn part Line.Blank = 0
+countIn part (Line.Record p w) = if eqb p part then 1 else 0
+countIn part (Line.Job w n) = if eqb part 3 then n else 0
+countIn part Line.Unknown = 0
+countIn part (Line.Wrong kind word m) = 0
+countIn part (Line.Refused why place) = 0
 
 -- the number of the line of record k of a part, where n lines stand before these; 0 where there are not so many
 unfoldable pub lineOfRecord : ℕ → ℕ → ℕ → List Line → ℕ
 lineOfRecord part k n [] = 0
-lineOfRecord part k n (l ∷ ls) =
-    if inPart part l then (if eqb k 0 then suc n else lineOfRecord part (k - 1) (suc n) ls) else lineOfRecord part k (suc n) ls
+lineOfRecord part k n (l ∷ ls) = if ltb k (countIn part l) then suc n else lineOfRecord part (k - countIn part l) (suc n) ls

@@ -1,9 +1,9 @@
-// RULES 19.2: the nine kinds of record that a text has.
+// RULES 19.2: the nine kinds of record that a text has, and the job, which is several.
 use crate::word::same;
 ghost use mathlib.Core.Path.{_≡_};
 ghost use Prim.Native.Nat.{_≤_};
 ghost use Rattle.texts.specs.declared.kind.Kind.{Kind};
-ghost use Rattle.texts.specs.Kind.{eventNamed, kindNamed, fieldsOf, mostOf, partOf};
+ghost use Rattle.texts.specs.Kind.{eventNamed, kindNamed, fieldsOf, mostOf, partOf, hasItems};
 
 pub enum Kind {
     Task,
@@ -15,15 +15,16 @@ pub enum Kind {
     Work,
     Finish,
     Tick,
+    Job,
 }
 
-// What a word names: a kind of record, or nothing.
+// What a word names: a kind of record, a job, or nothing.
 pub enum Named {
     Is(Kind),
     Nothing,
 }
 
-// Of an event.
+// Of an event or a job.
 fn event_named(word: &[u8]) -> Named
     ensures { λ r. ⌜ r ≡ eventNamed (now (word .entry)) ⌝ }
 {
@@ -44,6 +45,9 @@ fn event_named(word: &[u8]) -> Named
     }
     if same(word, b"tick") {
         return Named::Is(Kind::Tick);
+    }
+    if same(word, b"job") {
+        return Named::Is(Kind::Job);
     }
     Named::Nothing
 }
@@ -78,6 +82,7 @@ pub fn fields(kind: Kind) -> u8
         Kind::Work => 1,
         Kind::Finish => 0,
         Kind::Tick => 0,
+        Kind::Job => 1,
     }
 }
 
@@ -107,6 +112,7 @@ pub fn most(kind: Kind, w: u8) -> u32
         Kind::Work => 65535,
         Kind::Finish => 255,
         Kind::Tick => 255,
+        Kind::Job => 255,
     }
 }
 
@@ -124,5 +130,24 @@ pub fn part(kind: Kind) -> u8
         Kind::Work => 3,
         Kind::Finish => 3,
         Kind::Tick => 3,
+        Kind::Job => 3,
+    }
+}
+
+// Whether items stand after its numbers, or may.
+pub fn has_items(kind: Kind) -> bool
+    ensures { λ r. ⌜ r ≡ hasItems kind ⌝ }
+{
+    match kind {
+        Kind::Task => false,
+        Kind::Lock => false,
+        Kind::Use => false,
+        Kind::Release => false,
+        Kind::Acquire => false,
+        Kind::Unlock => false,
+        Kind::Work => false,
+        Kind::Finish => false,
+        Kind::Tick => false,
+        Kind::Job => true,
     }
 }

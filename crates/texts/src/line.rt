@@ -2,6 +2,7 @@
 use crate::kind::Kind;
 use crate::kind::Named;
 use crate::kind::fields;
+use crate::kind::has_items;
 use crate::kind::kind_named;
 use crate::kind::most;
 use crate::kind::part;
@@ -11,20 +12,30 @@ use crate::number::read_number;
 use crate::record::record;
 use crate::word::find;
 use crate::word::spaces;
+use crate::word::without_spaces;
+use jobs::check_job;
+use rules::answer::Verdict;
+use rules::capacity::MAX_EVENTS;
+use rules::refusal::Refusal;
 ghost use mathlib.Core.Path.{_≡_};
 ghost use Prim.Native.Nat.{_≤_};
 ghost use lib.ListN.{length};
-ghost use Rattle.texts.specs.Cut.{hash, before, trimmed};
-ghost use Rattle.texts.specs.Line.{withoutReturn, wordLength, fieldOf, fieldLength, afterField, ended, withSecond, withFirst, wordsLine, lineOf};
+ghost use Rattle.texts.specs.Cut.{trimmed};
+ghost use Rattle.texts.specs.Line.{withoutReturn, contentOf, wordLength, fieldOf, fieldLength, afterField, plainLine, jobLine, ended, withSecond, withFirst, wordsLine, lineOf, itemsOf};
 
-// Nothing; a record, with its part and its number; a name that no record has; or, for a record of this kind, the word
-// that is wrong, and how.
+// Nothing; a record, with its part and its number; a job, with the number of its release and how many records it is; a name
+// that no record has; for a record of this kind, the word that is wrong, and how; or a job whose items are refused.
 pub enum Line {
     Blank,
     Record(u8, u32),
+    Job(u32, usize),
     Unknown,
     Wrong(Kind, u8, Mistake),
+    Refused(Refusal, usize),
 }
+
+// A job's items have room for all events of a book.
+pub const JOB_ROOM: usize = MAX_EVENTS * 4;
 
 // The length without a carriage return at the end.
 fn without_return(line: &[u8]) -> usize
@@ -73,15 +84,39 @@ fn field_length(kind: Kind, w: u8, bytes: &[u8]) -> usize
     0
 }
 
-// After its numbers nothing may stand.
-fn ended(kind: Kind, a: u32, b: u32, bytes: &[u8]) -> Line
+// After the numbers of a record nothing may stand.
+fn plain_line(kind: Kind, a: u32, b: u32, bytes: &[u8]) -> Line
     requires { ⌜ (a ≤ 65535) × (b ≤ 65535) ⌝ }
-    ensures { λ r. ⌜ r ≡ ended kind a b (now (bytes .entry)) ⌝ }
+    ensures { λ r. ⌜ r ≡ plainLine kind a b (now (bytes .entry)) ⌝ }
 {
     if bytes.len() == 0 {
         return Line::Record(part(kind), record(kind, a, b));
     }
     Line::Wrong(kind, fields(kind) + 2, Mistake::TooMany)
+}
+
+// Of a job with this release and these items.
+fn job_line(w: u32, items: &[u8]) -> Line
+    ensures { λ r. ⌜ r ≡ jobLine w (now (items .entry)) ⌝ }
+{
+    let job = check_job(items, JOB_ROOM);
+    let verdict = job.verdict;
+    match verdict {
+        Verdict::Passed => Line::Job(w, job.events + 1),
+        Verdict::Refused(why, place) => Line::Refused(why, place),
+    }
+}
+
+// After its numbers.
+fn ended(kind: Kind, a: u32, b: u32, bytes: &[u8]) -> Line
+    requires { ⌜ (a ≤ 65535) × (b ≤ 65535) ⌝ }
+    ensures { λ r. ⌜ r ≡ ended kind a b (now (bytes .entry)) ⌝ }
+{
+    if has_items(kind) {
+        let n = without_spaces(bytes);
+        return job_line(record(kind, a, b), &bytes[..n]);
+    }
+    plain_line(kind, a, b, bytes)
 }
 
 // Its second number.
@@ -125,26 +160,34 @@ fn words_line(bytes: &[u8]) -> Line
     }
 }
 
-// Of bytes without a comment.
-fn content_line(bytes: &[u8]) -> Line
-    ensures { λ r. ⌜ r ≡ wordsLine (trimmed (now (bytes .entry))) ⌝ }
+// The words of a line without its newline: what stands before a comment, without the spaces before it.
+fn words(line: &[u8]) -> &[u8]
+    ensures { λ r. ⌜ now r ≡ trimmed (contentOf (now (line .entry))) ⌝ }
 {
-    let n = spaces(bytes);
-    words_line(&bytes[n..])
-}
-
-// Of bytes without a carriage return at the end.
-fn commented_line(bytes: &[u8]) -> Line
-    ensures { λ r. ⌜ r ≡ wordsLine (trimmed (before hash (now (bytes .entry)))) ⌝ }
-{
-    let n = find(bytes, b'#');
-    content_line(&bytes[..n])
+    let n = without_return(line);
+    let whole = &line[..n];
+    let m = find(whole, b'#');
+    let content = &whole[..m];
+    let k = spaces(content);
+    &content[k..]
 }
 
 // Of a line without its newline.
 pub fn line_of(line: &[u8]) -> Line
     ensures { λ r. ⌜ r ≡ lineOf (now (line .entry)) ⌝ }
 {
-    let n = without_return(line);
-    commented_line(&line[..n])
+    words_line(words(line))
+}
+
+// The items in a line that is a job.
+pub fn items(line: &[u8]) -> &[u8]
+    ensures { λ r. ⌜ now r ≡ itemsOf (now (line .entry)) ⌝ }
+{
+    let bytes = words(line);
+    let n = word_length(bytes);
+    let after_name = &bytes[n..];
+    let m = field_length(Kind::Job, 0, after_name);
+    let after_task = &after_name[m..];
+    let k = without_spaces(after_task);
+    &after_task[..k]
 }

@@ -1,8 +1,8 @@
-// Bytes cut at a byte, the spaces before a word, and two words compared.
+// Bytes cut at a byte, the spaces before a word and at the end, and two words compared.
 ghost use mathlib.Core.Path.{_≡_};
 ghost use Prim.Native.Nat.{_≤_};
 ghost use lib.ListN.{length};
-ghost use Rattle.texts.specs.Cut.{upTo, spacesOf, same};
+ghost use Rattle.texts.specs.Cut.{upTo, spacesOf, withoutSpaces, same};
 
 // How many bytes stand before the first x; all, where there is none.
 pub fn find(bytes: &[u8], x: u8) -> usize
@@ -32,6 +32,21 @@ pub fn spaces(bytes: &[u8]) -> usize
             return i;
         }
         i += 1;
+    }
+    n
+}
+
+// How many bytes stand before the spaces at the end.
+pub fn without_spaces(bytes: &[u8]) -> usize
+    ensures { λ r. ⌜ r ≡ withoutSpaces (now (bytes .entry)) ⌝ }
+    ensures { λ r. ⌜ r ≤ length (now (bytes .entry)) ⌝ }
+{
+    let mut n = bytes.len();
+    while n > 0 {
+        if bytes[n - 1] != b' ' {
+            return n;
+        }
+        n -= 1;
     }
     n
 }

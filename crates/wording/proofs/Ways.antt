@@ -18,7 +18,7 @@ use Rattle.texts.specs.declared.kind.Kind.{Kind}
 use Rattle.texts.specs.declared.number.Mistake.{Mistake}
 use Rattle.texts.specs.declared.line.Line.{Line}
 use Rattle.wording.specs.Meaning.{meaningOf}
-use Rattle.wording.specs.Mistakes.{formOf, wrongWord, mistakeOf}
+use Rattle.wording.specs.Mistakes.{formOf, wrongWord, refusalAtLine, mistakeOf}
 use Rattle.wording.specs.Records.{eventWords}
 use Rattle.wording.specs.Reasons.{reasonOf}
 use Rattle.wording.specs.declared.reason.Facts.{Facts}
@@ -93,6 +93,10 @@ module _ (n : ℕ) (line : Line) (p : Page) where
   unfolding typed mistakeOf
   mistake-record part w e = ap (λ l. typed p (mistakeOf n l)) (sym e)
 
+  pub mistake-job : (w k : ℕ) → line ≡ Line.Job w k → p ≡ typed p (mistakeOf n line)
+  unfolding typed mistakeOf
+  mistake-job w k e = ap (λ l. typed p (mistakeOf n l)) (sym e)
+
   pub mistake-unknown : (r : Page) → r ≡ typed p (mistakeOf n Line.Unknown) → line ≡ Line.Unknown → r ≡ typed p (mistakeOf n line)
   mistake-unknown r h e = h ∙ ap (λ l. typed p (mistakeOf n l)) (sym e)
 
@@ -101,3 +105,9 @@ module _ (n : ℕ) (line : Line) (p : Page) where
       → r ≡ typed p (mistakeOf n line)
   unfolding mistakeOf
   mistake-wrong r kind word m h e = h ∙ ap (λ l. typed p (mistakeOf n l)) (sym e)
+
+  pub mistake-refused : (r : Page) (why : Refusal) (place : ℕ) → r ≡ typed p (refusalAtLine why place n) → line ≡ Line.Refused why place → r ≡ typed p (mistakeOf n line)
+  unfolding mistakeOf
+  mistake-refused r why place h e = h ∙ ap (λ l. typed p (mistakeOf n l)) (sym e)
+
+pub ruleset mistakes = (mistake-blank, mistake-record, mistake-job, mistake-unknown, mistake-wrong, mistake-refused)

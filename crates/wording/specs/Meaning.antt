@@ -31,3 +31,5 @@ meaningOf Refusal.PastLimit = ascii "the work would take an open section past it
 meaningOf Refusal.StillOpen = ascii "the task finishes with a lock open"
 meaningOf Refusal.ShortBuffer = ascii "the buffer is shorter than the book"
 meaningOf Refusal.AboveMaximum = ascii "a use names a lock whose ceiling is above the task's maximum"
+meaningOf Refusal.WrongJob = ascii "a job goes like w2 [0 w1], one space apart, with units 1 to 65535, locks 0 to 31 and at most 8 deep"
+meaningOf Refusal.ShortSpace = ascii "there are fewer than four bytes of event space for each event of the job"

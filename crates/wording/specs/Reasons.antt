@@ -56,3 +56,5 @@ reasonOf Refusal.PastLimit f = pastReason (f .running) (f .units) (f .limit) (f 
 reasonOf Refusal.StillOpen f = says "task @ has lock @ open\n" (f .running ∷ f .newest ∷ [])
 reasonOf Refusal.ShortBuffer f = []
 reasonOf Refusal.AboveMaximum f = []
+reasonOf Refusal.WrongJob f = []
+reasonOf Refusal.ShortSpace f = []

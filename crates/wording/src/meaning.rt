@@ -116,5 +116,15 @@ pub fn put_meaning(out: &mut [u8], i: usize, why: Refusal) -> usize
             i,
             b"a use names a lock whose ceiling is above the task's maximum",
         ),
+        Refusal::WrongJob => put_text(
+            out,
+            i,
+            b"a job goes like w2 [0 w1], one space apart, with units 1 to 65535, locks 0 to 31 and at most 8 deep",
+        ),
+        Refusal::ShortSpace => put_text(
+            out,
+            i,
+            b"there are fewer than four bytes of event space for each event of the job",
+        ),
     }
 }

@@ -33,6 +33,7 @@ fn put_form(out: &mut [u8], i: usize, kind: Kind) -> usize
         Kind::Work => put_text(out, i, b"work UNITS\n"),
         Kind::Finish => put_text(out, i, b"finish\n"),
         Kind::Tick => put_text(out, i, b"tick\n"),
+        Kind::Job => put_text(out, i, b"job TASK ITEMS\n"),
     }
 }
 
@@ -79,21 +80,9 @@ fn put_unknown(out: &mut [u8], i: usize, n: u64) -> usize
     put_says(
         out,
         i,
-        b"line @: no record has this name; the names are task, lock, use, release, acquire, unlock, work, finish and tick\n",
+        b"line @: no record has this name; the names are task, lock, use, release, acquire, unlock, work, finish, tick and job\n",
         &numbers,
     )
-}
-
-// Of line n, which has a mistake.
-pub fn put_mistake(out: &mut [u8], i: usize, n: u64, line: Line) -> usize
-    ensures { λ r. ⌜ page (now (out .exit)) r ≡ typed (page (now (out .entry)) i) (mistakeOf n line) ⌝ }
-{
-    match line {
-        Line::Blank => i,
-        Line::Record(_, _) => i,
-        Line::Unknown => put_unknown(out, i, n),
-        Line::Wrong(kind, word, mistake) => put_wrong(out, i, n, kind, word, mistake),
-    }
 }
 
 // What a refusal means, and the line's end.
@@ -120,10 +109,24 @@ pub fn put_refusal(out: &mut [u8], i: usize, why: Refusal, place: usize) -> usiz
 }
 
 // A refusal, with the line that it comes from.
-pub fn put_refusal_at(out: &mut [u8], i: usize, why: Refusal, place: usize, n: usize) -> usize
+pub fn put_refusal_at(out: &mut [u8], i: usize, why: Refusal, place: usize, n: u64) -> usize
     ensures { λ r. ⌜ page (now (out .exit)) r ≡ typed (page (now (out .entry)) i) (refusalAtLine why place n) ⌝ }
 {
-    let numbers = [number_of(why), place as u64, n as u64];
+    let numbers = [number_of(why), place as u64, n];
     let after = put_says(out, i, b"refused @ @, line @: ", &numbers);
     put_meaning_line(out, after, why)
+}
+
+// Of line n, which has a mistake.
+pub fn put_mistake(out: &mut [u8], i: usize, n: u64, line: Line) -> usize
+    ensures { λ r. ⌜ page (now (out .exit)) r ≡ typed (page (now (out .entry)) i) (mistakeOf n line) ⌝ }
+{
+    match line {
+        Line::Blank => i,
+        Line::Record(_, _) => i,
+        Line::Job(_, _) => i,
+        Line::Unknown => put_unknown(out, i, n),
+        Line::Wrong(kind, word, mistake) => put_wrong(out, i, n, kind, word, mistake),
+        Line::Refused(why, place) => put_refusal_at(out, i, why, place, n),
+    }
 }

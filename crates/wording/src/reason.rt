@@ -173,5 +173,7 @@ pub fn put_reason(out: &mut [u8], i: usize, why: Refusal, f: Facts) -> usize
         Refusal::NoWork => i,
         Refusal::ShortBuffer => i,
         Refusal::AboveMaximum => i,
+        Refusal::WrongJob => i,
+        Refusal::ShortSpace => i,
     }
 }

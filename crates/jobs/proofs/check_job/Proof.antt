@@ -8,4 +8,5 @@ pub check-job-spec : {M : Type 1} → statement M
 check-job-spec =
     tie.close
     (tie.spec
-    (λ c. search needs) (λ c κs. search needs) (λ c. search check-small) (λ c. search check-passed) (λ c. search check-stopped))
+    (λ c. search needs) (λ c κs. search needs) (λ c. (search check-small, search needs))
+    (λ c. (search check-passed, search needs)) (λ c. (search check-stopped, search needs)))

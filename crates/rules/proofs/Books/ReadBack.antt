@@ -27,7 +27,7 @@ use Rattle.rules.proofs.Numbers.Checks.{clean-passes, same-faults, same
 
 -- ---- a list that is read place by place
 
-read-all : {X : Type 0} (d : X) (xs : List X) (f : ℕ → X) → ((i : ℕ) → i < length xs → f i ≡ getD xs i d) → tabulate (length xs) f ≡ xs
+pub read-all : {X : Type 0} (d : X) (xs : List X) (f : ℕ → X) → ((i : ℕ) → i < length xs → f i ≡ getD xs i d) → tabulate (length xs) f ≡ xs
 read-all d xs f h =
     ext-getD d (tabulate (length xs) f) xs (length-from f 0 (length xs))
     (λ i l. let q : i < length xs = omega (arith, l, length-from f 0 (length xs)) in getD-tabulate f (length xs) i d q ∙ h i q)
@@ -61,7 +61,7 @@ read-word (w ∷ ws) rest (suc i) h =
     let e : suc i * 2 ≡ 2 + i * 2 = omega arith in
     ap (word (wordBytes (w ∷ ws) ++ rest)) e ∙ word-past (wordBytes (w ∷ ws) ++ rest) 2 (i * 2) ∙ read-word ws rest i (le-of-suc-le-suc h)
 
-read-long : (ws rest : List ℕ) (i : ℕ) → i < length ws → long (longBytes ws ++ rest) (i * 4) ≡ at ws i
+pub read-long : (ws rest : List ℕ) (i : ℕ) → i < length ws → long (longBytes ws ++ rest) (i * 4) ≡ at ws i
 unfolding longBytes
 read-long [] rest i h = absurd (not-suc-le-zero h)
 read-long (w ∷ ws) rest zero h = omega arith

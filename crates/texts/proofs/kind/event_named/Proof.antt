@@ -14,4 +14,5 @@ event-named-spec =
     (λ c. search needs) (λ c κs. search needs) (λ c. search flags) (λ c. search needs) (λ c κs. search needs)
     (λ c. search flags) (λ c. search needs) (λ c κs. search needs) (λ c. search flags) (λ c. search needs)
     (λ c κs. search needs) (λ c. search flags) (λ c. search needs) (λ c κs. search needs) (λ c. search flags)
-    (λ c. search needs) (λ c κs. search needs) (λ c. search flags) (λ c. search flags))
+    (λ c. search needs) (λ c κs. search needs) (λ c. search flags) (λ c. search needs) (λ c κs. search needs)
+    (λ c. search flags) (λ c. search flags))

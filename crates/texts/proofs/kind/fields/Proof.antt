@@ -11,6 +11,8 @@ fields-spec =
     tie.close
     (tie.spec
     (λ c. search needs) (λ c. search needs) (λ c. search needs) (λ c. search needs) (λ c. search needs) (λ c. search needs)
-    (λ c. search needs) (λ c. search needs) (λ c. search needs) (λ c. search (fields-known, needs)) (λ c. search (fields-known, needs))
-    (λ c. search (fields-known, needs)) (λ c. search (fields-known, needs)) (λ c. search (fields-known, needs)) (λ c. search (fields-known, needs))
-    (λ c. search (fields-known, needs)) (λ c. search (fields-known, needs)) (λ c. search (fields-known, needs)))
+    (λ c. search needs) (λ c. search needs) (λ c. search needs) (λ c. search needs)
+    (λ c. search (fields-known, needs)) (λ c. search (fields-known, needs)) (λ c. search (fields-known, needs))
+    (λ c. search (fields-known, needs)) (λ c. search (fields-known, needs)) (λ c. search (fields-known, needs))
+    (λ c. search (fields-known, needs)) (λ c. search (fields-known, needs)) (λ c. search (fields-known, needs))
+    (λ c. search (fields-known, needs)))

@@ -10,8 +10,9 @@ unfolding mostOf
 most-spec =
     tie.close
     (tie.spec
-    (λ c. search needs) (λ c. search needs) (λ c κs. search needs) (λ c. search needs) (λ c. search needs)
+    (λ c. search needs) (λ c. search needs) (λ c κs. search needs) (λ c. search needs) (λ c. search needs) (λ c. search needs)
     (λ c. search needs) (λ c. search needs) (λ c. search needs) (λ c. search needs) (λ c. search needs)
-    (λ c. (search most-known, search needs)) (λ c. (search most-known, search needs)) (λ c. (search most-known, search needs)) (λ c. (search most-known, search needs))
-    (λ c. (search most-known, search needs)) (λ c. (search most-known, search needs)) (λ c. (search most-known, search needs)) (λ c. (search most-known, search needs))
+    (λ c. (search most-known, search needs)) (λ c. (search most-known, search needs)) (λ c. (search most-known, search needs))
+    (λ c. (search most-known, search needs)) (λ c. (search most-known, search needs)) (λ c. (search most-known, search needs))
+    (λ c. (search most-known, search needs)) (λ c. (search most-known, search needs)) (λ c. (search most-known, search needs))
     (λ c. (search most-known, search needs)))

@@ -11,6 +11,8 @@ part-spec =
     tie.close
     (tie.spec
     (λ c. search needs) (λ c. search needs) (λ c. search needs) (λ c. search needs) (λ c. search needs) (λ c. search needs)
-    (λ c. search needs) (λ c. search needs) (λ c. search needs) (λ c. search part-known) (λ c. search part-known)
-    (λ c. search part-known) (λ c. search part-known) (λ c. search part-known) (λ c. search part-known)
-    (λ c. search part-known) (λ c. search part-known) (λ c. search part-known))
+    (λ c. search needs) (λ c. search needs) (λ c. search needs) (λ c. search needs)
+    (λ c. search part-known) (λ c. search part-known) (λ c. search part-known)
+    (λ c. search part-known) (λ c. search part-known) (λ c. search part-known)
+    (λ c. search part-known) (λ c. search part-known) (λ c. search part-known)
+    (λ c. search part-known))

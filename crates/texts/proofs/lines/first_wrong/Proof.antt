@@ -19,5 +19,4 @@ first-wrong-spec =
     tie.close
     (tie.spec
     Inv-loop μ-loop (λ c. (search needs, refl)) (λ c κs. search needs) (λ c. search needs)
-    (λ c κs. search needs) (λ c. search wrong-found) (λ c. search needs)
-    (λ c. (search needs, search wrong-next)) (λ c. search wrong-ends))
+    (λ c κs. search needs) (λ c. search wrong-found) (λ c. search needs) (λ c. (search needs, search wrong-next)) (λ c. search wrong-ends))

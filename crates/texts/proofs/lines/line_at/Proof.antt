@@ -1,6 +1,6 @@
 -- `texts::lines::line_at` meets its contract. A newline ends it, or the text does. Assumes nothing.
-use Rattle.texts.proofs.Split.{last-within, line-more, line-last}
 use lib.Seq.{length-take-le}
+use Rattle.texts.proofs.Split.{line-more, line-last}
 use borrow.Author.Needs.{needs, counted-is}
 use Rattle.texts.proofs.lines.line_at.Statement.{statement}
 use Rattle.texts.proofs.lines.line_at.Tie as tie
@@ -10,4 +10,4 @@ line-at-spec =
     tie.close
     (tie.spec
     (λ c. search needs) (λ c. search needs) (λ c. search needs) (λ c κs. search needs) (λ c. search (length-take-le, counted-is))
-    (λ c κs. search needs) (λ c. search needs) (λ c. search needs) (λ c. (search line-more, search needs)) (λ c. (search line-last, search (last-within, needs))))
+    (λ c κs. search needs) (λ c. search needs) (λ c. search needs) (λ c. search line-more) (λ c. search line-last))

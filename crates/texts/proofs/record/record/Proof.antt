@@ -1,7 +1,7 @@
 -- `texts::record::record` meets its contract. Each arm of the match returns its case's number. Assumes nothing.
 use Rattle.texts.specs.Kind.{recordOf}
 use Rattle.rules.specs.Books.Event.{kindOf, idOf, amountOf}
-use Rattle.texts.proofs.Named.{record-known, record-release, record-acquire, record-unlock, record-work}
+use Rattle.texts.proofs.Named.{record-known, record-release, record-acquire, record-unlock, record-work, record-job}
 use borrow.Author.Needs.{needs}
 use Rattle.texts.proofs.record.record.Statement.{statement}
 use Rattle.texts.proofs.record.record.Tie as tie
@@ -14,7 +14,10 @@ record-spec =
     (λ c. search needs) (λ c. search needs) (λ c. search needs) (λ c. search needs) (λ c. search needs) (λ c. search needs)
     (λ c. search needs) (λ c. search needs) (λ c. search needs) (λ c. search needs) (λ c. search needs) (λ c. search needs)
     (λ c. search needs) (λ c. search needs) (λ c. search needs) (λ c. search needs) (λ c. search needs) (λ c. search needs)
-    (λ c. search needs) (λ c. search needs) (λ c. search needs) (λ c. search needs) (λ c. search needs)
-    (λ c. search (record-known, record-release, record-acquire, record-unlock, record-work)) (λ c. search (record-known, record-release, record-acquire, record-unlock, record-work)) (λ c. search (record-known, record-release, record-acquire, record-unlock, record-work)) (λ c. search (record-known, record-release, record-acquire, record-unlock, record-work))
-    (λ c. search (record-known, record-release, record-acquire, record-unlock, record-work)) (λ c. search (record-known, record-release, record-acquire, record-unlock, record-work)) (λ c. search (record-known, record-release, record-acquire, record-unlock, record-work)) (λ c. search (record-known, record-release, record-acquire, record-unlock, record-work))
-    (λ c. search (record-known, record-release, record-acquire, record-unlock, record-work)))
+    (λ c. search needs) (λ c. search needs) (λ c. search needs) (λ c. search needs) (λ c. search needs) (λ c. search needs)
+    (λ c. search needs) (λ c. search needs)
+    (λ c. search (record-known, record-release, record-acquire, record-unlock, record-work, record-job)) (λ c. search (record-known, record-release, record-acquire, record-unlock, record-work, record-job))
+    (λ c. search (record-known, record-release, record-acquire, record-unlock, record-work, record-job)) (λ c. search (record-known, record-release, record-acquire, record-unlock, record-work, record-job))
+    (λ c. search (record-known, record-release, record-acquire, record-unlock, record-work, record-job)) (λ c. search (record-known, record-release, record-acquire, record-unlock, record-work, record-job))
+    (λ c. search (record-known, record-release, record-acquire, record-unlock, record-work, record-job)) (λ c. search (record-known, record-release, record-acquire, record-unlock, record-work, record-job))
+    (λ c. search (record-known, record-release, record-acquire, record-unlock, record-work, record-job)) (λ c. search (record-known, record-release, record-acquire, record-unlock, record-work, record-job)))

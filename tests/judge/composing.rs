@@ -1,6 +1,7 @@
 //! A composing: a text, right or wrong, that is to become a book.
 
 use crate::compose::{compose, Composed, Ending, MOST_TEXT};
+use crate::draft::Draft;
 use crate::generate::Case;
 use crate::show::{show, tested};
 use crate::wrong::Wrong;
@@ -12,7 +13,13 @@ pub struct Composing {
     /// The accepted book that the text shows: it has to come back.
     pub shown: Option<Arc<Case>>,
     /// What was worked out beside the reader: how it has to end.
-    pub made_for: Option<Ending>,
+    pub made_for: Option<Foretold>,
+}
+
+pub struct Foretold {
+    pub ending: Ending,
+    /// The records that the text was made of: where there is a book, it has these.
+    pub records: Option<Draft>,
 }
 
 pub struct Outcome {
@@ -50,10 +57,16 @@ impl Composing {
     }
 
     fn violation(&self, composed: &Composed, ending: Ending) -> Option<String> {
-        if let Some(wanted) = self.made_for.filter(|wanted| *wanted != ending) {
-            return Some(format!(
-                "it ends with {ending:?}, and was made for {wanted:?}"
-            ));
+        if let Some(foretold) = &self.made_for {
+            let wanted = foretold.ending;
+            if wanted != ending {
+                let words = format!("it ends with {ending:?}, and was made for {wanted:?}");
+                return Some(words);
+            }
+            let book = foretold.records.as_ref().map(Draft::bytes);
+            if ending == Ending::Book && book.is_some_and(|book| book != composed.book) {
+                return Some("the book has other records than the text was made of".to_string());
+            }
         }
         if self.shown.is_some() && self.text.len() > MOST_TEXT {
             return Some(format!("a shown book has {} bytes", self.text.len()));

@@ -33,30 +33,24 @@ struct Word<'t> {
 }
 
 pub fn read(text: &[u8], room: usize, wrong: Wrong) -> JobRead {
-    let tested = events_within(text, room, wrong);
-    let (number, place, events) = match &tested {
-        Ok(events) => (0, 0, events.len()),
-        Err(refusal) => (
-            refusal.number,
-            refusal.place,
-            told_beside(refusal.number, text, wrong),
-        ),
+    let (number, place, told, laid) = match events_within(text, room, wrong) {
+        Ok(events) => (0, 0, events.len(), events),
+        Err(Refusal { number, place }) => {
+            let told = told_beside(number, text, wrong);
+            (number, place, told, laid_beside(number, text, wrong))
+        }
     };
     let mut space = vec![FILL; room];
-    let laid = match &tested {
-        Ok(events) => events.clone(),
-        Err(refusal) => laid_beside(refusal.number, text, wrong),
-    };
     for (record, event) in space.chunks_exact_mut(RECORD).zip(&laid) {
         record.copy_from_slice(&event.record());
     }
-    if wrong == Wrong::SpaceCleared && tested.is_ok() {
+    if wrong == Wrong::SpaceCleared && number == 0 {
         space[RECORD * laid.len()..].fill(0);
     }
     JobRead {
         number,
         place,
-        events: events as u32,
+        events: told as u32,
         space,
     }
 }
@@ -213,7 +207,7 @@ fn may_be_job(text: &[u8], wrong: Wrong) -> bool {
     }
 }
 
-/// How many events a refusal tells of.
+/// How many events a refusal tells of: none, by the rules.
 fn told_beside(number: u8, text: &[u8], wrong: Wrong) -> usize {
     match (number, wrong) {
         (26, Wrong::EventsBeside26) => letters(text),
@@ -221,7 +215,8 @@ fn told_beside(number: u8, text: &[u8], wrong: Wrong) -> usize {
     }
 }
 
-/// The events that a refusal lays into the space, as far as it has room for them.
+/// The events that a refusal lays into the space, as far as it has room for them: none, by
+/// the rules.
 fn laid_beside(number: u8, text: &[u8], wrong: Wrong) -> Vec<Event> {
     let mut events = Vec::new();
     if let (25, Wrong::LaidBeside25) | (26, Wrong::LaidBeside26) = (number, wrong) {

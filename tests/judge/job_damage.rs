@@ -36,8 +36,7 @@ pub const DAMAGES: [&str; 26] = [
 
 /// Amounts and locks that are too great: by one, by a digit, and by what two, four or eight
 /// bytes can hold.
-const GREAT_UNITS: [&str; 14] = [
-    "65536",
+const GREAT_UNITS: [&str; 13] = [
     "65536",
     "65537",
     "65540",
@@ -52,8 +51,7 @@ const GREAT_UNITS: [&str; 14] = [
     "18446744073709551617",
     "65535000000000000000000",
 ];
-const GREAT_LOCKS: [&str; 12] = [
-    "32",
+const GREAT_LOCKS: [&str; 11] = [
     "32",
     "33",
     "39",
@@ -110,12 +108,12 @@ fn damage(random: &mut Random, mut text: Vec<u8>, way: &str) -> Damaged {
         // The zero is a lock, and another digit follows it.
         "a zero in front of a lock" => put(&mut text, opening + 1, b"0") + 1,
         "units too great" => {
-            let great = random.pick(&GREAT_UNITS);
+            let great = some_number(random, &GREAT_UNITS);
             let at = put_number(&mut text, letter + 1, great.as_bytes());
             at + first_above(great, u128::from(MOST_UNITS))
         }
         "a lock too great" => {
-            let great = random.pick(&GREAT_LOCKS);
+            let great = some_number(random, &GREAT_LOCKS);
             let at = put_number(&mut text, opening + 1, great.as_bytes());
             at + first_above(great, MOST_LOCKS as u128 - 1)
         }
@@ -156,6 +154,14 @@ fn damage(random: &mut Random, mut text: Vec<u8>, way: &str) -> Damaged {
         }
     };
     (text, Some(place))
+}
+
+/// The first of these half of the time, or any.
+fn some_number(random: &mut Random, numbers: &[&'static str]) -> &'static str {
+    match random.below(2) {
+        0 => numbers[0],
+        _ => random.pick(numbers),
+    }
 }
 
 /// A byte that may stand in a job, mostly.

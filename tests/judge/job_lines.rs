@@ -19,7 +19,7 @@ pub fn line(task: u8, items: Vec<u8>) -> Words {
     words
 }
 
-/// A job, right or damaged in one of these ways.
+/// A job, damaged in one of these ways.
 pub fn damaged_line(random: &mut Random, ways: &[&str]) -> Words {
     let way = random.pick(ways);
     let (items, _) = damaged(random, way);
@@ -82,42 +82,37 @@ fn job_at(events: &[[u8; 4]]) -> Option<(Words, usize)> {
     Some((line(task, items), end + 1))
 }
 
-/// The items of a job with so many events: sections without items, and work at the end where
+/// A line of a text and its events.
+type Line = (Words, Vec<Event>);
+
+/// The line of a job with so many events: sections without items, and work at the end where
 /// the number wants it. There is at least one event, the finish.
-pub fn items_of(events: usize) -> Vec<u8> {
-    let mut items = vec!["[0]"; (events - 1) / 2];
-    items.extend((events % 2 == 0).then_some("w1"));
-    items.join(" ").into_bytes()
+fn job_of(events: usize) -> Line {
+    let (sections, works) = ((events - 1) / 2, (events - 1) % 2);
+    let section = [Event::Acquire(0), Event::Unlock(0)];
+    let items = [vec!["[0]"; sections], vec!["w1"; works]].concat();
+    let records = [
+        vec![Event::Release(0)],
+        section.repeat(sections),
+        vec![Event::Work(1); works],
+        vec![Event::Finish],
+    ];
+    (line(0, items.join(" ").into_bytes()), records.concat())
 }
 
-/// Lines with about as many events as a book can have, mostly in jobs, and of each how many
-/// records it has. What they are, and the lines after a first one with a task.
-pub fn great(turn: usize) -> (&'static str, Vec<(Words, usize)>) {
-    let job = |events: usize| (line(0, items_of(events)), events + 1);
-    let (tick, most) = ((vec![b"tick".to_vec()], 1), MOST_EVENTS);
+/// Lines with about as many events as a book can have, mostly in jobs, and what they are.
+#[rustfmt::skip] // a line each
+pub fn great(turn: usize) -> (&'static str, Vec<Line>) {
+    let (job, most) = (job_of, MOST_EVENTS);
+    let tick = (vec![b"tick".to_vec()], vec![Event::Tick]);
     match turn % 8 {
         0 => ("a job with one event too many", vec![job(most)]),
         1 => ("a job with the most events", vec![job(most - 1)]),
-        2 => (
-            "a job with more events than there is space for",
-            vec![job(most + 1)],
-        ),
-        3 => (
-            "two jobs with the most events",
-            vec![job(most / 3 - 1), job(2 * most / 3 - 1)],
-        ),
-        4 => (
-            "two jobs with one event too many",
-            vec![job(7_000), job(4_999)],
-        ),
+        2 => ("a job with more events than there is space for", vec![job(most + 1)]),
+        3 => ("two jobs with the most events", vec![job(most / 3 - 1), job(2 * most / 3 - 1)]),
+        4 => ("two jobs with one event too many", vec![job(7_000), job(4_999)]),
         5 => ("a job after the most events", vec![job(most - 1), job(1)]),
-        6 => (
-            "a job with far more events",
-            vec![tick, job(5), job(2 * most)],
-        ),
-        _ => (
-            "an event after a job with the most",
-            vec![job(most - 1), tick],
-        ),
+        6 => ("a job with far more events", vec![tick, job(5), job(2 * most)]),
+        _ => ("an event after a job with the most", vec![job(most - 1), tick]),
     }
 }

@@ -17,7 +17,9 @@ const LONG_IN: u64 = 500;
 /// The others are of these sorts in turn.
 const SORTS: u64 = 8;
 
-/// A text of which every beginning is tried is shorter than this.
+/// A text of which every beginning is tried has at least so many bytes, and fewer than so
+/// many.
+const LEAST_CUT: usize = 40;
 const CUT: u64 = 64;
 
 /// The bytes of the short texts.
@@ -90,13 +92,17 @@ fn right(random: &mut Random, turn: u64) -> Made {
 fn beginning(seed: u64, number: u64) -> Made {
     let (turn, length) = (number / CUT, (number % CUT) as usize);
     let random = &mut Random::for_case(seed, 7, turn);
-    let (text, events) = loop {
-        let body = body::nested(random, turn as usize % (MOST_NESTED + 1));
-        let text = body::text(&body).into_bytes();
-        if (text.len() as u64) < CUT {
-            break (text, body::events(&body));
+    let depth = turn as usize % (MOST_NESTED + 1);
+    let mut body = body::nested(random, depth);
+    let mut text = body::text(&body).into_bytes();
+    while !(LEAST_CUT..CUT as usize).contains(&text.len()) {
+        if text.len() >= LEAST_CUT {
+            body.clear();
         }
-    };
+        body.extend(body::nested(random, depth));
+        text = body::text(&body).into_bytes();
+    }
+    let events = body::events(&body);
     let text = &text[..length.min(text.len())];
     let count = |bracket: u8| text.iter().filter(|byte| **byte == bracket).count();
     let is_whole = !text.ends_with(b" ") && !text.ends_with(b"w");
@@ -120,22 +126,20 @@ fn events_of_beginning(text: &[u8], acts: &[Event]) -> Vec<Event> {
     events
 }
 
-/// A text with the damage whose turn it is; now and then with two that fall on each other.
+/// A text with the damage whose turn it is; now and then the front of one and the back of
+/// another.
 fn damage(random: &mut Random, turn: u64) -> Made {
     let way = DAMAGES[turn as usize % DAMAGES.len()];
     let (mut text, place) = damaged(random, way);
     if random.one_in(8) {
-        let (other, _) = damaged(random, way_in_turn(turn));
+        let other = random.pick(&DAMAGES);
+        let (other, _) = damaged(random, other);
         let from = random.below(other.len());
         let at = random.below(text.len() + 1);
         text.splice(at.., other[from..].iter().copied());
         return (SEVERAL, text, None);
     }
     (way, text, place.map(Err))
-}
-
-fn way_in_turn(turn: u64) -> &'static str {
-    DAMAGES[(turn / 3) as usize % DAMAGES.len()]
 }
 
 /// Bytes that stand in jobs, or whole pieces of jobs, in any order.

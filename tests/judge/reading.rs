@@ -49,8 +49,10 @@ impl Reading {
             if read.number != 25 {
                 return Some("it is no job, and not refused so".to_string());
             }
-            let is_short = self.text.len() <= SHORT;
-            return is_short.then(|| beginnings::broken(&self.text, place))?;
+            if self.text.len() > SHORT {
+                return None;
+            }
+            return beginnings::broken(&self.text, place);
         };
         // Whoever draws the events again has the text.
         if drawn(&events) != Some(self.text.clone()) {

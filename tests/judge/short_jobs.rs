@@ -70,7 +70,7 @@ fn texts() -> Vec<Vec<u8>> {
     all
 }
 
-/// The numbers up to this one that the digits make, as they are written.
+/// The numbers in between that the digits make, as they are written.
 fn numbers(least: usize, most: usize) -> Vec<(usize, String)> {
     let numbers = (least..=most).map(|number| (number, number.to_string()));
     let is_made = |digits: &str| digits.bytes().all(|digit| BYTES.contains(&digit));

@@ -68,7 +68,7 @@ struct Said {
     events: Vec<Event>,
 }
 
-/// The records, or the first line that is none.
+/// The records, or why the text has none.
 pub fn read(text: &[u8], wrong: Wrong) -> Result<Records, Unread> {
     let mut records = Records::default();
     let (mut unread, mut late) = (None, None);
@@ -134,7 +134,7 @@ fn parts(byte: u8, wrong: Wrong) -> bool {
 /// refused.
 fn read_line(line: &Line, wrong: Wrong) -> Result<Said, Unread> {
     let at = Form::named(line.words[0]);
-    let mistake = |(word, fault): (usize, Fault)| {
+    let mistake = |word: usize, fault: Fault| {
         Unread::Mistake(Mistake {
             line: line.number,
             word,
@@ -142,20 +142,20 @@ fn read_line(line: &Line, wrong: Wrong) -> Result<Said, Unread> {
             form: at,
         })
     };
-    let form = &FORMS[at.ok_or_else(|| mistake((1, Fault::NoName)))?];
+    let form = &FORMS[at.ok_or_else(|| mistake(1, Fault::NoName))?];
     let mut rest = line.words[1..].iter().zip(2..);
     let mut numbers = Vec::new();
     for (at, most) in form.most.iter().enumerate() {
-        let missing = || mistake((at + 2, Fault::Missing));
+        let missing = || mistake(at + 2, Fault::Missing);
         let (word, place) = rest.next().ok_or_else(missing)?;
         let is_last = at + 1 == form.most.len();
         let most = match wrong {
             Wrong::LastUnlimited if is_last => u64::MAX,
             _ => *most,
         };
-        let number = number(word, wrong).ok_or_else(|| mistake((place, Fault::NoNumber)))?;
+        let number = number(word, wrong).ok_or_else(|| mistake(place, Fault::NoNumber))?;
         let number = number.filter(|number| *number <= most);
-        numbers.push(number.ok_or_else(|| mistake((place, Fault::More)))?);
+        numbers.push(number.ok_or_else(|| mistake(place, Fault::More))?);
     }
     let mut events = Vec::new();
     if form.has_items() {
@@ -163,7 +163,7 @@ fn read_line(line: &Line, wrong: Wrong) -> Result<Said, Unread> {
         events = read.map_err(|refusal| Unread::Items(refusal, line.number))?;
     } else if let Some((_, place)) = rest.next() {
         if wrong != Wrong::WordTooManyPasses {
-            return Err(mistake((place, Fault::TooMany)));
+            return Err(mistake(place, Fault::TooMany));
         }
     }
     Ok(Said {

@@ -5,7 +5,7 @@
 
 use crate::book::Refusal;
 use crate::compose::{Ending, MOST_TEXT};
-use crate::composing::Composing;
+use crate::composing::{Composing, Foretold};
 use crate::damage;
 use crate::draft::Draft;
 use crate::event::Event;
@@ -60,7 +60,7 @@ pub fn text(seed: u64, number: u64) -> Composing {
 }
 
 /// What it is, the text, and how it has to end, where that is known.
-type Made = (String, Vec<u8>, Option<Ending>);
+type Made = (String, Vec<u8>, Option<Foretold>);
 
 /// A line that is to be laid out.
 struct Line {
@@ -82,8 +82,8 @@ fn short(random: &mut Random, number: usize) -> Made {
     let mut damages = Vec::new();
     if number % 2 == 0 {
         let (text, numbers) = laid_out(random, &layout, &words_of(&lines));
-        let ending = foretold(&records, &lines, &numbers);
-        return ("short book".to_string(), text, Some(ending));
+        let foretold = foretold(records, &lines, &numbers);
+        return ("short book".to_string(), text, Some(foretold));
     }
     let mut lines = words_of(&lines);
     let (times, of_bytes) = random.pick(&[(1, 0), (1, 0), (2, 0), (0, 1), (0, 2), (1, 1)]);
@@ -147,9 +147,15 @@ fn laid_out(random: &mut Random, layout: &Layout, lines: &[Words]) -> (Vec<u8>, 
 
 /// How a text of these records has to end, by the writer and by where they were put. What
 /// has no words became a limit or a work of 0, which the same numbers refuse.
-fn foretold(records: &Draft, lines: &[Line], numbers: &[usize]) -> Ending {
-    let written = writer::write(records, MOST_BYTES, Wrong::Nothing);
-    let (number, place) = (written.number, written.place);
+fn foretold(records: Draft, lines: &[Line], numbers: &[usize]) -> Foretold {
+    let written = writer::write(&records, MOST_BYTES, Wrong::Nothing);
+    Foretold {
+        ending: ending(written.number, written.place, lines, numbers),
+        records: Some(records),
+    }
+}
+
+fn ending(number: u8, place: u32, lines: &[Line], numbers: &[usize]) -> Ending {
     let most = [MOST_TASKS, MOST_LOCKS, MOST_USES, MOST_EVENTS];
     let (part, at) = match (number, place as usize) {
         (0, _) => return Ending::Book,
@@ -188,7 +194,11 @@ fn longest(random: &mut Random, turn: usize) -> Made {
     } else {
         Ending::Book
     };
-    (format!("{length} bytes with {sort}"), text, Some(ending))
+    let foretold = Foretold {
+        ending,
+        records: None,
+    };
+    (format!("{length} bytes with {sort}"), text, Some(foretold))
 }
 
 /// A count of about 65,536, of each part in its turn: one that would be 1, or as before, if
@@ -207,12 +217,9 @@ fn far_count(random: &mut Random, turn: usize) -> Made {
     }
     let lines = some_order(random, &draft);
     let (text, numbers) = Layout::plain().lay_out(random, &words_of(&lines));
-    let ending = foretold(&draft, &lines, &numbers);
-    (
-        format!("{count} records of part {part}"),
-        text,
-        Some(ending),
-    )
+    let foretold = foretold(draft, &lines, &numbers);
+    let sort = format!("{count} records of part {part}");
+    (sort, text, Some(foretold))
 }
 
 fn only(change: impl FnOnce(&mut Draft)) -> Draft {
@@ -252,46 +259,38 @@ fn great(random: &mut Random, turn: usize) -> Made {
     let lines = some_order(random, &draft);
     let layout = Layout::any(random);
     let (text, numbers) = laid_out(random, &layout, &words_of(&lines));
-    let ending = foretold(&draft, &lines, &numbers);
-    (sort.to_string(), text, Some(ending))
+    let foretold = foretold(draft, &lines, &numbers);
+    (sort.to_string(), text, Some(foretold))
 }
 
 /// About as many events as can be, in jobs.
 fn great_jobs(random: &mut Random, turn: usize) -> Made {
     let (sort, jobs) = job_lines::great(turn);
-    let records: usize = jobs.iter().map(|(_, records)| *records).sum();
-    // Only their number counts here.
-    let draft = Draft {
-        tasks: vec![[1, 1]],
-        events: vec![Event::Tick.record(); records],
-        ..Draft::default()
-    };
-    let task = [b"task", &b"1"[..], b"1"].map(<[u8]>::to_vec).to_vec();
+    let mut draft = only(|draft| draft.tasks.push([1, 1]));
+    let task = lines_of(&draft)[0].remove(0);
     let mut lines = vec![Line {
         words: task,
         part: 0,
         records: 1,
     }];
-    lines.extend(jobs.into_iter().map(|(words, records)| Line {
-        words,
-        part: 3,
-        records,
-    }));
+    for (words, events) in jobs {
+        lines.push(Line {
+            words,
+            part: 3,
+            records: events.len(),
+        });
+        draft.events.extend(events.into_iter().map(Event::record));
+    }
     let layout = Layout::any(random);
     let (text, numbers) = laid_out(random, &layout, &words_of(&lines));
     // A job has one record more than events.
     let is_refused = |line: &Line| line.records > MOST_EVENTS + 1;
-    let ending = match lines.iter().position(is_refused) {
-        Some(at) => {
-            let refusal = Refusal {
-                number: 26,
-                place: 0,
-            };
-            Ending::Refused(refusal, Some(numbers[at]))
-        }
-        None => foretold(&draft, &lines, &numbers),
-    };
-    (sort.to_string(), text, Some(ending))
+    let mut foretold = foretold(draft, &lines, &numbers);
+    if let Some(at) = lines.iter().position(is_refused) {
+        let (number, place) = (26, 0);
+        foretold.ending = Ending::Refused(Refusal { number, place }, Some(numbers[at]));
+    }
+    (sort.to_string(), text, Some(foretold))
 }
 
 fn some_event(at: usize) -> Event {

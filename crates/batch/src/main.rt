@@ -6,10 +6,12 @@
 //   3  a single step: a plan, a state and an event (step.rt)
 //   4  write a book from its records, to a buffer of so many bytes (write.rt)
 //   5  compose a book from a text, 6 show a book, 7 explain its replay (office_replies.rt)
+//   8  read the text of a job, into event space of so many bytes (job.rt)
 // The input's end, or a command that is none of these, too long or with counts that do not fit it, ends
 // the program.
 mod check;
 mod figures;
+mod job;
 mod office_replies;
 mod replay;
 mod step;
@@ -56,6 +58,10 @@ fn answer(command: u32, protocol: Protocol, input: &mut [u8], rows: &mut [u8]) -
     }
     if command == 7 {
         office_replies::explain_reply(protocol, input);
+        return true;
+    }
+    if command == 8 {
+        job::reply(input, rows);
         return true;
     }
     false

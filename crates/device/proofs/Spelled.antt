@@ -28,8 +28,11 @@ use Rattle.rules.specs.declared.answer.Replayed.{Replayed}
 use Rattle.rules.specs.declared.answer.Written.{Written}
 use Rattle.rules.specs.declared.refusal.Refusal.the-variants.{WrongEvent}
 use Rattle.rules.proofs.Numbers.Choice.{if-true, if-false}
-use Rattle.device.specs.Device.{checkSpelled, loadSpelled, writeSpelled, replaySpelled, stepSpelled, noEvent, notStepped, stepFrom}
+use Rattle.jobs.specs.Job.{ReadInto, readWith, jobOf}
+use Rattle.jobs.specs.declared.Job.{Job}
+use Rattle.device.specs.Device.{checkSpelled, loadSpelled, writeSpelled, jobSpelled, replaySpelled, stepSpelled, noEvent, notStepped, stepFrom}
 use Rattle.device.specs.declared.check.DeviceCheck.{DeviceCheck}
+use Rattle.device.specs.declared.job.DeviceJob.{DeviceJob}
 use Rattle.device.specs.declared.load.DeviceLoad.{DeviceLoad}
 use Rattle.device.specs.declared.replay.DeviceReplay.{DeviceReplay}
 use Rattle.device.specs.declared.step.DeviceStep.{DeviceStep}
@@ -45,6 +48,9 @@ loadWith l n i = record { number = n; place = i; plan = l .plan }
 
 abbrev writeWith : ℕ → ℕ → ℕ → DeviceWrite
 writeWith n i k = record { number = n; place = i; length = k }
+
+abbrev jobWith : ℕ → ℕ → ℕ → DeviceJob
+jobWith n i k = record { number = n; place = i; events = k }
 
 abbrev replayWith : Plan → State → ℕ → ℕ → DeviceReplay
 replayWith p s n i = record { number = n; place = i; plan = p; state = s }
@@ -67,6 +73,10 @@ module _ (n i : ℕ) where
       → n ≡ verdictNumber (w .verdict) → i ≡ verdictPlace (w .verdict) → writeWith n i (w .length) ≡ writeSpelled (writeOf tasks locks uses events buffer)
   write-said tasks locks uses events buffer out w wrote e f = ap₂ (λ x y. writeWith x y (w .length)) e f ∙ ap writeSpelled wrote
 
+  pub job-said : (text space out : List ℕ) (j : Job) → readWith j out ≡ jobOf text space → n ≡ verdictNumber (j .verdict) → i ≡ verdictPlace (j .verdict)
+      → jobWith n i (j .events) ≡ jobSpelled (jobOf text space .answer)
+  job-said text space out j read e f = ap₂ (λ x y. jobWith x y (j .events)) e f ∙ ap (λ (k : ReadInto). jobSpelled (k .answer)) read
+
   -- a replay, whose verdict and state are the definition's, and whose plan is the check's
   pub replay-said : (number : ℕ) (pr : Protocol) → pr ≡ protocolNamed number → (b rows out : List ℕ) (l : Replayed) → ranAs l out ≡ replayOf pr b rows
       → l .plan ≡ checkedOf b (length rows) .plan
@@ -81,6 +91,9 @@ module _ (n i : ℕ) where
 pub write-bytes : (tasks locks uses events buffer out : List ℕ) (w : Written) → wroteWith w out ≡ writeOf tasks locks uses events buffer
     → out ≡ writeOf tasks locks uses events buffer .bytes
 write-bytes tasks locks uses events buffer out w wrote = ap (λ (k : Wrote). k .bytes) wrote
+
+pub job-space : (text space out : List ℕ) (j : Job) → readWith j out ≡ jobOf text space → out ≡ jobOf text space .space
+job-space text space out j read = ap (λ (k : ReadInto). k .space) read
 
 pub replay-rows : (number : ℕ) (pr : Protocol) → pr ≡ protocolNamed number → (b rows out : List ℕ) (l : Replayed) → ranAs l out ≡ replayOf pr b rows
     → out ≡ replayOf (protocolNamed number) b rows .rows

@@ -18,7 +18,9 @@ use Rattle.rules.specs.declared.answer.Loaded.{Loaded}
 use Rattle.rules.specs.declared.answer.Stepped.{Stepped}
 use Rattle.rules.specs.declared.answer.Verdict.{Verdict}
 use Rattle.rules.specs.declared.refusal.Refusal.the-variants.{WrongEvent}
+use Rattle.jobs.specs.declared.Job.{Job}
 use Rattle.device.specs.declared.check.DeviceCheck.{DeviceCheck}
+use Rattle.device.specs.declared.job.DeviceJob.{DeviceJob}
 use Rattle.device.specs.declared.load.DeviceLoad.{DeviceLoad}
 use Rattle.device.specs.declared.replay.DeviceReplay.{DeviceReplay}
 use Rattle.device.specs.declared.step.DeviceStep.{DeviceStep}
@@ -36,6 +38,9 @@ loadSpelled l = record { number = verdictNumber (l .verdict); place = verdictPla
 
 abbrev pub writeSpelled : Wrote → DeviceWrite
 writeSpelled w = record { number = verdictNumber (w .verdict); place = verdictPlace (w .verdict); length = w .length }
+
+abbrev pub jobSpelled : Job → DeviceJob
+jobSpelled j = record { number = verdictNumber (j .verdict); place = verdictPlace (j .verdict); events = j .events }
 
 abbrev pub replaySpelled : Verdict → Plan → State → DeviceReplay
 replaySpelled v p s = record { number = verdictNumber v; place = verdictPlace v; plan = p; state = s }

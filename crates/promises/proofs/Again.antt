@@ -30,7 +30,7 @@ use Rattle.rules.proofs.Demands.Sizes.{SmallRow, row-small}
 use Rattle.rules.proofs.Demands.Written.{writing}
 use Rattle.page.specs.Ascii.{ascii}
 use Rattle.page.specs.Says.{filled}
-use Rattle.texts.specs.Lines.{readLines}
+use Rattle.texts.specs.Lines.{linesOf, readLines}
 use Rattle.book.specs.Look.{taskIn, lockIn, useIn, eventIn}
 use Rattle.wording.specs.Records.{taskLine, lockLine, useLine, eventLine}
 use Rattle.office.specs.Again.{ReadAgain, ComposedAgain, Again}
@@ -178,7 +178,7 @@ module _ (b : List ℕ) (B : Bytes b) (passed : checkOf b rowSpace ≡ Verdict.P
     unfolding verdictNumber
     back = writing .again b rowSpace buffer B (ap verdictNumber passed) room
 
-    same : written (readLines (shownOf b)) buffer ≡ writeOf (tasksOf b) (locksOf b) (usesOf b) (eventNumbersOf b) buffer
+    same : written (linesOf (shownOf b)) buffer ≡ writeOf (tasksOf b) (locksOf b) (usesOf b) (eventNumbersOf b) buffer
     same = rw (read-tasks b passed B, read-locks b passed B, read-uses b passed B, read-events b passed B)
 
     composed : composeOf (shownOf b) buffer ≡ composedAs Verdict.Passed (readLines (shownOf b)) (writeOf (tasksOf b) (locksOf b) (usesOf b) (eventNumbersOf b) buffer)

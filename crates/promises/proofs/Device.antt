@@ -19,11 +19,15 @@ use Rattle.rules.specs.declared.answer.Checked.{Checked}
 use Rattle.rules.specs.declared.answer.Stepped.{Stepped}
 use Rattle.rules.specs.declared.answer.Replayed.{Replayed}
 use Rattle.rules.specs.declared.answer.Written.{Written}
-use Rattle.device.specs.Device.{checkSpelled, writeSpelled, replaySpelled, stepSpelled, noEvent, notStepped}
+use Rattle.device.specs.Device.{checkSpelled, writeSpelled, jobSpelled, replaySpelled, stepSpelled, noEvent, notStepped}
 use Rattle.device.specs.declared.check.DeviceCheck.{DeviceCheck}
 use Rattle.device.specs.declared.replay.DeviceReplay.{DeviceReplay}
 use Rattle.device.specs.declared.step.DeviceStep.{DeviceStep}
 use Rattle.device.specs.declared.write.DeviceWrite.{DeviceWrite}
+use Rattle.device.specs.declared.job.DeviceJob.{DeviceJob}
+use Rattle.jobs.specs.Job.{ReadInto}
+use Rattle.jobs.specs.declared.Job.{Job}
+use Rattle.jobs.proofs.read_job.Reads as read-job
 use Rattle.book.proofs.check.Reads as check
 use Rattle.book.proofs.writer.write.Reads as write
 use Rattle.scheduler.proofs.step.Reads as step
@@ -32,6 +36,7 @@ use Rattle.device.proofs.check.recorder_check.Reads as recorder-check
 use Rattle.device.proofs.replay.recorder_replay.Reads as recorder-replay
 use Rattle.device.proofs.step.recorder_step.Reads as recorder-step
 use Rattle.device.proofs.write.recorder_write.Reads as recorder-write
+use Rattle.device.proofs.job.recorder_read_job.Reads as recorder-read-job
 
 pub check-for-host : (κs : Lfts 1) (a : _) (b c : _) (r : DeviceCheck) (q : Checked) → recorder-check.Post κs a r b → check.Post κs a q c → r ≡ checkSpelled q
 check-for-host κs a b c r q h k = h ∙ ap checkSpelled (sym k)
@@ -51,6 +56,10 @@ replay-for-host κs a b r c d q h k by book rows =
 pub write-for-host : (κs : Lfts 5) (a : _) (b c : _) (r : DeviceWrite) (q : Written) → recorder-write.Post κs a r b → write.Post κs a q c
     → (r ≡ writeSpelled (wroteWith q (now (c .1 .1 .1 .1 .0)))) × (now (b .1 .1 .1 .1 .0) ≡ now (c .1 .1 .1 .1 .0))
 write-for-host κs a b c r q h k = (h .0 ∙ ap writeSpelled (sym k), h .1 ∙ ap (λ (w : Wrote). w .bytes) (sym k))
+
+pub job-for-host : (κs : Lfts 2) (a : _) (b c : _) (r : DeviceJob) (q : Job) → recorder-read-job.Post κs a r b → read-job.Post κs a q c
+    → (r ≡ jobSpelled q) × (now (b .1 .0) ≡ now (c .1 .0))
+job-for-host κs a b c r q h k = (h .0 ∙ ap (λ (x : ReadInto). jobSpelled (x .answer)) (sym k), h .1 ∙ ap (λ (x : ReadInto). x .space) (sym k))
 
 module _ (number : ℕ) (p : Plan) (s : State) (kind id amount : ℕ) (r : DeviceStep)
     (h : recorder-step.Post tt (number, (p, (s, (kind, (id, (amount, tt)))))) r (number, (p, (s, (kind, (id, (amount, tt))))))) where

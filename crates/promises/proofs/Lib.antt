@@ -10,6 +10,7 @@ pub mod Replays
 pub mod Reading
 pub mod Device
 pub mod Writing
+pub mod Jobs
 mod Digits
 mod LinesRead
 mod ShownLines

@@ -13,9 +13,9 @@ use Rattle.rules.specs.Numbers.Place.{at}
 use Rattle.rules.proofs.Numbers.Choice.{if-true, if-false, and-true, untrue, by-test}
 use Rattle.page.specs.Decimal.{digits}
 use Rattle.texts.specs.Cut.{newline, return, space, hash, until, upTo, spacesOf, before, trimmed}
-use Rattle.texts.specs.Kind.{kindNamed, fieldsOf, mostOf, partOf, recordOf}
+use Rattle.texts.specs.Kind.{kindNamed, fieldsOf, mostOf, partOf, recordOf, hasItems}
 use Rattle.texts.specs.Number.{numberOf, valueOf, digital}
-use Rattle.texts.specs.Line.{withoutReturn, contentOf, wordLength, fieldOf, fieldLength, afterField, ended, withSecond, withFirst, namedLine, wordsLine, lineOf}
+use Rattle.texts.specs.Line.{withoutReturn, contentOf, wordLength, fieldOf, fieldLength, afterField, plainLine, ended, withSecond, withFirst, namedLine, wordsLine, lineOf}
 use Rattle.texts.specs.Lines.{longer, linesOf, readLines}
 use Rattle.texts.specs.declared.kind.Kind.{Kind}
 use Rattle.texts.specs.declared.kind.Named.{Named}
@@ -206,29 +206,34 @@ module _ (kind : Kind) (w : ℕ) (more : List ℕ) (not-so : fieldsOf kind ≤ w
   unfolding fieldLength
   no-after = ap (λ k. drop k more) (if-false (ltb w (fieldsOf kind)) _ _ (le-ltb w (fieldsOf kind) not-so))
 
-pub two-read : (kind : Kind) (a b : ℕ) → fieldsOf kind ≡ 2 → a ≤ mostOf kind 0 → b ≤ mostOf kind 1 → a < 65536 → b < 65536
+-- a record that is no job ends with its numbers
+nothing-more : (kind : Kind) (a b : ℕ) → hasItems kind ≡ false → ended kind a b [] ≡ Line.Record (partOf kind) (recordOf kind a b)
+unfolding ended plainLine
+nothing-more kind a b z = if-false (hasItems kind) _ _ z
+
+pub two-read : (kind : Kind) (a b : ℕ) → hasItems kind ≡ false → fieldsOf kind ≡ 2 → a ≤ mostOf kind 0 → b ≤ mostOf kind 1 → a < 65536 → b < 65536
     → namedLine (Named.Is kind) (digits a ++ space ∷ (digits b ++ space ∷ [])) ≡ Line.Record (partOf kind) (recordOf kind a b)
-unfolding namedLine withFirst withSecond ended
-two-read kind a b e ha hb sa sb =
+unfolding namedLine withFirst withSecond
+two-read kind a b z e ha hb sa sb =
     let more : List ℕ = digits b ++ space ∷ [] in
     ap (λ n. withFirst kind n (afterField kind 0 (digits a ++ space ∷ more))) (field-read kind 0 a more (omega (arith, e)) ha sa (digits-trim b (space ∷ [])))
     ∙ ap (λ r. withSecond kind a (fieldOf kind 1 r) (afterField kind 1 r)) (field-after kind 0 a more (omega (arith, e)) ha sa (digits-trim b (space ∷ [])))
     ∙ ap (λ n. withSecond kind a n (afterField kind 1 more)) (field-read kind 1 b [] (omega (arith, e)) hb sb nothing-trim)
-    ∙ ap (ended kind a b) (field-after kind 1 b [] (omega (arith, e)) hb sb nothing-trim)
+    ∙ ap (ended kind a b) (field-after kind 1 b [] (omega (arith, e)) hb sb nothing-trim) ∙ nothing-more kind a b z
 
-pub one-read : (kind : Kind) (a : ℕ) → fieldsOf kind ≡ 1 → a ≤ mostOf kind 0 → a < 65536
+pub one-read : (kind : Kind) (a : ℕ) → hasItems kind ≡ false → fieldsOf kind ≡ 1 → a ≤ mostOf kind 0 → a < 65536
     → namedLine (Named.Is kind) (digits a ++ space ∷ []) ≡ Line.Record (partOf kind) (recordOf kind a 0)
-unfolding namedLine withFirst withSecond ended
-one-read kind a e ha sa =
+unfolding namedLine withFirst withSecond
+one-read kind a z e ha sa =
     ap (λ n. withFirst kind n (afterField kind 0 (digits a ++ space ∷ []))) (field-read kind 0 a [] (omega (arith, e)) ha sa nothing-trim)
     ∙ ap (λ r. withSecond kind a (fieldOf kind 1 r) (afterField kind 1 r)) (field-after kind 0 a [] (omega (arith, e)) ha sa nothing-trim)
     ∙ ap (λ n. withSecond kind a n (afterField kind 1 [])) (no-field kind 1 [] (omega (arith, e)))
-    ∙ ap (ended kind a 0) (no-after kind 1 [] (omega (arith, e)))
+    ∙ ap (ended kind a 0) (no-after kind 1 [] (omega (arith, e))) ∙ nothing-more kind a 0 z
 
-pub none-read : (kind : Kind) → fieldsOf kind ≡ 0 → namedLine (Named.Is kind) [] ≡ Line.Record (partOf kind) (recordOf kind 0 0)
-unfolding namedLine withFirst withSecond ended
-none-read kind e =
+pub none-read : (kind : Kind) → hasItems kind ≡ false → fieldsOf kind ≡ 0 → namedLine (Named.Is kind) [] ≡ Line.Record (partOf kind) (recordOf kind 0 0)
+unfolding namedLine withFirst withSecond
+none-read kind z e =
     ap (λ n. withFirst kind n (afterField kind 0 [])) (no-field kind 0 [] (omega (arith, e)))
     ∙ ap (λ r. withSecond kind 0 (fieldOf kind 1 r) (afterField kind 1 r)) (no-after kind 0 [] (omega (arith, e)))
     ∙ ap (λ n. withSecond kind 0 n (afterField kind 1 [])) (no-field kind 1 [] (omega (arith, e)))
-    ∙ ap (ended kind 0 0) (no-after kind 1 [] (omega (arith, e)))
+    ∙ ap (ended kind 0 0) (no-after kind 1 [] (omega (arith, e))) ∙ nothing-more kind 0 0 z

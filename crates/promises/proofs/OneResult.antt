@@ -27,6 +27,7 @@ use Rattle.device.specs.declared.check.DeviceCheck.{DeviceCheck}
 use Rattle.device.specs.declared.step.DeviceStep.{DeviceStep}
 use Rattle.device.specs.declared.replay.DeviceReplay.{DeviceReplay}
 use Rattle.device.specs.declared.write.DeviceWrite.{DeviceWrite}
+use Rattle.device.specs.declared.job.DeviceJob.{DeviceJob}
 use Rattle.tournament.specs.Tree.{places, treeOf}
 use Rattle.tournament.specs.Keys.{tournamentOf}
 use Rattle.kernel.specs.Lent.{steppedAs}
@@ -35,6 +36,7 @@ use Rattle.scheduler.proofs.replay.Reads as replay
 use Rattle.report.proofs.report.Reads as report
 use Rattle.book.proofs.writer.write.Reads as write
 use Rattle.device.proofs.write.recorder_write.Reads as recorder-write
+use Rattle.device.proofs.job.recorder_read_job.Reads as recorder-read-job
 use Rattle.device.proofs.replay.recorder_replay.Reads as recorder-replay
 use Rattle.kernel.proofs.act.act.Reads as act
 use Rattle.rules.proofs.refusal.number.Reads as number
@@ -336,6 +338,10 @@ one-write κs a b c r q h k = same-written r q _ _ _ h k
 pub one-recorder-write : (κs : Lfts 5) (a : _) (b c : _) (r q : DeviceWrite) → recorder-write.Post κs a r b → recorder-write.Post κs a q c
     → (r ≡ q) × (now (b .1 .1 .1 .1 .0) ≡ now (c .1 .1 .1 .1 .0))
 one-recorder-write κs a b c r q h k = (h .0 ∙ sym (k .0), h .1 ∙ sym (k .1))
+
+pub one-recorder-read-job : (κs : Lfts 2) (a : _) (b c : _) (r q : DeviceJob) → recorder-read-job.Post κs a r b → recorder-read-job.Post κs a q c
+    → (r ≡ q) × (now (b .1 .0) ≡ now (c .1 .0))
+one-recorder-read-job κs a b c r q h k = (h .0 ∙ sym (k .0), h .1 ∙ sym (k .1))
 
 pub one-report : (κs : Lfts 3) (a : _) (b c : _) (r q : ℕ) → report.Post κs a r b → report.Post κs a q c → (r ≡ q) × (now (b .0) ≡ now (c .0))
 one-report κs a b c r q h k = (h .1 ∙ sym (k .1), h .0 ∙ sym (k .0))

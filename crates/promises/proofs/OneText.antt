@@ -1,4 +1,4 @@
--- Of every function that another crate can call for texts and their words: any two results that its contract allows for the same arguments are equal. a are
+-- Of every function that another crate can call for texts, jobs and their words: any two results that its contract allows for the same arguments are equal. a are
 -- the arguments, b and c what is lent as it was left. Assumes nothing.
 use mathlib.Core.Path.{_≡_, sym, _∙_, ap}
 use mathlib.Core.Bool.{Bool}
@@ -9,6 +9,8 @@ use denote.Ref.{now}
 use Rattle.rules.specs.declared.event.Event.{Event}
 use Rattle.page.specs.Page.{Page, page}
 use Rattle.book.specs.declared.look.Entry.{Entry}
+use Rattle.jobs.specs.Job.{ReadInto, readWith}
+use Rattle.jobs.specs.declared.Job.{Job}
 use Rattle.texts.specs.declared.kind.Named.{Named}
 use Rattle.texts.specs.declared.number.Number.{Number}
 use Rattle.texts.specs.declared.line.Line.{Line}
@@ -53,13 +55,20 @@ use Rattle.book.proofs.look.event.Reads as book-event
 use Rattle.plan.proofs.count.most_of.Reads as most-of
 use Rattle.texts.proofs.word.find.Reads as find
 use Rattle.texts.proofs.word.spaces.Reads as spaces
+use Rattle.texts.proofs.word.without_spaces.Reads as without-spaces
 use Rattle.texts.proofs.word.same.Reads as same
 use Rattle.texts.proofs.kind.kind_named.Reads as kind-named
 use Rattle.texts.proofs.kind.fields.Reads as fields
 use Rattle.texts.proofs.kind.most.Reads as most
 use Rattle.texts.proofs.kind.part.Reads as part
+use Rattle.texts.proofs.kind.has_items.Reads as has-items
 use Rattle.texts.proofs.number.read_number.Reads as read-number
 use Rattle.texts.proofs.line.line_of.Reads as line-of
+use Rattle.texts.proofs.line.items.Reads as items
+use Rattle.jobs.proofs.check_job.Reads as check-job
+use Rattle.jobs.proofs.read_job.Reads as read-job
+use Rattle.jobs.proofs.space.store.Reads as store
+use Rattle.jobs.proofs.space.record_at.Reads as record-at
 use Rattle.texts.proofs.lines.first_wrong.Reads as first-wrong
 use Rattle.texts.proofs.lines.line_of_record.Reads as line-of-record
 use Rattle.wording.proofs.mistake.number_of.Reads as said-number-of
@@ -115,6 +124,9 @@ one-find κs a b c r q h k = h .0 ∙ sym (k .0)
 pub one-spaces : (κs : Lfts 1) (a : _) (b c : _) (r q : ℕ) → spaces.Post κs a r b → spaces.Post κs a q c → r ≡ q
 one-spaces κs a b c r q h k = h .0 ∙ sym (k .0)
 
+pub one-without-spaces : (κs : Lfts 1) (a : _) (b c : _) (r q : ℕ) → without-spaces.Post κs a r b → without-spaces.Post κs a q c → r ≡ q
+one-without-spaces κs a b c r q h k = h .0 ∙ sym (k .0)
+
 pub one-same : (κs : Lfts 2) (a : _) (b c : _) (r q : Bool) → same.Post κs a r b → same.Post κs a q c → r ≡ q
 one-same κs a b c r q h k = h ∙ sym k
 
@@ -130,11 +142,17 @@ one-most a b c r q h k = h .0 ∙ sym (k .0)
 pub one-part : (a : _) (b c : _) (r q : ℕ) → part.Post tt a r b → part.Post tt a q c → r ≡ q
 one-part a b c r q h k = h ∙ sym k
 
+pub one-has-items : (a : _) (b c : _) (r q : Bool) → has-items.Post tt a r b → has-items.Post tt a q c → r ≡ q
+one-has-items a b c r q h k = h ∙ sym k
+
 pub one-read-number : (κs : Lfts 1) (a : _) (b c : _) (r q : Number) → read-number.Post κs a r b → read-number.Post κs a q c → r ≡ q
 one-read-number κs a b c r q h k = h ∙ sym k
 
 pub one-line-of : (κs : Lfts 1) (a : _) (b c : _) (r q : Line) → line-of.Post κs a r b → line-of.Post κs a q c → r ≡ q
 one-line-of κs a b c r q h k = h ∙ sym k
+
+pub one-items : (κs : Lfts 1) (a : _) (b c : _) (r q : _) → items.Post κs a r b → items.Post κs a q c → now r ≡ now q
+one-items κs a b c r q h k = h ∙ sym k
 
 pub one-first-wrong : (κs : Lfts 1) (a : _) (b c : _) (r q : First) → first-wrong.Post κs a r b → first-wrong.Post κs a q c → r ≡ q
 one-first-wrong κs a b c r q h k = h ∙ sym k
@@ -144,6 +162,23 @@ one-line-of-record κs a b c r q h k = h ∙ sym k
 
 pub one-said-number-of : (a : _) (b c : _) (r q : ℕ) → said-number-of.Post tt a r b → said-number-of.Post tt a q c → r ≡ q
 one-said-number-of a b c r q h k = h ∙ sym k
+
+-- ---- jobs
+
+pub one-check-job : (κs : Lfts 1) (a : _) (b c : _) (r q : Job) → check-job.Post κs a r b → check-job.Post κs a q c → r ≡ q
+one-check-job κs a b c r q h k = h .0 ∙ sym (k .0)
+
+same-read : (r q : Job) (x y : List ℕ) (read : ReadInto) → readWith r x ≡ read → readWith q y ≡ read → (r ≡ q) × (x ≡ y)
+same-read r q x y read h k = (ap (λ (i : ReadInto). i .answer) (h ∙ sym k), ap (λ (i : ReadInto). i .space) (h ∙ sym k))
+
+pub one-read-job : (κs : Lfts 2) (a : _) (b c : _) (r q : Job) → read-job.Post κs a r b → read-job.Post κs a q c → (r ≡ q) × (now (b .1 .0) ≡ now (c .1 .0))
+one-read-job κs a b c r q h k = same-read r q _ _ _ h k
+
+pub one-store : (κs : Lfts 1) (a : _) (b c : _) (r q : _) → store.Post κs a r b → store.Post κs a q c → now (b .0) ≡ now (c .0)
+one-store κs a b c r q h k = h ∙ sym k
+
+pub one-record-at : (κs : Lfts 1) (a : _) (b c : _) (r q : ℕ) → record-at.Post κs a r b → record-at.Post κs a q c → r ≡ q
+one-record-at κs a b c r q h k = h ∙ sym k
 
 -- ---- words put on a page
 

@@ -1,7 +1,7 @@
 -- RULES 19.10: reading what `show` writes gives the same records, for every accepted book, and composing it the same bytes. Assumes nothing.
 use mathlib.Core.Path.{_≡_, refl, sym, _∙_, ap}
 use mathlib.Core.Bool.{Bool, true, false, not, _&&_, _||_}
-use mathlib.Core.List.{List, [], _∷_, _++_, append-assoc, append-nil}
+use mathlib.Core.List.{List, [], _∷_, _++_, map, append-assoc, append-nil}
 use Prim.Native.Nat.{ℕ, zero, suc, _+_, _*_, _-_, _≤_, _<_}
 use native.Mathlib.Omega.{arith}
 use lib.Dec.{eqb, leb, ltb}
@@ -21,7 +21,7 @@ use Rattle.rules.specs.Demands.Written.{WrittenBack}
 use Rattle.rules.specs.declared.answer.Verdict.{Verdict}
 use Rattle.rules.specs.declared.protocol.Protocol.the-variants.{Second}
 use Rattle.rules.specs.declared.refusal.Refusal.the-variants.{ShortBook, WrongLayout, WrongLock, WrongEvent}
-use Rattle.rules.proofs.Numbers.Choice.{if-true, if-false, or-false, and-true, true-and}
+use Rattle.rules.proofs.Numbers.Choice.{if-true, if-false, or-false, and-true, true-and, untrue}
 use Rattle.rules.proofs.Numbers.Checks.{clean-for, none-refused-at}
 use Rattle.rules.proofs.Numbers.Place.{getD-tabulate, length-from, from-same}
 use Rattle.rules.proofs.Books.Passes.{passed-contents}
@@ -29,6 +29,7 @@ use Rattle.rules.proofs.Demands.Written.{writing}
 use Rattle.page.specs.Ascii.{ascii}
 use Rattle.page.specs.Says.{filled}
 use Rattle.texts.specs.Cut.{hash}
+use Rattle.texts.specs.Line.{lineOf, itemsOf}
 use Rattle.texts.specs.Lines.{linesOf, readLines, ofPart, recordsOf, isWrong, firstWrong}
 use Rattle.texts.specs.declared.line.Line.{Line}
 use Rattle.texts.specs.declared.lines.First.{First}
@@ -59,31 +60,75 @@ part-reads head f part v n E h = reads-two (hash ∷ head) (each f n) (Line.Blan
 
 -- ---- what is collected of them
 
-records-two : (part : ℕ) (ls ms : List Line) → recordsOf part (ls ++ ms) ≡ recordsOf part ls ++ recordsOf part ms
-unfolding recordsOf
+-- lines without a job
+unfoldable plain : Line → Bool
+plain Line.Blank = true
+plain (Line.Record p w) = true
+plain (Line.Job w n) = false
+plain Line.Unknown = true
+plain (Line.Wrong kind word m) = true
+plain (Line.Refused why place) = true
+
+unfoldable plains : List Line → Bool
+plains [] = true
+plains (l ∷ ls) = plain l && plains ls
+
+-- their records need no items
+unfoldable collect : ℕ → List Line → List ℕ
+collect part [] = []
+collect part (l ∷ ls) = ofPart part l [] ++ collect part ls
+
+plain-part : (part : ℕ) (l : Line) (items : List ℕ) → plain l ≡ true → ofPart part l items ≡ ofPart part l []
+unfolding ofPart plain
+plain-part part Line.Blank items h = refl
+plain-part part (Line.Record p w) items h = refl
+plain-part part (Line.Job w n) items h = untrue (sym h)
+plain-part part Line.Unknown items h = refl
+plain-part part (Line.Wrong kind word m) items h = refl
+plain-part part (Line.Refused why place) items h = refl
+
+plain-records : (part : ℕ) (lines : List (List ℕ)) → plains (map lineOf lines) ≡ true → recordsOf part lines ≡ collect part (map lineOf lines)
+unfolding recordsOf collect plains
+plain-records part [] h = refl
+plain-records part (l ∷ ls) h =
+    let (a, b) = and-true (plain (lineOf l)) (plains (map lineOf ls)) h in
+    ap (λ x. x ++ recordsOf part ls) (plain-part part (lineOf l) (itemsOf l) a) ∙ ap (λ x. ofPart part (lineOf l) [] ++ x) (plain-records part ls b)
+
+plains-two : (ls ms : List Line) → plains ls ≡ true → plains ms ≡ true → plains (ls ++ ms) ≡ true
+unfolding plains
+plains-two [] ms h g = g
+plains-two (l ∷ ls) ms h g = let (a, b) = and-true (plain l) (plains ls) h in true-and (plain l) (plains (ls ++ ms)) a (plains-two ls ms b g)
+
+plains-rows : (part : ℕ) (v : ℕ → ℕ) (n : ℕ) → plains (rows part v n) ≡ true
+unfolding plains plain rows
+plains-rows part v zero = refl
+plains-rows part v (suc k) = plains-two (rows part v k) (Line.Record part (v k) ∷ []) (plains-rows part v k) refl
+
+records-two : (part : ℕ) (ls ms : List Line) → collect part (ls ++ ms) ≡ collect part ls ++ collect part ms
+unfolding collect
 records-two part [] ms = refl
-records-two part (l ∷ ls) ms = ap (λ x. ofPart part l ++ x) (records-two part ls ms) ∙ sym (append-assoc (ofPart part l) (recordsOf part ls) (recordsOf part ms))
+records-two part (l ∷ ls) ms = ap (λ x. ofPart part l [] ++ x) (records-two part ls ms) ∙ sym (append-assoc (ofPart part l []) (collect part ls) (collect part ms))
 
 -- the values, one after the other
 unfoldable values : (ℕ → ℕ) → ℕ → List ℕ
 values v zero = []
 values v (suc k) = values v k ++ v k ∷ []
 
-own-part : (part : ℕ) (v : ℕ → ℕ) (n : ℕ) → recordsOf part (rows part v n) ≡ values v n
-unfolding recordsOf rows values ofPart
+own-part : (part : ℕ) (v : ℕ → ℕ) (n : ℕ) → collect part (rows part v n) ≡ values v n
+unfolding collect rows values ofPart
 own-part part v zero = refl
 own-part part v (suc k) =
     records-two part (rows part v k) (Line.Record part (v k) ∷ [])
-    ∙ ap (λ x. recordsOf part (rows part v k) ++ x) (append-nil (ofPart part (Line.Record part (v k))) ∙ if-true (eqb part part) (v k ∷ []) [] (eq-eqb part part refl))
+    ∙ ap (λ x. collect part (rows part v k) ++ x) (append-nil (ofPart part (Line.Record part (v k)) []) ∙ if-true (eqb part part) (v k ∷ []) [] (eq-eqb part part refl))
     ∙ ap (λ x. x ++ v k ∷ []) (own-part part v k)
 
-other-part : (part q : ℕ) (v : ℕ → ℕ) (n : ℕ) → (q ≡ part → ⊥) → recordsOf part (rows q v n) ≡ []
-unfolding recordsOf rows ofPart
+other-part : (part q : ℕ) (v : ℕ → ℕ) (n : ℕ) → (q ≡ part → ⊥) → collect part (rows q v n) ≡ []
+unfolding collect rows ofPart
 other-part part q v zero d = refl
 other-part part q v (suc k) d =
     records-two part (rows q v k) (Line.Record q (v k) ∷ [])
-    ∙ ap (λ x. recordsOf part (rows q v k) ++ x) (append-nil (ofPart part (Line.Record q (v k))) ∙ if-false (eqb q part) (v k ∷ []) [] (ne-eqb q part d))
-    ∙ append-nil (recordsOf part (rows q v k)) ∙ other-part part q v k d
+    ∙ ap (λ x. collect part (rows q v k) ++ x) (append-nil (ofPart part (Line.Record q (v k)) []) ∙ if-false (eqb q part) (v k ∷ []) [] (ne-eqb q part d))
+    ∙ append-nil (collect part (rows q v k)) ∙ other-part part q v k d
 
 -- values from place i on, and those of a table
 from-last : (v : ℕ → ℕ) (i n : ℕ) → from v i (suc n) ≡ from v i n ++ v (i + n) ∷ []
@@ -134,27 +179,33 @@ module _ (t l u e : ℕ → ℕ) (n m k j : ℕ) where
       (rights-two (Line.Blank ∷ rows 0 t n) (Line.Blank ∷ rows 1 l m) (rights-rows 0 t n) (rights-rows 1 l m))
       (rights-two (Line.Blank ∷ rows 2 u k) (Line.Blank ∷ rows 3 e j) (rights-rows 2 u k) (rights-rows 3 e j))
 
-  collected : (part : ℕ) → recordsOf part shown
-      ≡ (recordsOf part (rows 0 t n) ++ recordsOf part (rows 1 l m)) ++ (recordsOf part (rows 2 u k) ++ recordsOf part (rows 3 e j))
-  unfolding recordsOf ofPart
+  shown-plain : plains shown ≡ true
+  unfolding plains plain
+  shown-plain = plains-two ((Line.Blank ∷ rows 0 t n) ++ (Line.Blank ∷ rows 1 l m)) ((Line.Blank ∷ rows 2 u k) ++ (Line.Blank ∷ rows 3 e j))
+      (plains-two (Line.Blank ∷ rows 0 t n) (Line.Blank ∷ rows 1 l m) (plains-rows 0 t n) (plains-rows 1 l m))
+      (plains-two (Line.Blank ∷ rows 2 u k) (Line.Blank ∷ rows 3 e j) (plains-rows 2 u k) (plains-rows 3 e j))
+
+  collected : (part : ℕ) → collect part shown
+      ≡ (collect part (rows 0 t n) ++ collect part (rows 1 l m)) ++ (collect part (rows 2 u k) ++ collect part (rows 3 e j))
+  unfolding collect ofPart
   collected part =
       records-two part ((Line.Blank ∷ rows 0 t n) ++ (Line.Blank ∷ rows 1 l m)) ((Line.Blank ∷ rows 2 u k) ++ (Line.Blank ∷ rows 3 e j))
-      ∙ ap (λ x. x ++ recordsOf part ((Line.Blank ∷ rows 2 u k) ++ (Line.Blank ∷ rows 3 e j))) (records-two part (Line.Blank ∷ rows 0 t n) (Line.Blank ∷ rows 1 l m))
-      ∙ ap (λ x. (recordsOf part (rows 0 t n) ++ recordsOf part (rows 1 l m)) ++ x) (records-two part (Line.Blank ∷ rows 2 u k) (Line.Blank ∷ rows 3 e j))
+      ∙ ap (λ x. x ++ collect part ((Line.Blank ∷ rows 2 u k) ++ (Line.Blank ∷ rows 3 e j))) (records-two part (Line.Blank ∷ rows 0 t n) (Line.Blank ∷ rows 1 l m))
+      ∙ ap (λ x. (collect part (rows 0 t n) ++ collect part (rows 1 l m)) ++ x) (records-two part (Line.Blank ∷ rows 2 u k) (Line.Blank ∷ rows 3 e j))
 
-  tasks-back : recordsOf 0 shown ≡ tabulate n t
+  tasks-back : collect 0 shown ≡ tabulate n t
   tasks-back = collected 0 ∙ rw (own-part 0 t n, other-part 0 1 l m (λ d. omega (arith, d)), other-part 0 2 u k (λ d. omega (arith, d)), other-part 0 3 e j (λ d. omega (arith, d)))
       (append-nil (values t n ++ []) ∙ append-nil (values t n) ∙ values-table t n)
 
-  locks-back : recordsOf 1 shown ≡ tabulate m l
+  locks-back : collect 1 shown ≡ tabulate m l
   locks-back = collected 1 ∙ rw (own-part 1 l m, other-part 1 0 t n (λ d. omega (arith, d)), other-part 1 2 u k (λ d. omega (arith, d)), other-part 1 3 e j (λ d. omega (arith, d)))
       (append-nil (values l m) ∙ values-table l m)
 
-  uses-back : recordsOf 2 shown ≡ tabulate k u
+  uses-back : collect 2 shown ≡ tabulate k u
   uses-back = collected 2 ∙ rw (own-part 2 u k, other-part 2 0 t n (λ d. omega (arith, d)), other-part 2 1 l m (λ d. omega (arith, d)), other-part 2 3 e j (λ d. omega (arith, d)))
       (append-nil (values u k) ∙ values-table u k)
 
-  events-back : recordsOf 3 shown ≡ tabulate j e
+  events-back : collect 3 shown ≡ tabulate j e
   events-back = collected 3 ∙ rw (own-part 3 e j, other-part 3 0 t n (λ d. omega (arith, d)), other-part 3 1 l m (λ d. omega (arith, d)), other-part 3 2 u k (λ d. omega (arith, d)))
       (values-table e j)
 
@@ -309,22 +360,27 @@ module _ (b : List ℕ) (passed : checkOf b rowSpace ≡ Verdict.Passed) where
     read-right = ap (firstWrong 0) text-lines
         ∙ rights-none said 0 (shown-right (taskIn b) (lockIn b) (useIn b) (eventIn b) (countAt b 0) (countAt b 1) (countAt b 2) (countAt b 3))
 
-    pub read-tasks : recordsOf 0 (readLines (shownOf b)) ≡ tasksOf b
-    read-tasks = ap (recordsOf 0) text-lines
+    all-plain : (part : ℕ) → recordsOf part (linesOf (shownOf b)) ≡ collect part said
+    all-plain part = plain-records part (linesOf (shownOf b))
+        (ap plains text-lines ∙ shown-plain (taskIn b) (lockIn b) (useIn b) (eventIn b) (countAt b 0) (countAt b 1) (countAt b 2) (countAt b 3))
+        ∙ ap (collect part) text-lines
+
+    pub read-tasks : recordsOf 0 (linesOf (shownOf b)) ≡ tasksOf b
+    read-tasks = all-plain 0
         ∙ tasks-back (taskIn b) (lockIn b) (useIn b) (eventIn b) (countAt b 0) (countAt b 1) (countAt b 2) (countAt b 3)
         ∙ from-same (taskIn b) (λ i. word b (bodyAt b 0 + i * 2)) 0 (countAt b 0) (λ k _ l. task-is k (omega arith))
 
-    pub read-locks : recordsOf 1 (readLines (shownOf b)) ≡ locksOf b
-    read-locks = ap (recordsOf 1) text-lines
+    pub read-locks : recordsOf 1 (linesOf (shownOf b)) ≡ locksOf b
+    read-locks = all-plain 1
         ∙ locks-back (taskIn b) (lockIn b) (useIn b) (eventIn b) (countAt b 0) (countAt b 1) (countAt b 2) (countAt b 3)
         ∙ from-same (lockIn b) (λ i. long b (bodyAt b 1 + i * 4)) 0 (countAt b 1) (λ k _ l. lock-is k (omega arith))
 
-    pub read-uses : recordsOf 2 (readLines (shownOf b)) ≡ usesOf b
-    read-uses = ap (recordsOf 2) text-lines
+    pub read-uses : recordsOf 2 (linesOf (shownOf b)) ≡ usesOf b
+    read-uses = all-plain 2
         ∙ uses-back (taskIn b) (lockIn b) (useIn b) (eventIn b) (countAt b 0) (countAt b 1) (countAt b 2) (countAt b 3)
         ∙ from-same (useIn b) (λ i. word b (bodyAt b 2 + i * 2)) 0 (countAt b 2) (λ k _ l. use-is k (omega arith))
 
-    pub read-events : recordsOf 3 (readLines (shownOf b)) ≡ eventNumbersOf b
-    read-events = ap (recordsOf 3) text-lines
+    pub read-events : recordsOf 3 (linesOf (shownOf b)) ≡ eventNumbersOf b
+    read-events = all-plain 3
         ∙ events-back (taskIn b) (lockIn b) (useIn b) (eventIn b) (countAt b 0) (countAt b 1) (countAt b 2) (countAt b 3)
         ∙ from-same (eventIn b) (λ i. long b (bodyAt b 3 + i * 4)) 0 (countAt b 3) (λ k _ l. event-is k (omega arith))

@@ -159,6 +159,8 @@ meaning-long Refusal.PastLimit = omega arith
 meaning-long Refusal.StillOpen = omega arith
 meaning-long Refusal.ShortBuffer = omega arith
 meaning-long Refusal.AboveMaximum = omega arith
+meaning-long Refusal.WrongJob = omega arith
+meaning-long Refusal.ShortSpace = omega arith
 
 refused-head-long : (n r : ℕ) → n < 100000 → r < 100000 → length (filled (ascii " # event @: refused @: ") (n ∷ r ∷ [])) ≤ 31
 unfolding ascii spaceFor if_then_else_

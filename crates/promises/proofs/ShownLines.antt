@@ -21,7 +21,7 @@ use Rattle.page.specs.Ascii.{ascii}
 use Rattle.page.specs.Decimal.{digits}
 use Rattle.page.specs.Says.{mark, filled}
 use Rattle.texts.specs.Cut.{newline, space, hash, same, until, spacesOf}
-use Rattle.texts.specs.Kind.{eventNamed, kindNamed, fieldsOf, mostOf, partOf, recordOf}
+use Rattle.texts.specs.Kind.{eventNamed, kindNamed, fieldsOf, mostOf, partOf, recordOf, hasItems}
 use Rattle.texts.specs.Line.{namedLine}
 use Rattle.texts.specs.Lines.{readLines}
 use Rattle.texts.specs.declared.kind.Kind.{Kind}
@@ -112,13 +112,14 @@ reads-comment t E rest =
     let q : all quiet (hash ∷ E .front) ≡ true = all-cons quiet hash (E .front) refl (E .still) in
     ap (λ x. readLines ((hash ∷ x) ++ rest)) (E .shape) ∙ reads-line (hash ∷ E .front) q rest ∙ ap (λ l. l ∷ readLines rest) (comment-blank (E .front) q)
 
--- a name that a record has
+-- a name that a record has, which is no job
 pub record Name (name : List ℕ) (kind : Kind) : Type 0 where
   pub is : kindNamed name ≡ Named.Is kind
   pub some : 0 < length name
   pub still : all quiet name ≡ true
   pub bares : all bare name ≡ true
   pub solids : all solid name ≡ true
+  pub alone : hasItems kind ≡ false
 
 module _ (name : List ℕ) (kind : Kind) (N : Name name kind) (t : List ℕ) (E : Ends t) where
   -- a line with the bytes xs between its name and its comment
@@ -135,7 +136,7 @@ module _ (name : List ℕ) (kind : Kind) (N : Name name kind) (t : List ℕ) (E 
   unfolding all
   reads-two-numbers a b f ha hb sa sb rest =
       ap (λ x. readLines (x ++ rest)) (ap (λ x. name ++ space ∷ x) form ∙ sym (append-assoc name (space ∷ (xs ++ hash ∷ E .front)) (newline ∷ [])))
-      ∙ shaped xs (Line.Record (partOf kind) (recordOf kind a b)) quiets bares (digits-trim a (space ∷ (digits b ++ space ∷ []))) (two-read kind a b f ha hb sa sb) rest
+      ∙ shaped xs (Line.Record (partOf kind) (recordOf kind a b)) quiets bares (digits-trim a (space ∷ (digits b ++ space ∷ []))) (two-read kind a b (N .alone) f ha hb sa sb) rest
     where
       xs : List ℕ
       xs = digits a ++ space ∷ (digits b ++ space ∷ [])
@@ -159,7 +160,7 @@ module _ (name : List ℕ) (kind : Kind) (N : Name name kind) (t : List ℕ) (E 
   unfolding all
   reads-one-number a f ha sa rest =
       ap (λ x. readLines (x ++ rest)) (ap (λ x. name ++ space ∷ x) form ∙ sym (append-assoc name (space ∷ (xs ++ hash ∷ E .front)) (newline ∷ [])))
-      ∙ shaped xs (Line.Record (partOf kind) (recordOf kind a 0)) quiets bares (digits-trim a (space ∷ [])) (one-read kind a f ha sa) rest
+      ∙ shaped xs (Line.Record (partOf kind) (recordOf kind a 0)) quiets bares (digits-trim a (space ∷ [])) (one-read kind a (N .alone) f ha sa) rest
     where
       xs : List ℕ
       xs = digits a ++ space ∷ []
@@ -179,45 +180,45 @@ module _ (name : List ℕ) (kind : Kind) (N : Name name kind) (t : List ℕ) (E 
   unfolding all spacesOf until
   reads-no-number f rest =
       ap (λ x. readLines (x ++ rest)) (ap (λ y. name ++ space ∷ hash ∷ y) (E .shape) ∙ sym (append-assoc name (space ∷ hash ∷ E .front) (newline ∷ [])))
-      ∙ shaped [] (Line.Record (partOf kind) (recordOf kind 0 0)) refl refl refl (none-read kind f) rest
+      ∙ shaped [] (Line.Record (partOf kind) (recordOf kind 0 0)) refl refl refl (none-read kind (N .alone) f) rest
 
 -- ---- the names
 
 task-name : Name (ascii "task") Kind.Task
-unfolding ascii kindNamed same if_then_else_ all
-task-name = record { is = refl; some = omega arith; still = refl; bares = refl; solids = refl }
+unfolding ascii kindNamed same if_then_else_ all hasItems
+task-name = record { is = refl; some = omega arith; still = refl; bares = refl; solids = refl; alone = refl }
 
 lock-name : Name (ascii "lock") Kind.Lock
-unfolding ascii kindNamed same if_then_else_ all
-lock-name = record { is = refl; some = omega arith; still = refl; bares = refl; solids = refl }
+unfolding ascii kindNamed same if_then_else_ all hasItems
+lock-name = record { is = refl; some = omega arith; still = refl; bares = refl; solids = refl; alone = refl }
 
 use-name : Name (ascii "use") Kind.Use
-unfolding ascii kindNamed same if_then_else_ all
-use-name = record { is = refl; some = omega arith; still = refl; bares = refl; solids = refl }
+unfolding ascii kindNamed same if_then_else_ all hasItems
+use-name = record { is = refl; some = omega arith; still = refl; bares = refl; solids = refl; alone = refl }
 
 release-name : Name (ascii "release") Kind.Release
-unfolding ascii kindNamed eventNamed same if_then_else_ all
-release-name = record { is = refl; some = omega arith; still = refl; bares = refl; solids = refl }
+unfolding ascii kindNamed eventNamed same if_then_else_ all hasItems
+release-name = record { is = refl; some = omega arith; still = refl; bares = refl; solids = refl; alone = refl }
 
 acquire-name : Name (ascii "acquire") Kind.Acquire
-unfolding ascii kindNamed eventNamed same if_then_else_ all
-acquire-name = record { is = refl; some = omega arith; still = refl; bares = refl; solids = refl }
+unfolding ascii kindNamed eventNamed same if_then_else_ all hasItems
+acquire-name = record { is = refl; some = omega arith; still = refl; bares = refl; solids = refl; alone = refl }
 
 unlock-name : Name (ascii "unlock") Kind.Unlock
-unfolding ascii kindNamed eventNamed same if_then_else_ all
-unlock-name = record { is = refl; some = omega arith; still = refl; bares = refl; solids = refl }
+unfolding ascii kindNamed eventNamed same if_then_else_ all hasItems
+unlock-name = record { is = refl; some = omega arith; still = refl; bares = refl; solids = refl; alone = refl }
 
 work-name : Name (ascii "work") Kind.Work
-unfolding ascii kindNamed eventNamed same if_then_else_ all
-work-name = record { is = refl; some = omega arith; still = refl; bares = refl; solids = refl }
+unfolding ascii kindNamed eventNamed same if_then_else_ all hasItems
+work-name = record { is = refl; some = omega arith; still = refl; bares = refl; solids = refl; alone = refl }
 
 finish-name : Name (ascii "finish") Kind.Finish
-unfolding ascii kindNamed eventNamed same if_then_else_ all
-finish-name = record { is = refl; some = omega arith; still = refl; bares = refl; solids = refl }
+unfolding ascii kindNamed eventNamed same if_then_else_ all hasItems
+finish-name = record { is = refl; some = omega arith; still = refl; bares = refl; solids = refl; alone = refl }
 
 tick-name : Name (ascii "tick") Kind.Tick
-unfolding ascii kindNamed eventNamed same if_then_else_ all
-tick-name = record { is = refl; some = omega arith; still = refl; bares = refl; solids = refl }
+unfolding ascii kindNamed eventNamed same if_then_else_ all hasItems
+tick-name = record { is = refl; some = omega arith; still = refl; bares = refl; solids = refl; alone = refl }
 
 -- ---- tasks, locks and uses
 
@@ -375,6 +376,8 @@ meaning-quiet Refusal.PastLimit = refl
 meaning-quiet Refusal.StillOpen = refl
 meaning-quiet Refusal.ShortBuffer = refl
 meaning-quiet Refusal.AboveMaximum = refl
+meaning-quiet Refusal.WrongJob = refl
+meaning-quiet Refusal.ShortSpace = refl
 
 refused-so : (n : ℕ) (why : Refusal) → Comment (refusedComment n why)
 unfolding refusedComment ascii all

@@ -1,10 +1,10 @@
 /* The recorder's library: target/staticlib/libdevice.a, as `rt staticlib device` writes it for x86-64 Linux.
  *
  * A slice is passed as its address and its length in elements. An address is never null, also where the length is 0;
- * the library keeps none of them after it returns. Rows and a buffer overlap nothing else that is passed.
+ * the library keeps none of them after it returns. Rows, a buffer and event space overlap nothing else that is passed.
  * A plan and a state are passed and returned by value: the library keeps nothing between two calls.
  * No function fails otherwise than by the number that it returns, whatever it is handed. docs/RULES.md has the numbers,
- * 1 to 24 without 16, in its section 5, and what each function takes and answers in its section 16. */
+ * 1 to 26 without 16, in its section 5, and what each function takes and answers in its section 16. */
 #ifndef RECORDER_H
 #define RECORDER_H
 
@@ -103,6 +103,13 @@ struct recorder_write {
     size_t length;  /* the book's; 0 beside a refusal */
 };
 
+/* What the reading of a job answers. */
+struct recorder_job {
+    uint8_t number; /* the refusal: 25 or 26; 0 where nothing is refused */
+    size_t place;   /* of 25: the first byte of the text with which no job goes on, or the text's length */
+    size_t events;  /* how many events the job has; 0 beside a refusal */
+};
+
 /* The kinds of event, and what each is about. */
 #define RECORDER_RELEASE 1 /* id: a task */
 #define RECORDER_ACQUIRE 2 /* id: a lock */
@@ -146,6 +153,12 @@ struct recorder_step recorder_step(uint8_t protocol, struct recorder_plan plan, 
  * on: who runs after it, the user word, the second word, and whether it was a lazy call, as 1 or 0. No other row byte
  * changes. */
 struct recorder_replay recorder_replay(uint8_t protocol, const uint8_t *book, size_t length, uint8_t *rows, size_t room);
+
+/* Reads the text of a job, such as `w2 [0 w1 [1 w2] w1]`: work of 2 units, a section of lock 0, in it a section of lock 1, and
+ * a finish. Its events stand at the start of a space of `room` bytes then, four bytes each: kind, id, and the amount's low
+ * and high byte. A text that is no job's is refused by 25, and then too little space by 26; where something is refused no
+ * byte of the space changes, else none after the events. 2 * length + 6 bytes are always enough. */
+struct recorder_job recorder_read_job(const uint8_t *text, size_t length, uint8_t *space, size_t room);
 
 /* The bound on the delay of a task of the book's plan; 0 for any other task, and for a book that is refused. */
 uint16_t recorder_bound(const uint8_t *book, size_t length, size_t task);

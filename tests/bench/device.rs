@@ -67,6 +67,14 @@ pub struct Write {
     pub length: usize,
 }
 
+#[repr(C)]
+#[derive(Clone, Copy)]
+pub struct Job {
+    pub number: u8,
+    pub place: usize,
+    pub events: usize,
+}
+
 extern "C" {
     fn recorder_check(book: *const u8, length: usize, room: usize) -> Check;
     fn recorder_write(
@@ -81,6 +89,7 @@ extern "C" {
         buffer: *mut u8,
         room: usize,
     ) -> Write;
+    fn recorder_read_job(text: *const u8, length: usize, space: *mut u8, room: usize) -> Job;
     fn recorder_fresh() -> State;
     fn recorder_step(protocol: u8, plan: Plan, state: State, kind: u8, id: u8, amount: u16)
         -> Step;
@@ -142,6 +151,11 @@ pub fn write(records: &Records, buffer: &mut [u8]) -> Write {
             buffer.len(),
         )
     }
+}
+
+pub fn read_job(text: &[u8], space: &mut [u8]) -> Job {
+    // It reads the text, and writes no byte outside of the space.
+    unsafe { recorder_read_job(text.as_ptr(), text.len(), space.as_mut_ptr(), space.len()) }
 }
 
 pub fn fresh() -> State {

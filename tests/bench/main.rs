@@ -11,7 +11,9 @@
 //! with 1. Times only inform.
 
 mod device;
+mod jobs;
 mod ordinary;
+mod ordinary_job;
 mod ordinary_step;
 mod ordinary_tree;
 mod ordinary_write;
@@ -61,8 +63,11 @@ fn main() -> ExitCode {
     }
     let replays_agree = replays(&books, rounds, true) & replays(&growing, rounds, false);
     let writes_agree = writes(&books, rounds);
+    let jobs_agree = jobs(rounds);
     let steps_agree = steps(&books, rounds);
-    ExitCode::from(u8::from(!(replays_agree && writes_agree && steps_agree)))
+    ExitCode::from(u8::from(
+        !(replays_agree && writes_agree && jobs_agree && steps_agree),
+    ))
 }
 
 fn head(what: &str, of: &str, by: &str, rounds: usize) {
@@ -132,6 +137,13 @@ fn writes(books: &[(String, Vec<u8>)], rounds: usize) -> bool {
         }
     }
     agree
+}
+
+/// Whether both agree on every job that is read.
+fn jobs(rounds: usize) -> bool {
+    println!();
+    head("ns an event", "job", "", rounds);
+    jobs::measure(rounds)
 }
 
 /// Whether both agree on every single step by both protocols: from the states of

@@ -45,7 +45,7 @@ impl Form {
 
     /// Whether the text of a job stands behind the numbers.
     pub fn has_items(&self) -> bool {
-        self.name() == "job"
+        self.line.ends_with(" ITEMS")
     }
 
     /// Puts the record with these numbers, as many as the form has, behind the others

@@ -128,7 +128,7 @@ impl JobTally {
                 self.around_25[at] += 1;
             }
         }
-        if let Some(times) = self.depths.get_mut(depth(reading)) {
+        if let Some(times) = self.depths.get_mut(deepest(&reading.text)) {
             *times += usize::from(read.number == 0);
         }
         if let Some(at) = sorts().iter().position(|sort| *sort == reading.sort) {
@@ -268,8 +268,9 @@ fn open(text: &[u8]) -> impl Iterator<Item = usize> + '_ {
     })
 }
 
-fn depth(reading: &Reading) -> usize {
-    open(&reading.text).max().unwrap_or(0)
+/// How many sections stand one in another.
+pub fn deepest(text: &[u8]) -> usize {
+    open(text).max().unwrap_or(0)
 }
 
 /// How often a section begins that is the one of this number, counted from outside.

@@ -30,7 +30,7 @@ const MEANINGS: [&str; 27] = [
     "the task finishes with a lock open",
     "the buffer is shorter than the book",
     "a use names a lock whose ceiling is above the task's maximum",
-    "no job goes on like this: its items are like w2 and [0 w1], one space apart, with 1 to 65535 units, locks 0 to 31 and 8 sections deep at most",
+    "a job goes like w2 [0 w1], one space apart, with units 1 to 65535, locks 0 to 31 and at most 8 deep",
     "there are fewer than four bytes of event space for each event of the job",
 ];
 

@@ -7,6 +7,7 @@ use crate::compose::{Ending, MOST_TEXT};
 use crate::composing::{Composing, Outcome};
 use crate::event::Event;
 use crate::forms::FORMS;
+use crate::job_tally::deepest;
 use crate::plan::MOST_NESTED;
 use crate::text::Fault;
 
@@ -56,7 +57,7 @@ const RULES: [(&str, IsMet); 27] = [
     ("a text without a byte", |c, _| c.text.is_empty()),
     ("a job", |c, o| is_book(o) && has_job(c, |job| !job.items.is_empty())),
     ("a job without items", |c, o| is_book(o) && has_job(c, |job| job.items.is_empty())),
-    ("a job as deep as can be", |c, o| is_book(o) && has_job(c, |job| depth(job.items) == MOST_NESTED)),
+    ("a job as deep as can be", |c, o| is_book(o) && has_job(c, |job| deepest(job.items) == MOST_NESTED)),
     ("a job with several spaces before its items", |c, o| is_book(o) && has_job(c, |job| job.rest.starts_with(b"  ") && !job.items.is_empty())),
     ("a job with spaces behind its items", |c, o| is_book(o) && has_job(c, |job| job.rest.ends_with(b" ") && !job.items.is_empty())),
     ("a job with zeros in front of its task", |c, o| is_book(o) && has_job(c, |job| job.task.starts_with(b"00"))),
@@ -277,18 +278,5 @@ fn named_job<'t>(composing: &'t Composing, outcome: &Outcome) -> Option<Job<'t>>
         return None;
     };
     let mut lines = composing.text.split(|byte| *byte == b'\n');
-    lines.nth(number - 1).and_then(job)
-}
-
-/// How many sections stand one in another in items that are right.
-fn depth(items: &[u8]) -> usize {
-    let open = items.iter().scan(0, |open, byte| {
-        match byte {
-            b'[' => *open += 1,
-            b']' => *open -= 1,
-            _ => {}
-        }
-        Some(*open)
-    });
-    open.max().unwrap_or(0)
+    lines.nth(number.checked_sub(1)?).and_then(job)
 }

@@ -5,3 +5,4 @@ pub mod Values
 mod Said
 pub mod Split
 pub mod Small
+pub mod JobLines

@@ -171,6 +171,17 @@ static void call_bound(void) {
     WANTED(answer);
 }
 
+/* A text of sections eight deep again and again, as far as it is read. */
+static const char deep[] = "[0 [1 [2 [3 [4 [5 [6 [7 w1]]]]]]]] ";
+static uint8_t text[2000 * (sizeof deep - 1)];
+static size_t text_length;
+
+static void call_job(void) {
+    __typeof__(&recorder_read_job) f = (void *)noted;
+    struct recorder_job answer = f(text, text_length, rows, sizeof rows);
+    WANTED(answer);
+}
+
 static void say(const char *name, size_t bytes, size_t arguments, size_t answer) {
     printf("%-20s %7zu %9zu %7zu\n", name, bytes, arguments, answer);
 }
@@ -204,6 +215,21 @@ int main(void) {
     size_t load = most(0, call_load, (void (*)(void))recorder_load_table);
     size_t write = most(0, call_write, (void (*)(void))recorder_write);
     size_t fresh = most(0, call_fresh, (void (*)(void))recorder_fresh);
+
+    /* jobs: none, sections eight deep, many of them, many that end with a space, and a ninth level */
+    size_t job = 0;
+    for (size_t k = 0; k + sizeof deep - 1 <= sizeof text; k += sizeof deep - 1) memcpy(text + k, deep, sizeof deep - 1);
+    const size_t lengths[] = {0, sizeof deep - 2, 700 * (sizeof deep - 1) - 1, sizeof text};
+    for (size_t k = 0; k < COUNT(lengths); k++) {
+        text_length = lengths[k];
+        if (recorder_read_job(text, text_length, rows, sizeof rows).number != (k < 3 ? 0 : 25)) {
+            printf("the library reads a job otherwise\n");
+            return 1;
+        }
+        job = most(job, call_job, (void (*)(void))recorder_read_job);
+    }
+    memcpy(text + 24, "[8", 2);
+    job = most(job, call_job, (void (*)(void))recorder_read_job);
 
     /* the largest book's events until nobody runs again, each as a step; and from each state one event of every kind,
      * most of them refused, and one that is none */
@@ -245,5 +271,6 @@ int main(void) {
     say("  of a sound state", step, sizeof plan + sizeof state, sizeof(struct recorder_step));
     say("recorder_replay", replay, 0, sizeof(struct recorder_replay));
     say("recorder_bound", bound, 0, sizeof(uint16_t));
+    say("recorder_read_job", job, 0, sizeof(struct recorder_job));
     return 0;
 }

@@ -7,14 +7,13 @@ use native.Mathlib.Omega.{arith}
 use lib.Dec.{ltb}
 use lib.ListN.{length, drop, length-drop, length-map}
 use borrow.Author.Tests.{lt-ltb, le-ltb, ltb-true, ltb-false}
-use Rattle.rules.specs.Numbers.Place.{stored}
 use Rattle.rules.specs.Books.Bytes.{longBytes}
 use Rattle.rules.specs.Books.Event.{eventNumber}
 use Rattle.rules.specs.declared.answer.Verdict.{Verdict}
 use Rattle.rules.specs.declared.event.Event.{Event}
 use Rattle.rules.specs.declared.refusal.Refusal.{Refusal}
 use Rattle.rules.specs.declared.refusal.Refusal.the-variants.{WrongJob, ShortSpace}
-use Rattle.rules.proofs.Numbers.Choice.{if-true, if-false, by-test, untrue}
+use Rattle.rules.proofs.Numbers.Choice.{if-true, if-false, by-test}
 use Rattle.rules.proofs.Numbers.Stored.{stored-front}
 use Rattle.rules.proofs.Books.ReadBack.{long-size}
 use Rattle.jobs.specs.declared.Job.{Job}

@@ -1,26 +1,24 @@
 -- What the reader accepts is the text of a well-formed body. The items read so far stand in sections that are not at their end, and their text is what was read. Assumes nothing.
 use mathlib.Core.Path.{_≡_, refl, sym, _∙_, ap}
-use mathlib.Core.Bool.{Bool, true, false}
 use mathlib.Core.List.{List, [], _∷_, _++_, append-assoc, append-nil}
 use Prim.Native.Nat.{ℕ, zero, suc, _+_, _*_, _≤_, _<_}
 use native.Mathlib.Omega.{arith}
 use lib.Dec.{eqb, ltb}
 use lib.ListN.{length, drop}
-use borrow.Author.Tests.{eq-eqb, ne-eqb, eqb-true, eqb-false, ltb-true, ltb-false}
-use Rattle.rules.specs.Numbers.Choice.{if_then_else_}
+use borrow.Author.Tests.{eqb-false, ltb-true, ltb-false}
 use Rattle.rules.specs.declared.event.Event.{Event}
 use Rattle.page.specs.Decimal.{digits}
 use Rattle.jobs.specs.Grammar.{Body, Good, tailOf, textOf, eventsOf}
 use Rattle.jobs.specs.Grammar.Body.{empty, work, section}
 use Rattle.jobs.specs.Grammar.Good.{good-empty, good-work, good-section}
-use Rattle.rules.specs.declared.event.Event.the-variants.{Acquire, Unlock, Work, Finish}
-use Rattle.jobs.specs.Reader.{Mark, Sign, Mode, Move, Answer, sign, behind, begin, inUnits, inBracket, inLock, behindSign, step, prepend, ends, endsIn, onward, run, readJob}
+use Rattle.rules.specs.declared.event.Event.the-variants.{Acquire, Unlock, Work}
+use Rattle.jobs.specs.Reader.{Sign, Mode, Answer, sign, behind, begin, inUnits, inBracket, inLock, behindSign, step, prepend, ends, endsIn, onward, run, readJob}
 use Rattle.jobs.specs.Reader.Mark.{letter, left, right, gap, other}
 use Rattle.jobs.specs.Reader.Sign.{digit, mark}
 use Rattle.jobs.specs.Reader.Mode.{fresh, units, bracket, lock, after}
 use Rattle.jobs.specs.Reader.Move.{move, stop}
 use Rattle.jobs.specs.Reader.Answer.{refused, read}
-use Rattle.jobs.specs.Tree.{followed, Frame, frame, Reading, wrong, form, readingOf, readBody}
+use Rattle.jobs.specs.Tree.{followed, Frame, frame, form, readingOf, readBody}
 use Rattle.rules.proofs.Numbers.Choice.{if-true, if-false, by-test}
 use Rattle.jobs.proofs.Steps.{Spells, spells, Turns, units-ends, lock-ends}
 use Rattle.jobs.proofs.Decimals.{one-digit, digit-more}

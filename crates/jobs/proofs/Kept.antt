@@ -4,12 +4,11 @@ use mathlib.Core.List.{List, [], _∷_, _++_}
 use Prim.Native.Nat.{ℕ, _+_, _*_, _-_, _≤_, _<_}
 use native.Mathlib.Omega.{arith}
 use lib.Dec.{ltb}
-use lib.ListN.{length, drop, length-append, length-drop}
+use lib.ListN.{length, length-append, length-drop}
 use borrow.Author.Tests.{ltb-true, ltb-false}
 use Rattle.rules.specs.declared.answer.Verdict.{Verdict}
 use Rattle.rules.specs.declared.event.Event.{Event}
 use Rattle.rules.specs.declared.event.Event.the-variants.{Finish, Unlock}
-use Rattle.rules.specs.declared.refusal.Refusal.{Refusal}
 use Rattle.rules.specs.declared.refusal.Refusal.the-variants.{WrongJob, ShortSpace}
 use Rattle.rules.proofs.Numbers.Choice.{by-test}
 use Rattle.page.specs.Decimal.{digits}
@@ -19,7 +18,7 @@ use Rattle.jobs.specs.Grammar.Body.{empty, work, section}
 use Rattle.jobs.specs.Reader.{Answer, readJob}
 use Rattle.jobs.specs.Reader.Answer.{refused, read}
 use Rattle.jobs.specs.Job.{jobVerdict, jobEvents, jobOf, readWith}
-use Rattle.jobs.specs.Promised.{Place, ReadsAsWritten, AcceptsTheGrammar, JobPromises}
+use Rattle.jobs.specs.Promised.{Place, JobPromises}
 use Rattle.jobs.proofs.Answers.{verdict-small, verdict-stopped, verdict-enough, events-read, job-refused, job-read, never}
 use Rattle.jobs.proofs.Texts.{text-read, body-read, one-reading}
 use Rattle.jobs.proofs.Forms.{events-of-read, form-of-text, text-of-read}

@@ -1,22 +1,19 @@
 -- The place of refusal 25 is that of the first byte where no text of the form could go on. Assumes nothing.
 use mathlib.Core.Path.{_≡_, refl, sym, _∙_, ap}
 use mathlib.Core.Logic.{⊎-elim}
-use mathlib.Core.Bool.{Bool, true, false}
-use mathlib.Core.List.{List, [], _∷_, _++_, append-assoc, append-nil}
-use Prim.Native.Nat.{ℕ, zero, suc, _+_, _*_, _-_, _≤_, _<_}
-use native.Mathlib.Numerals.{add-one}
+use mathlib.Core.List.{List, [], _∷_, _++_, append-assoc}
+use Prim.Native.Nat.{ℕ, _+_, _-_, _≤_, _<_}
 use native.Mathlib.Omega.{arith}
-use lib.Dec.{eqb, ltb}
-use lib.ListN.{length, take, drop, length-append, length-drop, take-append-drop}
-use lib.Seq.{take-at, take-append-add, drop-drop, take-add}
-use borrow.Author.Tests.{eqb-true, eqb-false, lt-ltb, le-ltb}
+use lib.Dec.{eqb}
+use lib.ListN.{length, take, drop, length-append}
+use lib.Seq.{take-at, take-add}
+use borrow.Author.Tests.{eqb-true, eqb-false}
 use Rattle.rules.specs.Numbers.Choice.{if_then_else_}
 use Rattle.rules.specs.declared.event.Event.{Event}
-use Rattle.jobs.specs.Grammar.{Body, Good, tailOf, textOf, eventsIn, eventsOf}
+use Rattle.jobs.specs.Grammar.{textOf}
 use Rattle.rules.specs.declared.event.Event.the-variants.{Acquire, Unlock, Work, Finish}
 use Rattle.jobs.specs.Reader.{Mode, Move, Answer, sign, markOf, step, prepend, ends, endsIn, onward, run, readJob}
 use Rattle.jobs.specs.Reader.Mark.{right}
-use Rattle.jobs.specs.Reader.Sign.{digit, mark}
 use Rattle.jobs.specs.Reader.Mode.{fresh, units, bracket, lock, after}
 use Rattle.jobs.specs.Reader.Move.{move, stop}
 use Rattle.jobs.specs.Reader.Answer.{refused, read}

@@ -1,23 +1,22 @@
 -- Laws of the reader, one byte at a time. Assumes nothing.
 use mathlib.Core.Path.{_≡_, refl, sym, _∙_, ap}
 use mathlib.Core.Logic.{⊎-elim}
-use mathlib.Core.Bool.{Bool, true, false}
 use mathlib.Core.List.{List, [], _∷_, _++_, append-assoc}
-use Prim.Native.Nat.{ℕ, zero, suc, _+_, _*_, _-_, _≤_, _<_}
+use Prim.Native.Nat.{ℕ, suc, _+_, _-_, _≤_, _<_}
 use native.Mathlib.Numerals.{add-one}
 use native.Mathlib.Omega.{arith}
 use lib.Dec.{eqb, ltb}
-use lib.ListN.{length, drop, getD, drop-of-length-le, List·getD-eq-default}
+use lib.ListN.{length, drop, drop-of-length-le, List·getD-eq-default}
 use lib.Seq.{drop-cons}
-use borrow.Author.Tests.{lt-ltb, le-ltb, eq-eqb, ne-eqb, ltb-true, ltb-false, eqb-true, eqb-false}
+use borrow.Author.Tests.{lt-ltb, le-ltb, ne-eqb, eqb-true}
 use Rattle.rules.specs.Numbers.Choice.{if_then_else_}
 use Rattle.rules.specs.Numbers.Place.{at}
 use Rattle.rules.specs.declared.event.Event.{Event}
-use Rattle.rules.specs.declared.event.Event.the-variants.{Acquire, Unlock, Work, Finish}
-use Rattle.jobs.specs.Reader.{Mark, Sign, Mode, Move, Answer, markOf, sign, behind, begin, inUnits, inBracket, inLock, behindSign, step, prepend, ends, endsIn, onward, run}
+use Rattle.rules.specs.declared.event.Event.the-variants.{Acquire, Unlock, Work}
+use Rattle.jobs.specs.Reader.{Mark, Sign, Mode, Answer, markOf, sign, behind, inUnits, inLock, behindSign, step, prepend, ends, endsIn, onward, run}
 use Rattle.jobs.specs.Reader.Mark.{letter, left, right, gap, other}
 use Rattle.jobs.specs.Reader.Sign.{digit, mark}
-use Rattle.jobs.specs.Reader.Mode.{fresh, units, bracket, lock, after}
+use Rattle.jobs.specs.Reader.Mode.{fresh, units, lock, after}
 use Rattle.jobs.specs.Reader.Move.{stop, move}
 use Rattle.jobs.specs.Reader.Answer.{refused, read}
 use Rattle.jobs.specs.Said.{signAt, digitOf}

@@ -1,25 +1,24 @@
 -- The reader reads the text of every well-formed body, and gives that body back; so no text has two readings. Assumes nothing.
 use mathlib.Core.Path.{_≡_, refl, sym, _∙_, ap}
 use mathlib.Core.List.{List, [], _∷_, _++_, append-assoc, append-nil}
-use Prim.Native.Nat.{ℕ, zero, suc, _+_, _≤_, _<_}
+use Prim.Native.Nat.{ℕ, suc, _+_, _<_}
 use native.Mathlib.Omega.{arith}
 use lib.Dec.{ltb}
-use lib.ListN.{length, drop}
+use lib.ListN.{length}
 use borrow.Author.Tests.{lt-ltb}
 use Rattle.rules.specs.Numbers.Choice.{if_then_else_}
 use Rattle.rules.specs.declared.event.Event.{Event}
 use Rattle.page.specs.Decimal.{digits}
 use Rattle.jobs.specs.Grammar.{Body, Good, tailOf, textOf, eventsIn, eventsOf}
 use Rattle.jobs.specs.Grammar.Body.{empty, work, section}
-use Rattle.jobs.specs.Grammar.Good.{good-empty, good-work, good-section}
+use Rattle.jobs.specs.Grammar.Good.{good-work, good-section}
 use Rattle.rules.specs.declared.event.Event.the-variants.{Acquire, Unlock, Work, Finish}
-use Rattle.jobs.specs.Reader.{Sign, Mode, Move, Answer, markOf, sign, behind, begin, behindSign, step, prepend, ends, endsIn, onward, run, readJob}
+use Rattle.jobs.specs.Reader.{markOf, sign, behind, begin, behindSign, step, prepend, ends, endsIn, onward, run, readJob}
 use Rattle.jobs.specs.Reader.Mark.{letter, left, right, gap}
 use Rattle.jobs.specs.Reader.Sign.{mark}
-use Rattle.jobs.specs.Reader.Mode.{fresh, units, bracket, lock, after}
-use Rattle.jobs.specs.Reader.Move.{move, stop}
-use Rattle.jobs.specs.Reader.Answer.{refused, read}
-use Rattle.jobs.specs.Tree.{followed, Frame, frame, grown, Reading, wrong, form, readingOf, readBody}
+use Rattle.jobs.specs.Reader.Mode.{fresh, units, bracket, after}
+use Rattle.jobs.specs.Reader.Answer.{read}
+use Rattle.jobs.specs.Tree.{followed, Frame, frame, grown, form, readingOf, readBody}
 use Rattle.rules.proofs.Numbers.Choice.{if-true}
 use Rattle.jobs.proofs.Steps.{prepend-none, prepend-two, Turns, units-ends, lock-ends}
 use Rattle.jobs.proofs.Decimals.{run-on, units-read, lock-read}

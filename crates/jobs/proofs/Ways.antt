@@ -1,10 +1,8 @@
 -- The ways through the code of each reader. Assumes nothing.
 use mathlib.Core.Path.{_≡_, refl, sym, _∙_, ap}
-use mathlib.Core.Logic.{⊎-elim}
 use mathlib.Core.Bool.{Bool, true, false}
-use mathlib.Core.List.{List, [], _∷_, _++_}
-use Prim.Native.Nat.{ℕ, zero, suc, _+_, _*_, _-_, _/_, _%_, _≤_, _<_}
-use native.Mathlib.Numerals.{add-one}
+use mathlib.Core.List.{List, [], _∷_}
+use Prim.Native.Nat.{ℕ, _+_, _*_, _-_, _≤_, _<_}
 use native.Mathlib.Omega.{arith}
 use lib.Dec.{eqb, ltb}
 use lib.ListN.{length, drop, drop-of-length-le, List·getD-eq-default}
@@ -12,19 +10,18 @@ use borrow.Author.Tests.{lt-ltb, le-ltb, eq-eqb, ne-eqb}
 use Rattle.rules.specs.Numbers.Choice.{if_then_else_}
 use Rattle.rules.specs.Numbers.Place.{at}
 use Rattle.rules.specs.Books.Event.{kindOf, idOf, amountOf, eventNumber}
-use Rattle.rules.specs.declared.event.Event.{Event}
 use Rattle.rules.specs.declared.event.Event.the-variants.{Acquire, Unlock, Work, Finish}
-use Rattle.jobs.specs.Reader.{Mark, Sign, Mode, Move, Answer, markOf, sign, behind, begin, inUnits, inBracket, inLock, behindSign, step, prepend, ends, endsIn, onward, run, readJob}
+use Rattle.jobs.specs.Reader.{Sign, markOf, sign, behind, begin, inUnits, inBracket, inLock, behindSign, step, ends, endsIn, run, readJob}
 use Rattle.jobs.specs.Reader.Mark.{letter, left, right, gap, other}
 use Rattle.jobs.specs.Reader.Sign.{digit, mark}
 use Rattle.jobs.specs.Reader.Mode.{fresh, units, bracket, lock, after}
 use Rattle.jobs.specs.Reader.Move.{stop, move}
-use Rattle.jobs.specs.Reader.Answer.{refused, read}
-use Rattle.jobs.specs.Sheet.{Sheet, sheet, withRecord, layAll, halted, done, tell}
+use Rattle.jobs.specs.Reader.Answer.{refused}
+use Rattle.jobs.specs.Sheet.{Sheet, sheet, withRecord, layAll, done, tell}
 use Rattle.jobs.specs.Said.{signAt, digitOf, thenOn, Did, Went, thenUnits, Counted, thenLock, Numbered, thenIn, Entered, Left, Over, whole, Within}
-use Rattle.rules.proofs.Numbers.Choice.{if-true, if-false, untrue, lt-or-le}
+use Rattle.rules.proofs.Numbers.Choice.{if-true, if-false, untrue}
 use Rattle.jobs.proofs.Sheets.{laid, tell-one}
-use Rattle.jobs.proofs.Steps.{Spells, prepend-none, prepend-two, spells, sign-low, sign-high, sign-digit, goes, goes-on, stops-at, halts, inside, Turns, units-ends, lock-ends, digit-here, mark-here, digit-inside, turns-here}
+use Rattle.jobs.proofs.Steps.{Spells, spells, sign-low, sign-high, sign-digit, goes, goes-on, stops-at, halts, inside, units-ends, lock-ends, digit-here, mark-here, digit-inside, turns-here}
 
 -- ---- the byte and the digit at a place
 

@@ -1,7 +1,8 @@
 // RULES 20: jobs as they are drawn, with sections in brackets, read into event records.
-pub mod form;
+mod form;
 mod read;
-pub mod space;
+pub mod record;
+mod space;
 mod text;
 
 use crate::read::scan;

@@ -1,19 +1,19 @@
 -- What is promised of the reading of a job, said of the code. Assumes nothing.
 use mathlib.Core.Path.{_≡_, sym, _∙_, ap}
 use mathlib.Core.List.{List}
-use Prim.Native.Nat.{ℕ, _*_, _≤_, _<_}
+use Prim.Native.Nat.{ℕ}
 use contract.Lifetimes.{Lfts}
 use denote.Ref.{now}
 use lib.ListN.{length}
 use Rattle.rules.specs.declared.answer.Verdict.{Verdict}
 use Rattle.rules.specs.declared.refusal.Refusal.the-variants.{WrongJob, ShortSpace}
-use Rattle.jobs.specs.Grammar.{Body, levels, Good, textOf, eventsOf}
+use Rattle.jobs.specs.Grammar.{eventsOf}
 use Rattle.jobs.specs.Job.{jobVerdict, jobAnswer, ReadInto, readWith, withEvents, jobOf}
-use Rattle.jobs.specs.Promised.{Place, AcceptsTheGrammar}
+use Rattle.jobs.specs.Promised.{AcceptsTheGrammar}
 use Rattle.jobs.specs.declared.Job.{Job}
 use Rattle.jobs.proofs.Kept.{jobs-kept}
 use Rattle.jobs.proofs.read_job.Reads as read-job
-use Rattle.promises.specs.Jobs.{RefusedWith, JobRead}
+use Rattle.promises.specs.Jobs.{JobRead}
 
 abbrev kept : AcceptsTheGrammar
 kept = jobs-kept .accepts

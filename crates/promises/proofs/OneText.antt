@@ -67,8 +67,7 @@ use Rattle.texts.proofs.line.line_of.Reads as line-of
 use Rattle.texts.proofs.line.items.Reads as items
 use Rattle.jobs.proofs.check_job.Reads as check-job
 use Rattle.jobs.proofs.read_job.Reads as read-job
-use Rattle.jobs.proofs.space.store.Reads as store
-use Rattle.jobs.proofs.space.record_at.Reads as record-at
+use Rattle.jobs.proofs.record.record_at.Reads as record-at
 use Rattle.texts.proofs.lines.first_wrong.Reads as first-wrong
 use Rattle.texts.proofs.lines.line_of_record.Reads as line-of-record
 use Rattle.wording.proofs.mistake.number_of.Reads as said-number-of
@@ -173,9 +172,6 @@ same-read r q x y read h k = (ap (λ (i : ReadInto). i .answer) (h ∙ sym k), a
 
 pub one-read-job : (κs : Lfts 2) (a : _) (b c : _) (r q : Job) → read-job.Post κs a r b → read-job.Post κs a q c → (r ≡ q) × (now (b .1 .0) ≡ now (c .1 .0))
 one-read-job κs a b c r q h k = same-read r q _ _ _ h k
-
-pub one-store : (κs : Lfts 1) (a : _) (b c : _) (r q : _) → store.Post κs a r b → store.Post κs a q c → now (b .0) ≡ now (c .0)
-one-store κs a b c r q h k = h ∙ sym k
 
 pub one-record-at : (κs : Lfts 1) (a : _) (b c : _) (r q : ℕ) → record-at.Post κs a r b → record-at.Post κs a q c → r ≡ q
 one-record-at κs a b c r q h k = h ∙ sym k

@@ -5,7 +5,7 @@ use crate::line::items;
 use crate::line::line_of;
 use crate::word::find;
 use jobs::read_job;
-use jobs::space::record_at;
+use jobs::record::record_at;
 ghost use mathlib.Core.Path.{_≡_};
 ghost use mathlib.Core.List.{[], _∷_};
 ghost use Prim.Native.Nat.{_<_};

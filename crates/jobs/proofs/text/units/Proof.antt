@@ -1,7 +1,6 @@
 -- `jobs::text::units` meets its contract. The digits so far make v, and d is the next digit. Assumes nothing.
 use mathlib.Core.Path.{_≡_}
 use Prim.Native.Nat.{_≤_, _-_}
-use native.Mathlib.Omega.{arith}
 use lib.ListN.{length}
 use borrow.Author.Needs.{needs}
 use Rattle.jobs.specs.Said.{signAt, digitOf}

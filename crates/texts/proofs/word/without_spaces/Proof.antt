@@ -1,5 +1,4 @@
 -- `texts::word::without_spaces` meets its contract. Each turn leaves out one space at the end. Assumes nothing.
-use mathlib.Core.Path.{_≡_}
 use Prim.Native.Nat.{_≤_}
 use lib.ListN.{length}
 use Rattle.texts.proofs.Cuts.{BareSoFar, bare-start, bare-next, bare-found, bare-ends}

@@ -6,7 +6,7 @@ use Prim.Native.Nat.{ℕ, _+_, _*_, _-_, _≤_, _<_}
 use native.Mathlib.Omega.{arith}
 use lib.Dec.{eqb, ltb}
 use lib.ListN.{length, drop, drop-of-length-le, List·getD-eq-default}
-use borrow.Author.Tests.{lt-ltb, le-ltb, eq-eqb, ne-eqb}
+use borrow.Author.Tests.{lt-ltb, le-ltb, eq-eqb, ne-eqb, eqb-true, eqb-false}
 use Rattle.rules.specs.Numbers.Choice.{if_then_else_}
 use Rattle.rules.specs.Numbers.Place.{at}
 use Rattle.rules.specs.Books.Event.{kindOf, idOf, amountOf, eventNumber}
@@ -18,7 +18,7 @@ use Rattle.jobs.specs.Reader.Mode.{fresh, units, bracket, lock, after}
 use Rattle.jobs.specs.Reader.Move.{stop, move}
 use Rattle.jobs.specs.Reader.Answer.{refused}
 use Rattle.jobs.specs.Sheet.{Sheet, sheet, withRecord, layAll, done, tell}
-use Rattle.jobs.specs.Said.{signAt, digitOf, thenOn, Did, Went, thenUnits, Counted, thenLock, Numbered, thenIn, Entered, Left, Over, whole, Within}
+use Rattle.jobs.specs.Said.{Gap, signAt, digitOf, thenOn, Went, Did, Came, thenUnits, Counted, thenLock, Numbered, thenIn, Entered, Left, Over, whole, Within}
 use Rattle.rules.proofs.Numbers.Choice.{if-true, if-false, untrue}
 use Rattle.jobs.proofs.Sheets.{laid, tell-one}
 use Rattle.jobs.proofs.Steps.{Spells, spells, sign-low, sign-high, sign-digit, goes, goes-on, stops-at, halts, inside, units-ends, lock-ends, digit-here, mark-here, digit-inside, turns-here}
@@ -46,6 +46,16 @@ within-left text a c e f = byte-within text a c e (omega arith)
 pub within-gap : (text : List ℕ) (a c : ℕ) → c ≡ at text a → c ≡ 32 → a + 1 ≤ length text
 within-gap text a c e f = byte-within text a c e (omega arith)
 
+pub gap-so : (text : List ℕ) (a c : ℕ) → c ≡ at text a → Gap text a (eqb c 32)
+gap-so text a c e = record {
+  there = λ t. sym e ∙ eqb-true c 32 t;
+  other = λ t y. eqb-false c 32 t (e ∙ y);
+  inside = λ t. byte-within text a c e (let h : c ≡ 32 = eqb-true c 32 t in omega arith);
+}
+
+pub gap-inside : (text : List ℕ) (a : ℕ) (so : Bool) → Gap text a so → so ≡ true → a + 1 ≤ length text
+gap-inside text a so g t = g .inside t
+
 pub within-right : (text : List ℕ) (a c n : ℕ) → c ≡ at text a → c ≡ 93 → n ≤ a → Within text a (a + 1) (n + 1)
 within-right text a c n e f g = let h : a + 1 ≤ length text = byte-within text a c e (omega arith) in record { later = omega arith; inside = h; fewer = omega arith }
 
@@ -67,16 +77,24 @@ digit-is text a b e l h = sym (ap (λ x. digitOf (sign x)) (sym e) ∙ ap digitO
 unfoldable pub Counts : List ℕ → ℕ → ℕ → ℕ → Type 0
 Counts text a i v = (ls : List ℕ) → run (drop a text) (units 0) ls ≡ run (drop i text) (units v) ls
 
-pub count-start : (text : List ℕ) (a : ℕ) → Counts text a a 0
-unfolding Counts
-count-start text a ls = refl
-
-pub count-next : (text : List ℕ) (a i v d : ℕ) → Counts text a i v → d ≡ digitOf (signAt text i) → d < 10 → (v * 10 + d ≡ 0 → ⊥) → v * 10 + d ≤ 65535 → Counts text a (i + 1) (v * 10 + d)
+step-on : (text : List ℕ) (a i v d w : ℕ) → Counts text a i v → d ≡ digitOf (signAt text i) → d < 10 → v * 10 + d ≡ w → (w ≡ 0 → ⊥) → w ≤ 65535 → Counts text a (i + 1) w
 unfolding Counts step inUnits
-count-next text a i v d h e l n f ls = h ls ∙ goes-on text i (units v) (units (v * 10 + d)) ls ls (digit-inside text i d e l)
-    (ap (λ s. inUnits s v ls) (digit-here text i d e l) ∙ if-false (eqb (v * 10 + d) 0) _ _ (ne-eqb (v * 10 + d) 0 n) ∙ if-false (ltb 65535 (v * 10 + d)) _ _ (le-ltb 65535 (v * 10 + d) f))
+step-on text a i v d w h e l s n f ls = h ls ∙ goes-on text i (units v) (units w) ls ls (digit-inside text i d e l)
+    (ap (λ x. inUnits x v ls) (digit-here text i d e l) ∙ rw s (if-false (eqb w 0) _ _ (ne-eqb w 0 n) ∙ if-false (ltb 65535 w) _ _ (le-ltb 65535 w f)))
 
-units-halts : (text : List ℕ) (a i v x : ℕ) → Counts text a i v → ((ls : List ℕ) → endsIn (units v) ls ≡ refused []) → ((ls : List ℕ) → inUnits (signAt text i) v ls ≡ stop) → Counted text a false i x
+start : (text : List ℕ) (a : ℕ) → Counts text a a 0
+unfolding Counts
+start text a ls = refl
+
+-- the first digit, and one more
+pub count-first : (text : List ℕ) (a d : ℕ) → d ≡ digitOf (signAt text a) → d < 10 → (d ≡ 0 → ⊥) → Counts text a (a + 1) d
+count-first text a d e l n = step-on text a a 0 d d (start text a) e l (omega arith) n (omega arith)
+
+pub count-next : (text : List ℕ) (a i v d : ℕ) → Counts text a i v → d ≡ digitOf (signAt text i) → d < 10 → 1 ≤ v → v * 10 + d ≤ 65535 → Counts text a (i + 1) (v * 10 + d)
+count-next text a i v d h e l n f = step-on text a i v d (v * 10 + d) h e l refl (λ z. omega arith) f
+
+units-halts : (text : List ℕ) (a i v x : ℕ) → Counts text a i v → ((ls : List ℕ) → endsIn (units v) ls ≡ refused []) → ((ls : List ℕ) → inUnits (signAt text i) v ls ≡ stop)
+    → Counted text a false i x
 unfolding Counts Counted thenUnits step
 units-halts text a i v x h e f ls = h ls ∙ halts text i (units v) ls (e ls) (f ls)
 
@@ -85,23 +103,23 @@ digit-halts : (text : List ℕ) (a i v d x : ℕ) → Counts text a i v → d �
 unfolding Counts Counted thenUnits step
 digit-halts text a i v d x h e l f ls = h ls ∙ stops-at text i (units v) ls (digit-inside text i d e l) (ap (λ s. inUnits s v ls) (digit-here text i d e l) ∙ f ls)
 
-pub count-zero : (text : List ℕ) (a i v d x : ℕ) → Counts text a i v → d ≡ digitOf (signAt text i) → d < 10 → v * 10 + d ≡ 0 → Counted text a false i x
+-- no digit, a zero, or one too many
+pub count-none : (text : List ℕ) (a d x : ℕ) → d ≡ digitOf (signAt text a) → 10 ≤ d → Counted text a false a x
+unfolding endsIn inUnits if_then_else_
+count-none text a d x e l = let (m, s) = mark-here text a d e l in units-halts text a a 0 x (start text a) (λ ls. refl) (λ ls. ap (λ u. inUnits u 0 ls) s)
+
+pub count-zero : (text : List ℕ) (a d x : ℕ) → d ≡ digitOf (signAt text a) → d < 10 → d ≡ 0 → Counted text a false a x
 unfolding inUnits
-count-zero text a i v d x h e l z = digit-halts text a i v d x h e l (λ ls. if-true (eqb (v * 10 + d) 0) _ _ (eq-eqb (v * 10 + d) 0 z))
+count-zero text a d x e l z = digit-halts text a a 0 d x (start text a) e l (λ ls. if-true (eqb (0 * 10 + d) 0) _ _ (eq-eqb (0 * 10 + d) 0 (omega arith)))
 
 pub count-big : (text : List ℕ) (a i v d x : ℕ) → Counts text a i v → d ≡ digitOf (signAt text i) → d < 10 → 65535 < v * 10 + d → Counted text a false i x
 unfolding inUnits
 count-big text a i v d x h e l z = digit-halts text a i v d x h e l
     (λ ls. if-false (eqb (v * 10 + d) 0) _ _ (ne-eqb (v * 10 + d) 0 (λ q. omega arith)) ∙ if-true (ltb 65535 (v * 10 + d)) _ _ (lt-ltb 65535 (v * 10 + d) z))
 
-pub count-none : (text : List ℕ) (a i v d x : ℕ) → Counts text a i v → d ≡ digitOf (signAt text i) → 10 ≤ d → v ≡ 0 → Counted text a false i x
-unfolding endsIn inUnits
-count-none text a i v d x h e l z = let (m, s) = mark-here text i d e l in
-    units-halts text a i v x h (λ ls. if-true (eqb v 0) _ _ (eq-eqb v 0 z)) (λ ls. ap (λ u. inUnits u v ls) s ∙ if-true (eqb v 0) _ _ (eq-eqb v 0 z))
-
-pub count-done : (text : List ℕ) (a i v d : ℕ) → Counts text a i v → d ≡ digitOf (signAt text i) → 10 ≤ d → (v ≡ 0 → ⊥) → Counted text a true i v
+pub count-done : (text : List ℕ) (a i v d : ℕ) → Counts text a i v → d ≡ digitOf (signAt text i) → 10 ≤ d → 1 ≤ v → Counted text a true i v
 unfolding Counts Counted thenUnits
-count-done text a i v d h e l n ls = h ls ∙ units-ends (drop i text) v ls n (turns-here text i d e l)
+count-done text a i v d h e l n ls = h ls ∙ units-ends (drop i text) v ls (λ z. omega arith) (turns-here text i d e l)
 
 -- ---- a lock's number
 
@@ -144,6 +162,17 @@ lock-third text a d e f x h l h′ l′ n s g m = lock-big text a (a + 1 + 1) (d
   where
     past : (w : ℕ) → (w ≡ 0 → ⊥) → 31 < (w * 10 + e) * 10 + f
     past w o = omega arith
+
+-- behind an item a space leads to the next one
+behind-gap : (b : ℕ) (ls : List ℕ) → b ≡ 32 → behindSign (sign b) ls ≡ move fresh ls []
+unfolding behindSign behind sign markOf if_then_else_
+behind-gap b ls e = ap (λ x. behindSign (sign x) ls) e
+
+next-item : (text : List ℕ) (b c : ℕ) (ls : List ℕ) → c ≡ at text b → c ≡ 32 → run (drop b text) after ls ≡ run (drop (b + 1) text) fresh ls
+unfolding step signAt
+next-item text b c ls e f =
+    let at-b : at text b ≡ 32 = sym e ∙ f in
+    goes-on text b after fresh ls ls (inside text b (λ y. omega arith)) (behind-gap (at text b) ls at-b)
 
 -- ---- work, and a section's lock and its end
 
@@ -188,7 +217,7 @@ left-stopped text a c l p q e f g ls = ap (tell p) (halts text a after (l ∷ ls
 
 -- ---- an item
 
-pub item-work : (text : List ℕ) (k a c b : ℕ) (ok : Bool) (p q : Sheet) → c ≡ at text a → c ≡ 119 → Went text (a + 1) (units 0) p ok b q → Did text k a fresh p ok b q
+pub item-work : (text : List ℕ) (k a c b : ℕ) (ok : Bool) (p q : Sheet) → c ≡ at text a → c ≡ 119 → Went text (a + 1) (units 0) p ok b q → Did text k a p ok b q
 unfolding Went Did step begin signAt sign markOf if_then_else_
 item-work text k a c b ok p q e f h ls d =
     let at-a : at text a ≡ 119 = sym e ∙ f in
@@ -203,72 +232,78 @@ begin-stops (mark right) b ls p f g = refl
 begin-stops (mark gap) b ls p f g = refl
 begin-stops (mark other) b ls p f g = refl
 
-pub item-other : (text : List ℕ) (k a c : ℕ) (p q : Sheet) → c ≡ at text a → (c ≡ 119 → ⊥) → (c ≡ 91 → ⊥) → Did text k a fresh p false a q
+pub item-other : (text : List ℕ) (k a c : ℕ) (p q : Sheet) → c ≡ at text a → (c ≡ 119 → ⊥) → (c ≡ 91 → ⊥) → Did text k a p false a q
 unfolding Did thenOn step signAt endsIn tell
-item-other text k a c p q e f g ls d = ap (tell p) (halts text a fresh ls refl (begin-stops (sign (at text a)) (at text a) ls (spells (at text a)) (λ z. f (e ∙ z)) (λ z. g (e ∙ z))))
+item-other text k a c p q e f g ls d =
+    ap (tell p) (halts text a fresh ls refl (begin-stops (sign (at text a)) (at text a) ls (spells (at text a)) (λ z. f (e ∙ z)) (λ z. g (e ∙ z))))
 
 begin-left : (b : ℕ) (ls : List ℕ) → b ≡ 91 → begin (sign b) ls ≡ (if ltb (length ls) 8 then move bracket ls [] else stop)
 unfolding begin sign markOf if_then_else_
 begin-left b ls e = ap (λ x. begin (sign x) ls) e
 
-pub item-deep : (text : List ℕ) (k a c : ℕ) (p q : Sheet) → c ≡ at text a → c ≡ 91 → k ≡ 0 → Did text k a fresh p false a q
+pub item-deep : (text : List ℕ) (k a c : ℕ) (p q : Sheet) → c ≡ at text a → c ≡ 91 → k ≡ 0 → Did text k a p false a q
 unfolding Did thenOn step signAt endsIn tell
 item-deep text k a c p q e f z ls d = ap (tell p) (halts text a fresh ls refl
     (begin-left (at text a) ls (sym e ∙ f) ∙ if-false (ltb (length ls) 8) _ _ (le-ltb (length ls) 8 (omega arith))))
 
-goes-in : (text : List ℕ) (k a c : ℕ) (ls : List ℕ) → c ≡ at text a → c ≡ 91 → (k ≡ 0 → ⊥) → length ls + k ≡ 8 → run (drop a text) fresh ls ≡ run (drop (a + 1) text) bracket ls
-unfolding step signAt
-goes-in text k a c ls e f z d =
-    let at-a : at text a ≡ 91 = sym e ∙ f in
-    goes-on text a fresh bracket ls ls (inside text a (λ y. omega arith)) (begin-left (at text a) ls at-a ∙ if-true (ltb (length ls) 8) _ _ (lt-ltb (length ls) 8 (omega arith)))
+-- a section: its lock is read, then its body, where a space leads to one
+module _ (text : List ℕ) (k a c b v : ℕ) (ok : Bool) (p q : Sheet) (e : c ≡ at text a) (f : c ≡ 91) (z : k ≡ 0 → ⊥) (h : Entered text (a + 1) p ok b v q) where
+  goes-in : (t : Bool) → ok ≡ t → (ls : List ℕ) → length ls + k ≡ 8 → tell p (run (drop a text) fresh ls) ≡ thenIn t text b v q ls
+  unfolding step signAt Entered
+  goes-in t o ls d =
+      let at-a : at text a ≡ 91 = sym e ∙ f in
+      ap (tell p) (goes-on text a fresh bracket ls ls (inside text a (λ y. omega arith))
+      (begin-left (at text a) ls at-a ∙ if-true (ltb (length ls) 8) _ _ (lt-ltb (length ls) 8 (omega arith))))
+      ∙ h ls ∙ ap (λ x. thenIn x text b v q ls) o
 
-pub item-unlocked : (text : List ℕ) (k a c b v : ℕ) (ok : Bool) (p q q′ : Sheet) → c ≡ at text a → c ≡ 91 → (k ≡ 0 → ⊥) → Entered text (a + 1) p ok b v q → ok ≡ false → Did text k a fresh p false b q′
-unfolding Did thenOn Entered thenIn
-item-unlocked text k a c b v ok p q q′ e f z h o ls d = ap (tell p) (goes-in text k a c ls e f z d) ∙ h ls ∙ ap (λ x. thenIn x text b v q ls) o
+  pub item-unlocked : (q″ : Sheet) → ok ≡ false → Did text k a p false b q″
+  unfolding Did thenOn thenIn
+  item-unlocked q″ o ls d = goes-in false o ls d
 
--- to the end of the section's body
-goes-through : (text : List ℕ) (k a c b v b′ : ℕ) (ok ok′ : Bool) (p q q′ : Sheet) → c ≡ at text a → c ≡ 91 → (k ≡ 0 → ⊥) → Entered text (a + 1) p ok b v q → ok ≡ true → Did text (k - 1) b after q ok′ b′ q′
-    → (ls : List ℕ) → length ls + k ≡ 8 → tell p (run (drop a text) fresh ls) ≡ thenOn ok′ text b′ q′ (v ∷ ls)
-unfolding Did Entered thenIn
-goes-through text k a c b v b′ ok ok′ p q q′ e f z h o g ls d = ap (tell p) (goes-in text k a c ls e f z d) ∙ h ls ∙ ap (λ x. thenIn x text b v q ls) o ∙ g (v ∷ ls) (omega arith)
+  module _ (more : Bool) (o : ok ≡ true) (g : Gap text b more) where
+    pub item-empty : (b″ : ℕ) (ok″ : Bool) (q″ : Sheet) → more ≡ false → Left text b v q ok″ b″ q″ → Did text k a p ok″ b″ q″
+    unfolding Did thenIn Left
+    item-empty b″ ok″ q″ m j ls d = goes-in true o ls d ∙ j (g .other m) ls
 
-pub item-stopped : (text : List ℕ) (k a c b v b′ : ℕ) (ok ok′ : Bool) (p q q′ q″ : Sheet) → c ≡ at text a → c ≡ 91 → (k ≡ 0 → ⊥) → Entered text (a + 1) p ok b v q → ok ≡ true → Did text (k - 1) b after q ok′ b′ q′ → ok′ ≡ false
-    → Did text k a fresh p false b′ q″
-unfolding Did thenOn
-item-stopped text k a c b v b′ ok ok′ p q q′ q″ e f z h o g o′ ls d = goes-through text k a c b v b′ ok ok′ p q q′ e f z h o g ls d ∙ ap (λ x. thenOn x text b′ q′ (v ∷ ls)) o′
+    module _ (b′ : ℕ) (ok′ : Bool) (q′ : Sheet) (m : more ≡ true) (i : Did text (k - 1) (b + 1) q ok′ b′ q′) where
+      goes-through : (t : Bool) → ok′ ≡ t → (ls : List ℕ) → length ls + k ≡ 8 → tell p (run (drop a text) fresh ls) ≡ thenOn t text b′ q′ (v ∷ ls)
+      unfolding Did thenIn
+      goes-through t y ls d =
+          goes-in true o ls d ∙ ap (tell q) (next-item text b (at text b) (v ∷ ls) refl (g .there m)) ∙ i (v ∷ ls) (omega arith) ∙ ap (λ x. thenOn x text b′ q′ (v ∷ ls)) y
 
-pub item-did : (text : List ℕ) (k a c b v b′ b″ : ℕ) (ok ok′ ok″ : Bool) (p q q′ q″ : Sheet) → c ≡ at text a → c ≡ 91 → (k ≡ 0 → ⊥) → Entered text (a + 1) p ok b v q → ok ≡ true
-    → Did text (k - 1) b after q ok′ b′ q′ → ok′ ≡ true → Over text ok′ b′ → Left text b′ v q′ ok″ b″ q″ → Did text k a fresh p ok″ b″ q″
-unfolding Did thenOn Over Left
-item-did text k a c b v b′ b″ ok ok′ ok″ p q q′ q″ e f z h o g o′ w j ls d = goes-through text k a c b v b′ ok ok′ p q q′ e f z h o g ls d ∙ ap (λ x. thenOn x text b′ q′ (v ∷ ls)) o′ ∙ j (w o′) ls
+      pub item-stopped : (q″ : Sheet) → ok′ ≡ false → Did text k a p false b′ q″
+      unfolding Did thenOn
+      item-stopped q″ y ls d = goes-through false y ls d
+
+      pub item-did : (b″ : ℕ) (ok″ : Bool) (q″ : Sheet) → ok′ ≡ true → Over text ok′ b′ → Left text b′ v q′ ok″ b″ q″ → Did text k a p ok″ b″ q″
+      unfolding Did thenOn Over Left
+      item-did b″ ok″ q″ y w j ls d = goes-through true y ls d ∙ j (w y) ls
 
 -- ---- a body
 
-pub body-start : (text : List ℕ) (k a : ℕ) (p : Sheet) → Did text k a after p true a p
-unfolding Did thenOn
+pub body-start : (text : List ℕ) (k a : ℕ) (p : Sheet) → Came text k a p a p
+unfolding Came
 body-start text k a p ls d = refl
 
-behind-gap : (b : ℕ) (ls : List ℕ) → b ≡ 32 → behindSign (sign b) ls ≡ move fresh ls []
-unfolding behindSign behind sign markOf if_then_else_
-behind-gap b ls e = ap (λ x. behindSign (sign x) ls) e
+module _ (text : List ℕ) (k a i b : ℕ) (ok : Bool) (p q q′ : Sheet) (h : Came text k a p i q) (g : Did text k i q ok b q′) where
+  one-more : (t : Bool) → ok ≡ t → (ls : List ℕ) → length ls + k ≡ 8 → tell p (run (drop a text) fresh ls) ≡ thenOn t text b q′ ls
+  unfolding Came Did
+  one-more t o ls d = h ls d ∙ g ls d ∙ ap (λ x. thenOn x text b q′ ls) o
 
-one-more : (text : List ℕ) (k a i c b : ℕ) (ok : Bool) (p q q′ : Sheet) → Did text k a after p true i q → c ≡ at text i → c ≡ 32 → Did text k (i + 1) fresh q ok b q′
-    → (ls : List ℕ) → length ls + k ≡ 8 → tell p (run (drop a text) after ls) ≡ thenOn ok text b q′ ls
-unfolding Did thenOn step signAt
-one-more text k a i c b ok p q q′ h e f g ls d =
-    let at-i : at text i ≡ 32 = sym e ∙ f in
-    h ls d ∙ ap (tell q) (goes-on text i after fresh ls ls (inside text i (λ y. omega arith)) (behind-gap (at text i) ls at-i)) ∙ g ls d
+  pub body-next : (c : ℕ) → ok ≡ true → c ≡ at text b → c ≡ 32 → Came text k a p (b + 1) q′
+  unfolding Came thenOn
+  body-next c o e f ls d = one-more true o ls d ∙ ap (tell q′) (next-item text b c ls e f)
 
-pub body-next : (text : List ℕ) (k a i c b : ℕ) (ok : Bool) (p q q′ : Sheet) → Did text k a after p true i q → c ≡ at text i → c ≡ 32 → Did text k (i + 1) fresh q ok b q′ → ok ≡ true → Did text k a after p true b q′
-unfolding Did
-body-next text k a i c b ok p q q′ h e f g o ls d = one-more text k a i c b ok p q q′ h e f g ls d ∙ ap (λ x. thenOn x text b q′ ls) o
+  pub body-done : ok ≡ true → Did text k a p true b q′
+  unfolding Did
+  body-done o ls d = one-more true o ls d
 
-pub body-stopped : (text : List ℕ) (k a i c b : ℕ) (ok : Bool) (p q q′ q″ : Sheet) → Did text k a after p true i q → c ≡ at text i → c ≡ 32 → Did text k (i + 1) fresh q ok b q′ → ok ≡ false → Did text k a after p false b q″
-unfolding Did thenOn
-body-stopped text k a i c b ok p q q′ q″ h e f g o ls d = one-more text k a i c b ok p q q′ h e f g ls d ∙ ap (λ x. thenOn x text b q′ ls) o
+  pub body-stopped : (q″ : Sheet) → ok ≡ false → Did text k a p false b q″
+  unfolding Did thenOn
+  body-stopped q″ o ls d = one-more false o ls d
 
-pub body-less : (text : List ℕ) (i c place : ℕ) → c ≡ at text i → c ≡ 32 → i + 1 ≤ place → length text - place < length text - i
-body-less text i c place e f h = let l : i + 1 ≤ length text = within-gap text i c e f in omega arith
+pub body-less : (text : List ℕ) (i b c : ℕ) → i ≤ b → c ≡ at text b → c ≡ 32 → length text - (b + 1) < length text - i
+body-less text i b c h e f = let l : b + 1 ≤ length text = within-gap text b c e f in omega arith
 
 pub body-over : (text : List ℕ) (i c : ℕ) → c ≡ at text i → (c ≡ 32 → ⊥) → Over text true i
 unfolding Over
@@ -290,18 +325,6 @@ unfolding readJob tell layAll whole kindOf idOf amountOf
 scan-empty [] s s′ z h = ap done (sym (laid s s′ 0 5 Finish h refl))
 scan-empty (b ∷ t) s s′ z h = absurd (omega arith)
 
-pub scan-stopped : (text : List ℕ) (b : ℕ) (ok : Bool) (p q q′ : Sheet) → (length text ≡ 0 → ⊥) → Did text 8 0 fresh p ok b q → ok ≡ false → tell p (readJob text) ≡ whole false text b q′
-unfolding Did thenOn whole
-scan-stopped text b ok p q q′ n h o = ap (tell p) (job-starts text n) ∙ h [] refl ∙ ap (λ x. thenOn x text b q []) o
-
-to-the-end : (text : List ℕ) (b b′ : ℕ) (ok ok′ : Bool) (p q q′ : Sheet) → (length text ≡ 0 → ⊥) → Did text 8 0 fresh p ok b q → ok ≡ true → Did text 8 b after q ok′ b′ q′ → tell p (readJob text) ≡ thenOn ok′ text b′ q′ []
-unfolding Did thenOn
-to-the-end text b b′ ok ok′ p q q′ n h o g = ap (tell p) (job-starts text n) ∙ h [] refl ∙ ap (λ x. thenOn x text b q []) o ∙ g [] refl
-
-pub scan-halted : (text : List ℕ) (b b′ : ℕ) (ok ok′ : Bool) (p q q′ q″ : Sheet) → (length text ≡ 0 → ⊥) → Did text 8 0 fresh p ok b q → ok ≡ true → Did text 8 b after q ok′ b′ q′ → ok′ ≡ false → tell p (readJob text) ≡ whole false text b′ q″
-unfolding thenOn whole
-scan-halted text b b′ ok ok′ p q q′ q″ n h o g o′ = to-the-end text b b′ ok ok′ p q q′ n h o g ∙ ap (λ x. thenOn x text b′ q′ []) o′
-
 outside-stops : (s : Sign) (b : ℕ) → Spells s b → (b ≡ 32 → ⊥) → behindSign s [] ≡ stop
 unfolding behindSign behind Spells
 outside-stops (digit d) b p g = refl
@@ -311,22 +334,30 @@ outside-stops (mark right) b p g = refl
 outside-stops (mark gap) b p g = absurd (g p)
 outside-stops (mark other) b p g = refl
 
-pub scan-more : (text : List ℕ) (b b′ : ℕ) (ok ok′ : Bool) (p q q′ q″ : Sheet) → (length text ≡ 0 → ⊥) → Did text 8 0 fresh p ok b q → ok ≡ true → Did text 8 b after q ok′ b′ q′ → ok′ ≡ true → Over text ok′ b′ → b′ < length text
-    → tell p (readJob text) ≡ whole false text b′ q″
-unfolding thenOn whole Over step signAt tell
-scan-more text b b′ ok ok′ p q q′ q″ n h o g o′ w l = to-the-end text b b′ ok ok′ p q q′ n h o g ∙ ap (λ x. thenOn x text b′ q′ []) o′
-    ∙ ap (tell q′) (stops-at text b′ after [] l (outside-stops (sign (at text b′)) (at text b′) (spells (at text b′)) (w o′)))
+module _ (text : List ℕ) (b : ℕ) (ok : Bool) (p q : Sheet) (n : length text ≡ 0 → ⊥) (h : Did text 8 0 p ok b q) where
+  to-the-end : (t : Bool) → ok ≡ t → tell p (readJob text) ≡ thenOn t text b q []
+  unfolding Did
+  to-the-end t o = ap (tell p) (job-starts text n) ∙ h [] refl ∙ ap (λ x. thenOn x text b q []) o
 
-pub scan-done : (text s s′ : List ℕ) (b b′ n : ℕ) (ok ok′ : Bool) (p q : Sheet) → (length text ≡ 0 → ⊥) → Did text 8 0 fresh p ok b q → ok ≡ true → Did text 8 b after q ok′ b′ (sheet s n) → ok′ ≡ true → length text ≤ b′ → s′ ≡ withRecord s n 5
-    → tell p (readJob text) ≡ whole true text b′ (sheet s′ (n + 1))
+  pub scan-stopped : (q″ : Sheet) → ok ≡ false → tell p (readJob text) ≡ whole false text b q″
+  unfolding thenOn whole
+  scan-stopped q″ o = to-the-end false o
+
+  pub scan-more : (q″ : Sheet) → ok ≡ true → Over text ok b → b < length text → tell p (readJob text) ≡ whole false text b q″
+  unfolding thenOn whole Over step signAt tell
+  scan-more q″ o w l =
+      to-the-end true o ∙ ap (tell q) (stops-at text b after [] l (outside-stops (sign (at text b)) (at text b) (spells (at text b)) (w o)))
+
+pub scan-done : (text s s′ : List ℕ) (b m : ℕ) (ok : Bool) (p : Sheet) → (length text ≡ 0 → ⊥) → Did text 8 0 p ok b (sheet s m) → ok ≡ true → length text ≤ b → s′ ≡ withRecord s m 5
+    → tell p (readJob text) ≡ whole true text b (sheet s′ (m + 1))
 unfolding thenOn whole tell run endsIn ends layAll kindOf idOf amountOf
-scan-done text s s′ b b′ n ok ok′ p q nz h o g o′ l e = to-the-end text b b′ ok ok′ p q (sheet s n) nz h o g ∙ ap (λ x. thenOn x text b′ (sheet s n) []) o′
-    ∙ ap (λ u. tell (sheet s n) (run u after [])) (drop-of-length-le text l) ∙ ap done (sym (laid s s′ n 5 Finish e refl))
+scan-done text s s′ b m ok p n h o l e =
+    to-the-end text b ok p (sheet s m) n h true o ∙ ap (λ u. tell (sheet s m) (run u after [])) (drop-of-length-le text l) ∙ ap done (sym (laid s s′ m 5 Finish e refl))
 
 pub ruleset counting = (count-zero, count-big, count-none, count-done)
 
 pub ruleset numbering = (lock-none, lock-first, lock-next, lock-zero, lock-big, lock-third, lock-done)
 
-pub ruleset items = (item-work, item-other, item-deep, item-unlocked, item-stopped, item-did)
+pub ruleset items = (item-work, item-other, item-deep, item-unlocked, item-empty, item-stopped, item-did)
 
-pub ruleset scans = (scan-empty, scan-stopped, scan-halted, scan-more, scan-done)
+pub ruleset scans = (scan-empty, scan-stopped, scan-more, scan-done)

@@ -8,28 +8,37 @@ use Rattle.rules.specs.Numbers.Place.{at}
 use Rattle.rules.specs.declared.event.Event.the-variants.{Acquire, Work}
 use Rattle.jobs.specs.Grammar.{levels, gapByte}
 use Rattle.jobs.specs.Reader.{Sign, Mode, Answer, sign, prepend, run}
-use Rattle.jobs.specs.Reader.Mode.{units, bracket, after}
+use Rattle.jobs.specs.Reader.Mode.{fresh, units, bracket, after}
 use Rattle.jobs.specs.Reader.Sign.{digit, mark}
 use Rattle.jobs.specs.Sheet.{Sheet, Told, halted, done, tell}
 
 unfoldable pub signAt : List ℕ → ℕ → Sign
 signAt text a = sign (at text a)
 
+-- whether a space stands at place a
+pub record Gap (text : List ℕ) (a : ℕ) (so : Bool) : Type 0 where
+  pub there : so ≡ true → at text a ≡ gapByte
+  pub other : so ≡ false → at text a ≡ gapByte → ⊥
+  pub inside : so ≡ true → a + 1 ≤ length text
+
 unfoldable pub digitOf : Sign → ℕ
 digitOf (digit d) = d
 digitOf (mark m) = 10
 
--- from place a in mode m, with k more levels and the sheet p, to place b behind an item with the sheet q; or the reader stops at b
+-- from place a in mode m with the sheet p, at any depth, to place b behind an item with the sheet q; or the reader stops at b
 unfoldable pub thenOn : Bool → List ℕ → ℕ → Sheet → List ℕ → Told
 thenOn true text b q ls = tell q (run (drop b text) after ls)
 thenOn false text b q ls = halted (drop b text)
 
-unfoldable pub Did : List ℕ → ℕ → ℕ → Mode → Sheet → Bool → ℕ → Sheet → Type 0
-Did text k a m p ok b q = (ls : List ℕ) → length ls + k ≡ levels → tell p (run (drop a text) m ls) ≡ thenOn ok text b q ls
-
--- the same at any depth
 unfoldable pub Went : List ℕ → ℕ → Mode → Sheet → Bool → ℕ → Sheet → Type 0
 Went text a m p ok b q = (ls : List ℕ) → tell p (run (drop a text) m ls) ≡ thenOn ok text b q ls
+
+-- the same from before an item, with k more levels; and from there to place i before another one
+unfoldable pub Did : List ℕ → ℕ → ℕ → Sheet → Bool → ℕ → Sheet → Type 0
+Did text k a p ok b q = (ls : List ℕ) → length ls + k ≡ levels → tell p (run (drop a text) fresh ls) ≡ thenOn ok text b q ls
+
+unfoldable pub Came : List ℕ → ℕ → ℕ → Sheet → ℕ → Sheet → Type 0
+Came text k a p i q = (ls : List ℕ) → length ls + k ≡ levels → tell p (run (drop a text) fresh ls) ≡ tell q (run (drop i text) fresh ls)
 
 -- units, and a lock's number, that start at place a
 unfoldable pub thenUnits : Bool → List ℕ → ℕ → ℕ → List ℕ → Answer
@@ -57,7 +66,7 @@ Entered text a p ok b v q = (ls : List ℕ) → tell p (run (drop a text) bracke
 unfoldable pub Left : List ℕ → ℕ → ℕ → Sheet → Bool → ℕ → Sheet → Type 0
 Left text a v p ok b q = (at text a ≡ gapByte → ⊥) → (ls : List ℕ) → tell p (run (drop a text) after (v ∷ ls)) ≡ thenOn ok text b q ls
 
--- no item follows a body
+-- no item follows a body that was read
 unfoldable pub Over : List ℕ → Bool → ℕ → Type 0
 Over text ok b = ok ≡ true → at text b ≡ gapByte → ⊥
 

@@ -1,5 +1,5 @@
-// RULES 20.1, 20.2: the readers of items and bodies, which call each other. A body's items are walked by a loop, so the calls
-// go no deeper than the nesting. Each lays the events that it reads; those that do not fit are counted and not written.
+// RULES 20.1, 20.2: the readers of bodies and items, which call each other: a bracketed item holds a body. A body's items are
+// walked by a loop, so the calls go no deeper than the nesting; an empty body is no call. Each lays the events that it reads; those that do not fit are counted and not written.
 use crate::form::LEVELS;
 use crate::space::store;
 use crate::text::GAP;
@@ -8,6 +8,7 @@ use crate::text::Number;
 use crate::text::RIGHT;
 use crate::text::WORK;
 use crate::text::byte;
+use crate::text::gap;
 use crate::text::lock;
 use crate::text::units;
 ghost use mathlib.Core.Path.{_≡_};
@@ -17,7 +18,7 @@ ghost use Rattle.rules.specs.Books.Event.{eventNumber};
 ghost use Rattle.rules.specs.declared.event.Event.{Event};
 ghost use Rattle.jobs.specs.Grammar.{maxUnits, maxLock};
 ghost use Rattle.jobs.specs.Reader.{readJob};
-ghost use Rattle.jobs.specs.Reader.Mode.{fresh, units, after};
+ghost use Rattle.jobs.specs.Reader.Mode.{units};
 ghost use Rattle.jobs.specs.Sheet.{sheet, tell};
 ghost use Rattle.jobs.specs.Said.{Went, Did, Entered, Left, Over, whole, Within};
 
@@ -126,7 +127,7 @@ fn leave(text: &[u8], from: usize, l: u32, space: &mut [u8], n: usize) -> At
 // An item, with k levels of nesting left.
 fn item(text: &[u8], from: usize, k: usize, space: &mut [u8], n: usize) -> At
     requires { ⌜ (n ≤ from) × (from ≤ length (now text)) ⌝ }
-    ensures { λ r. ⌜ Did (now (text .entry)) k from fresh (sheet (now (space .entry)) n) (r .ok) (r .place) (sheet (now (space .exit)) (r .count)) ⌝ }
+    ensures { λ r. ⌜ Did (now (text .entry)) k from (sheet (now (space .entry)) n) (r .ok) (r .place) (sheet (now (space .exit)) (r .count)) ⌝ }
     ensures { λ r. ⌜ Within (now (text .entry)) from (r .place) (r .count) ⌝ }
 {
     let b = byte(text, from);
@@ -149,19 +150,23 @@ fn item(text: &[u8], from: usize, k: usize, space: &mut [u8], n: usize) -> At
     }
     let l = enter(text, from + 1, space, n);
     let inside = l.place;
+    let value = l.value;
     if l.ok {
-        let r = body(text, inside, k - 1, space, n + 1);
-        let place = r.place;
-        if r.ok {
-            let value = l.value;
-            let count = r.count;
-            return leave(text, place, value, space, count);
+        let more = gap(text, inside);
+        if more {
+            let r = body(text, inside + 1, k - 1, space, n + 1);
+            let place = r.place;
+            if r.ok {
+                let count = r.count;
+                return leave(text, place, value, space, count);
+            }
+            return At {
+                ok: false,
+                place,
+                count: 0,
+            };
         }
-        return At {
-            ok: false,
-            place,
-            count: 0,
-        };
+        return leave(text, inside, value, space, n + 1);
     }
     At {
         ok: false,
@@ -170,23 +175,30 @@ fn item(text: &[u8], from: usize, k: usize, space: &mut [u8], n: usize) -> At
     }
 }
 
-// The items from a place on, each behind a space, with k levels of nesting left.
+// A run of items with one space between them, as far as it goes, with k levels of nesting left. There is one at least.
 fn body(text: &[u8], from: usize, k: usize, space: &mut [u8], n: usize) -> At
     requires { ⌜ (n ≤ from) × (from ≤ length (now text)) ⌝ }
-    ensures { λ r. ⌜ Did (now (text .entry)) k from after (sheet (now (space .entry)) n) (r .ok) (r .place) (sheet (now (space .exit)) (r .count)) ⌝ }
+    ensures { λ r. ⌜ Did (now (text .entry)) k from (sheet (now (space .entry)) n) (r .ok) (r .place) (sheet (now (space .exit)) (r .count)) ⌝ }
     ensures { λ r. ⌜ Within (now (text .entry)) from (r .place) (r .count) ⌝ }
     ensures { λ r. ⌜ Over (now (text .entry)) (r .ok) (r .place) ⌝ }
 {
     let mut i = from;
     let mut m = n;
-    let mut b = byte(text, i);
-    while b == GAP {
-        let r = item(text, i + 1, k, space, m);
+    loop {
+        let r = item(text, i, k, space, m);
         let place = r.place;
         if r.ok {
-            i = place;
-            m = r.count;
-            b = byte(text, i);
+            let count = r.count;
+            let b = byte(text, place);
+            if b != GAP {
+                return At {
+                    ok: true,
+                    place,
+                    count,
+                };
+            }
+            i = place + 1;
+            m = count;
         } else {
             return At {
                 ok: false,
@@ -194,11 +206,6 @@ fn body(text: &[u8], from: usize, k: usize, space: &mut [u8], n: usize) -> At
                 count: 0,
             };
         }
-    }
-    At {
-        ok: true,
-        place: i,
-        count: m,
     }
 }
 
@@ -215,37 +222,27 @@ pub fn scan(text: &[u8], space: &mut [u8]) -> At
             count: 1,
         };
     }
-    let r = item(text, 0, LEVELS, space, 0);
-    let first = r.place;
+    let r = body(text, 0, LEVELS, space, 0);
+    let place = r.place;
     if r.ok {
-        let before = r.count;
-        let s = body(text, first, LEVELS, space, before);
-        let place = s.place;
-        if s.ok {
-            if place < text.len() {
-                return At {
-                    ok: false,
-                    place,
-                    count: 0,
-                };
-            }
-            let count = s.count;
-            store(space, count, FINISH);
+        if place < text.len() {
             return At {
-                ok: true,
+                ok: false,
                 place,
-                count: count + 1,
+                count: 0,
             };
         }
+        let count = r.count;
+        store(space, count, FINISH);
         return At {
-            ok: false,
+            ok: true,
             place,
-            count: 0,
+            count: count + 1,
         };
     }
     At {
         ok: false,
-        place: first,
+        place,
         count: 0,
     }
 }

@@ -6,7 +6,7 @@ ghost use Prim.Native.Nat.{_≤_};
 ghost use lib.ListN.{length};
 ghost use Rattle.rules.specs.Numbers.Place.{at};
 ghost use Rattle.jobs.specs.Grammar.{maxUnits, maxLock};
-ghost use Rattle.jobs.specs.Said.{signAt, digitOf, Counted, Numbered, Within};
+ghost use Rattle.jobs.specs.Said.{Gap, signAt, digitOf, Counted, Numbered, Within};
 
 // The bytes of the form that are no digits: `w`, `[`, `]` and the space.
 pub const WORK: u32 = 119;
@@ -31,6 +31,14 @@ pub fn byte(text: &[u8], place: usize) -> u32
         return wide(text[place]);
     }
     0
+}
+
+// Whether a space stands at a place.
+pub fn gap(text: &[u8], place: usize) -> bool
+    ensures { λ r. ⌜ Gap (now (text .entry)) place r ⌝ }
+{
+    let b = byte(text, place);
+    b == GAP
 }
 
 // The digit at a place, or 10.
@@ -60,18 +68,26 @@ pub fn units(text: &[u8], from: usize) -> Number
     ensures { λ r. ⌜ Within (now (text .entry)) from (r .place) 0 ⌝ }
     ensures { λ r. ⌜ r .value ≤ maxUnits ⌝ }
 {
-    let mut i = from;
-    let mut v: u32 = 0;
+    let first = digit(text, from);
+    if 10 <= first {
+        return Number {
+            ok: false,
+            place: from,
+            value: 0,
+        };
+    }
+    if first == 0 {
+        return Number {
+            ok: false,
+            place: from,
+            value: 0,
+        };
+    }
+    let mut i = from + 1;
+    let mut v = first;
     let mut d = digit(text, i);
     while d < 10 {
         let w = v * 10 + d;
-        if w == 0 {
-            return Number {
-                ok: false,
-                place: i,
-                value: 0,
-            };
-        }
         if MAX_UNITS < w {
             return Number {
                 ok: false,
@@ -82,13 +98,6 @@ pub fn units(text: &[u8], from: usize) -> Number
         v = w;
         i += 1;
         d = digit(text, i);
-    }
-    if v == 0 {
-        return Number {
-            ok: false,
-            place: i,
-            value: 0,
-        };
     }
     Number {
         ok: true,

@@ -44,11 +44,12 @@ fieldLength kind w bytes = if ltb w (fieldsOf kind) then wordLength bytes else 0
 abbrev pub afterField : Kind → ℕ → List ℕ → List ℕ
 afterField kind w bytes = drop (fieldLength kind w bytes) bytes
 
--- after its numbers nothing may stand; in a job its items do, which have room for all events of a book
+-- after the numbers of a record nothing may stand
 unfoldable pub plainLine : Kind → ℕ → ℕ → List ℕ → Line
 plainLine kind a b [] = Line.Record (partOf kind) (recordOf kind a b)
 plainLine kind a b (c ∷ cs) = Line.Wrong kind (fieldsOf kind + 2) Mistake.TooMany
 
+-- after that of a job its items do, with room for all events of a book; the record w is its release, which counts among its records
 abbrev pub jobRoom : ℕ
 jobRoom = maxEvents * 4
 
@@ -59,6 +60,7 @@ jobSaid w (Verdict.Refused why place) events = Line.Refused why place
 unfoldable pub jobLine : ℕ → List ℕ → Line
 jobLine w items = jobSaid w (jobAnswer items jobRoom .verdict) (jobAnswer items jobRoom .events)
 
+-- what comes after the numbers, by the kind
 unfoldable pub ended : Kind → ℕ → ℕ → List ℕ → Line
 ended kind a b bytes = if hasItems kind then jobLine (recordOf kind a b) (bare bytes) else plainLine kind a b bytes
 

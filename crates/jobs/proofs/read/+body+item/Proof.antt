@@ -2,18 +2,15 @@
 -- at its own, so with k levels left the measure is 2k for an item and 2k + 1 for a body. The loop over a body's items falls on the remaining text.
 -- Assumes nothing.
 use mathlib.Core.Path.{_≡_}
-use mathlib.Core.Bool.{true}
 use Prim.Native.Nat.{ℕ, _<_, _≤_, _+_, _*_, _-_}
 use native.Mathlib.Omega.{arith}
 use lib.ListN.{length}
-use Rattle.rules.specs.Numbers.Place.{at}
 use borrow.Author.Needs.{needs}
 use borrow.Fn.Kinds.{In}
 use borrow.Fn.PlainCycle.{Measures, is, falls, and}
-use Rattle.jobs.specs.Reader.Mode.{after}
 use Rattle.jobs.specs.Sheet.{sheet}
-use Rattle.jobs.specs.Said.{Did}
-use Rattle.jobs.proofs.Ways.{within-work, within-left, within-gap, items, body-start, body-next, body-stopped, body-less, body-over, body-halted}
+use Rattle.jobs.specs.Said.{Came}
+use Rattle.jobs.proofs.Ways.{within-work, within-left, within-gap, gap-inside, items, body-start, body-next, body-done, body-stopped, body-less, body-over, body-halted}
 use Rattle.jobs.proofs.read.body.Reads as body
 use Rattle.jobs.proofs.read.body.Kinds as body-kinds
 use Rattle.jobs.proofs.read.+body+item.Lts-body as body-lts
@@ -24,6 +21,7 @@ use Rattle.jobs.proofs.read.enter.Reads as enter-reads
 use Rattle.jobs.proofs.read.leave.Reads as leave-reads
 use Rattle.jobs.proofs.read.work.Reads as work-reads
 use Rattle.jobs.proofs.text.byte.Reads as byte-reads
+use Rattle.jobs.proofs.text.gap.Reads as gap-reads
 use Rattle.jobs.proofs.read.+body+item.{statement}
 use Rattle.jobs.proofs.read.+body+item.Tie.{close}
 
@@ -47,29 +45,27 @@ item-at t = and 2 item-kinds.ps (is 2 item-kinds.ps μ-item t) item.Pre
 abbrev item-below : ℕ → In 2 item-kinds.ps
 item-below t = and 2 item-kinds.ps (falls 2 item-kinds.ps _<_ μ-item t) item.Pre
 
--- a body's loop has read some items
+-- a body's loop has come to an item
 abbrev Inv-loop : body-lts.InvT-loop
-Inv-loop text from k space₀ n i₀ m₀ b₀ space i m b =
-    (length space ≡ length space₀) × (from ≤ i) × (i ≤ length text) × (m ≤ i) × Did text k from after (sheet space₀ n) true i (sheet space m) × (b ≡ at text i)
+Inv-loop text from k space₀ n i₀ m₀ space i m = (length space ≡ length space₀) × (from ≤ i) × (i ≤ length text) × (m ≤ i) × Came text k from (sheet space₀ n) i (sheet space m)
 
 abbrev μ-loop : body-lts.MeasureT-loop
-μ-loop text from k space₀ n i₀ m₀ b₀ space i m b = length text - i
+μ-loop text from k space₀ n i₀ m₀ space i m = length text - i
 
 pub +body+item-spec : {M : Type 1} → statement M
 +body+item-spec = close μ-body μ-item
-    (λ t. body-lts.spec (byte-reads.Asked, byte-reads.Learnt, item-below t, item.Post) (body-at t) body.Post Inv-loop μ-loop
+    (λ t. body-lts.spec (item-below t, item.Post, byte-reads.Asked, byte-reads.Learnt) (body-at t) body.Post Inv-loop μ-loop
+    (λ c. (search needs, search needs, search needs, search needs, search body-start))
+    (λ c κs. (omega arith, (search needs, search needs)))
     (λ c κs. search needs)
-    (λ c. (search needs, search needs, search needs, search needs, search body-start, search needs))
     (λ c. search needs)
-    (λ c κs. (omega arith, (search needs, search within-gap)))
-    (λ c κs. search needs)
+    (λ c. (search body-done, (search needs, search body-over)))
+    (λ c. search needs)
     (λ c. search (body-less, needs))
-    (λ c. (search needs, search needs, search needs, search needs, search body-next, search needs))
+    (λ c. (search needs, search needs, search within-gap, search needs, search body-next))
     (λ c. search needs)
-    (λ c. (search body-stopped, (search needs, search body-halted)))
-    (λ c. search needs)
-    (λ c. (search needs, (search needs, search body-over))))
-    (λ t. item-lts.spec (byte-reads.Asked, byte-reads.Learnt, work-reads.Asked, work-reads.Learnt, enter-reads.Asked, enter-reads.Learnt, body-below t, body.Post, leave-reads.Asked, leave-reads.Learnt) (item-at t) item.Post
+    (λ c. (search body-stopped, (search needs, search body-halted))))
+    (λ t. item-lts.spec (byte-reads.Asked, byte-reads.Learnt, work-reads.Asked, work-reads.Learnt, enter-reads.Asked, enter-reads.Learnt, gap-reads.Asked, gap-reads.Learnt, body-below t, body.Post, leave-reads.Asked, leave-reads.Learnt) (item-at t) item.Post
     (λ c κs. search needs)
     (λ c. search needs)
     (λ c κs. (search needs, search within-work))
@@ -79,12 +75,18 @@ pub +body+item-spec : {M : Type 1} → statement M
     (λ c. (search items, search needs))
     (λ c. search needs)
     (λ c κs. (search needs, search within-left))
+    (λ c κs. search needs)
     (λ c. search needs)
     (λ c. search needs)
-    (λ c κs. (omega arith, (search needs, search needs)))
+    (λ c. search needs)
+    (λ c κs. (omega arith, (search needs, search gap-inside)))
     (λ c κs. search needs)
     (λ c. search needs)
     (λ c. (search items, search needs))
+    (λ c. search needs)
+    (λ c. (search items, search needs))
+    (λ c. search needs)
+    (λ c κs. search needs)
     (λ c. search needs)
     (λ c. (search items, search needs))
     (λ c. search needs)

@@ -9,29 +9,29 @@ use lib.Dec.{eqb}
 use lib.ListN.{length, length-drop}
 use borrow.Author.Tests.{eqb-true, ltb-false, not-false}
 use Rattle.rules.specs.Numbers.Choice.{if◌then◌else◌}
-use Rattle.rules.specs.Numbers.Refusal.{number_of, checkFor}
-use Rattle.rules.specs.Books.Book.{countAt, size_of, body_at, layoutFault, eventBody, recordFault, contentsChecks, eventChecks, checkOf}
+use Rattle.rules.specs.Numbers.Refusal.{number_of, check_for}
+use Rattle.rules.specs.Books.Book.{count_at, size_of, body_at, layout_fault, event_body, record_fault, contents_checks, event_checks, check_of}
 use Rattle.rules.specs.declared.answer.Verdict.{Verdict}
 use Rattle.rules.specs.declared.refusal.Refusal.TheVariants.{WrongLayout, WrongEvent, ShortRows}
-use Rattle.rules.proofs.Numbers.Checks.{clean-for}
-use Rattle.rules.proofs.Books.Passes.{passed-contents, passed-events}
+use Rattle.rules.proofs.Numbers.Checks.{clean_for}
+use Rattle.rules.proofs.Books.Passes.{passed_contents, passed_events}
 
-module _ (b : List ℕ) (room : ℕ) (passed : checkOf b room ≡ Verdict.Passed) where
-  pub ends : body_at b 3 + countAt b 3 * 4 ≡ length b
-  unfolding contentsChecks checkFor number_of layoutFault body_at size_of if◌then◌else◌
+module _ (b : List ℕ) (room : ℕ) (passed : check_of b room ≡ Verdict.Passed) where
+  pub ends : body_at b 3 + count_at b 3 * 4 ≡ length b
+  unfolding contents_checks check_for number_of layout_fault body_at size_of if◌then◌else◌
   ends = eqb-true (body_at b 4) (length b) (not-false (eqb (body_at b 4) (length b))
-      (clean-for (contentsChecks b) (passed-contents b room passed) WrongLayout 4 (omega arith)))
+      (clean_for (contents_checks b) (passed_contents b room passed) WrongLayout 4 (omega arith)))
 
-  pub size : length (eventBody b) ≡ countAt b 3 * 4
+  pub size : length (event_body b) ≡ count_at b 3 * 4
   size = length-drop (body_at b 3) b ∙ omega (arith, ends)
 
-  pub records : length (eventBody b) / 4 ≡ countAt b 3
+  pub records : length (event_body b) / 4 ≡ count_at b 3
   records = omega (arith, size)
 
-  pub no-fault : (k : ℕ) → k < countAt b 3 → recordFault (eventBody b) k ≡ false
-  unfolding eventChecks checkFor number_of if◌then◌else◌
-  no-fault = clean-for (eventChecks b room) (passed-events b room passed) WrongEvent
+  pub no_fault : (k : ℕ) → k < count_at b 3 → record_fault (event_body b) k ≡ false
+  unfolding event_checks check_for number_of if◌then◌else◌
+  no_fault = clean_for (event_checks b room) (passed_events b room passed) WrongEvent
 
-  pub rows_fit : countAt b 3 * 4 ≤ room
-  unfolding eventChecks checkFor number_of if◌then◌else◌
-  rows_fit = ltb-false room (countAt b 3 * 4) (clean-for (eventChecks b room) (passed-events b room passed) ShortRows 0 (omega arith))
+  pub rows_fit : count_at b 3 * 4 ≤ room
+  unfolding event_checks check_for number_of if◌then◌else◌
+  rows_fit = ltb-false room (count_at b 3 * 4) (clean_for (event_checks b room) (passed_events b room passed) ShortRows 0 (omega arith))

@@ -7,39 +7,39 @@ use native.Mathlib.Omega.{arith}
 use lib.Dec.{ltb}
 use lib.ListN.{length}
 use borrow.Author.Tests.{lt-ltb, le-ltb}
-use Rattle.rules.specs.Numbers.Answer.{foundSome, foundEvent, foundNext, foundNumber}
-use Rattle.rules.specs.Books.Book.{countAt, eventBody, recordFault, recordEvent, eventsOf, found_at, checkOf}
-use Rattle.rules.specs.Demands.History.{eventAt}
+use Rattle.rules.specs.Numbers.Answer.{found_some, found_event, found_next, found_number}
+use Rattle.rules.specs.Books.Book.{count_at, event_body, record_fault, record_event, events_of, found_at, check_of}
+use Rattle.rules.specs.Demands.History.{event_at}
 use Rattle.rules.specs.declared.answer.Found.{Found}
 use Rattle.rules.specs.declared.answer.Verdict.{Verdict}
 use Rattle.rules.specs.declared.event.Event.TheVariants.{Tick}
 use Rattle.rules.specs.declared.refusal.Refusal.TheVariants.{WrongEvent}
-use Rattle.rules.proofs.Numbers.Choice.{if-true, if-false, lt-or-le}
+use Rattle.rules.proofs.Numbers.Choice.{if_true, if_false, lt_or_le}
 use Rattle.rules.proofs.Numbers.Place.{get_d_tabulate, length_from}
 use Rattle.book.specs.Reader.{ReadAt}
-use Rattle.book.proofs.Accepted.{records, no-fault}
+use Rattle.book.proofs.Accepted.{records, no_fault}
 
-module _ (b : List ℕ) (room : ℕ) (passed : checkOf b room ≡ Verdict.Passed) where
-  walks-event : (k : ℕ) → k < countAt b 3 → found_at (eventBody b) k ≡ Found.Got (eventAt (eventsOf b) k) (k + 1)
+module _ (b : List ℕ) (room : ℕ) (passed : check_of b room ≡ Verdict.Passed) where
+  walks_event : (k : ℕ) → k < count_at b 3 → found_at (event_body b) k ≡ Found.Got (event_at (events_of b) k) (k + 1)
   unfolding found_at
-  walks-event k h =
-      if-true (ltb k (length (eventBody b) / 4)) _ Found.End (lt-ltb k (length (eventBody b) / 4) (omega (arith, records b room passed)))
-      ∙ if-false (recordFault (eventBody b) k) (Found.Refused WrongEvent k) (Found.Got (recordEvent (eventBody b) k) (k + 1)) (no-fault b room passed k h)
-      ∙ ap (λ e. Found.Got e (k + 1)) (sym (get_d_tabulate (recordEvent (eventBody b)) (countAt b 3) k Tick h))
+  walks_event k h =
+      if_true (ltb k (length (event_body b) / 4)) _ Found.End (lt-ltb k (length (event_body b) / 4) (omega (arith, records b room passed)))
+      ∙ if_false (record_fault (event_body b) k) (Found.Refused WrongEvent k) (Found.Got (record_event (event_body b) k) (k + 1)) (no_fault b room passed k h)
+      ∙ ap (λ e. Found.Got e (k + 1)) (sym (get_d_tabulate (record_event (event_body b)) (count_at b 3) k Tick h))
 
-  walks-end : (k : ℕ) → countAt b 3 ≤ k → found_at (eventBody b) k ≡ Found.End
+  walks_end : (k : ℕ) → count_at b 3 ≤ k → found_at (event_body b) k ≡ Found.End
   unfolding found_at
-  walks-end k h = if-false (ltb k (length (eventBody b) / 4)) _ Found.End (le-ltb k (length (eventBody b) / 4) (omega (arith, records b room passed)))
+  walks_end k h = if_false (ltb k (length (event_body b) / 4)) _ Found.End (le-ltb k (length (event_body b) / 4) (omega (arith, records b room passed)))
 
-  few : length (eventsOf b) ≡ countAt b 3
-  few = length_from (recordEvent (eventBody b)) 0 (countAt b 3)
+  few : length (events_of b) ≡ count_at b 3
+  few = length_from (record_event (event_body b)) 0 (count_at b 3)
 
-  pub walks : (k : ℕ) → ReadAt b k (found_at (eventBody b) k)
-  unfolding foundSome foundEvent foundNext foundNumber
+  pub walks : (k : ℕ) → ReadAt b k (found_at (event_body b) k)
+  unfolding found_some found_event found_next found_number
   walks k = record {
-    some = λ h. ap foundSome (walks-event k (omega (arith, few)));
-    event = λ h. ap foundEvent (walks-event k (omega (arith, few)));
-    next = λ h. ap foundNext (walks-event k (omega (arith, few)));
-    end = λ h. ap foundSome (walks-end k (omega (arith, few)));
-    number = ⊎_elim (λ h. ap foundNumber (walks-event k h)) (λ h. ap foundNumber (walks-end k h)) (lt-or-le k (countAt b 3));
+    some = λ h. ap found_some (walks_event k (omega (arith, few)));
+    event = λ h. ap found_event (walks_event k (omega (arith, few)));
+    next = λ h. ap found_next (walks_event k (omega (arith, few)));
+    end = λ h. ap found_some (walks_end k (omega (arith, few)));
+    number = ⊎_elim (λ h. ap found_number (walks_event k h)) (λ h. ap found_number (walks_end k h)) (lt_or_le k (count_at b 3));
   }

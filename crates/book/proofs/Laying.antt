@@ -8,10 +8,10 @@ use lib.ListN.{length, take, drop, length-append, length-drop, take-append-drop,
 use lib.Seq.{drop-cons, drop-drop, drop-append-le, length-take-le}
 use Rattle.rules.specs.Numbers.Place.{at, stored}
 use Rattle.rules.specs.Books.Book.{contents}
-use Rattle.rules.specs.Books.Bytes.{two, four, word_bytes, longBytes, entry_of, bodiesOf, bookOf}
-use Rattle.rules.proofs.Numbers.Stored.{length-stored, stored_on, stored_past, stored-front}
-use Rattle.rules.proofs.Books.ReadBack.{word_size, long-size, book-size}
-use Rattle.book.specs.Room.{Room, PartRoom, withPart}
+use Rattle.rules.specs.Books.Bytes.{two, four, word_bytes, long_bytes, entry_of, bodies_of, book_of}
+use Rattle.rules.proofs.Numbers.Stored.{length_stored, stored_on, stored_past, stored_front}
+use Rattle.rules.proofs.Books.ReadBack.{word_size, long_size, book_size}
+use Rattle.book.specs.Room.{Room, PartRoom, with_part}
 
 -- ---- one part after another
 
@@ -26,50 +26,50 @@ module _ (from : ℕ) (ws before : List ℕ) where
   WordsSoFar i out = (i ≤ length ws) × (stored out (from + i * 2) (word_bytes (drop i ws)) ≡ stored before from (word_bytes ws))
 
   abbrev pub LongsSoFar : ℕ → List ℕ → Type 0
-  LongsSoFar i out = (i ≤ length ws) × (stored out (from + i * 4) (longBytes (drop i ws)) ≡ stored before from (longBytes ws))
+  LongsSoFar i out = (i ≤ length ws) × (stored out (from + i * 4) (long_bytes (drop i ws)) ≡ stored before from (long_bytes ws))
 
-  pub words-start : WordsSoFar 0 before
-  words-start = let e : from + 0 * 2 ≡ from = omega arith in (omega arith, ap (λ p. stored before p (word_bytes ws)) e)
+  pub words_start : WordsSoFar 0 before
+  words_start = let e : from + 0 * 2 ≡ from = omega arith in (omega arith, ap (λ p. stored before p (word_bytes ws)) e)
 
-  pub longs-start : LongsSoFar 0 before
-  longs-start = let e : from + 0 * 4 ≡ from = omega arith in (omega arith, ap (λ p. stored before p (longBytes ws)) e)
+  pub longs_start : LongsSoFar 0 before
+  longs_start = let e : from + 0 * 4 ≡ from = omega arith in (omega arith, ap (λ p. stored before p (long_bytes ws)) e)
 
   module _ (i : ℕ) (out next : List ℕ) (h : i < length ws) where
-    pub words-next : WordsSoFar i out → next ≡ stored out (from + i * 2) (two (at ws i)) → WordsSoFar (i + 1) next
+    pub words_next : WordsSoFar i out → next ≡ stored out (from + i * 2) (two (at ws i)) → WordsSoFar (i + 1) next
     unfolding word_bytes
-    words-next s e = (
+    words_next s e = (
       omega arith,
       rw (add-one i) (then (stored before from (word_bytes ws)) out next (word_bytes (drop (suc i) ws)) (from + i * 2)
           (from + suc i * 2) (two (at ws i)) (ap (λ xs. stored out (from + i * 2) (word_bytes xs)) (sym (drop-cons ws i 0 h)) ∙ s.1) e (omega arith)),
     )
 
-    pub longs-next : LongsSoFar i out → next ≡ stored out (from + i * 4) (four (at ws i)) → LongsSoFar (i + 1) next
-    unfolding longBytes
-    longs-next s e = (
+    pub longs_next : LongsSoFar i out → next ≡ stored out (from + i * 4) (four (at ws i)) → LongsSoFar (i + 1) next
+    unfolding long_bytes
+    longs_next s e = (
       omega arith,
-      rw (add-one i) (then (stored before from (longBytes ws)) out next (longBytes (drop (suc i) ws)) (from + i * 4)
-          (from + suc i * 4) (four (at ws i)) (ap (λ xs. stored out (from + i * 4) (longBytes xs)) (sym (drop-cons ws i 0 h)) ∙ s.1) e (omega arith)),
+      rw (add-one i) (then (stored before from (long_bytes ws)) out next (long_bytes (drop (suc i) ws)) (from + i * 4)
+          (from + suc i * 4) (four (at ws i)) (ap (λ xs. stored out (from + i * 4) (long_bytes xs)) (sym (drop-cons ws i 0 h)) ∙ s.1) e (omega arith)),
     )
 
   module _ (i : ℕ) (out : List ℕ) (h : length ws ≤ i) where
-    pub words-end : WordsSoFar i out → out ≡ stored before from (word_bytes ws)
+    pub words_end : WordsSoFar i out → out ≡ stored before from (word_bytes ws)
     unfolding word_bytes stored
-    words-end s = ap (λ xs. stored out (from + i * 2) (word_bytes xs)) (sym (drop_of_length-le ws h)) ∙ s.1
+    words_end s = ap (λ xs. stored out (from + i * 2) (word_bytes xs)) (sym (drop_of_length-le ws h)) ∙ s.1
 
-    pub longs-end : LongsSoFar i out → out ≡ stored before from (longBytes ws)
-    unfolding longBytes stored
-    longs-end s = ap (λ xs. stored out (from + i * 4) (longBytes xs)) (sym (drop_of_length-le ws h)) ∙ s.1
+    pub longs_end : LongsSoFar i out → out ≡ stored before from (long_bytes ws)
+    unfolding long_bytes stored
+    longs_end s = ap (λ xs. stored out (from + i * 4) (long_bytes xs)) (sym (drop_of_length-le ws h)) ∙ s.1
 
-pub words-after : (from n : ℕ) (ws : List ℕ) → n ≡ length ws → from + n * 2 ≡ from + length (word_bytes ws)
-words-after from n ws e = omega (arith, e, word_size ws)
+pub words_after_lem : (from n : ℕ) (ws : List ℕ) → n ≡ length ws → from + n * 2 ≡ from + length (word_bytes ws)
+words_after_lem from n ws e = omega (arith, e, word_size ws)
 
-pub longs-after : (from n : ℕ) (ws : List ℕ) → n ≡ length ws → from + n * 4 ≡ from + length (longBytes ws)
-longs-after from n ws e = omega (arith, e, long-size ws)
+pub longs_after : (from n : ℕ) (ws : List ℕ) → n ≡ length ws → from + n * 4 ≡ from + length (long_bytes ws)
+longs_after from n ws e = omega (arith, e, long_size ws)
 
 -- an entry: kind, count, offset
-pub entry-stored : (out₀ out₁ out₂ out₃ : List ℕ) (i kind count offset : ℕ) → out₁ ≡ stored out₀ i (two kind) → out₂ ≡ stored out₁ (i + 2) (two count)
+pub entry_stored : (out₀ out₁ out₂ out₃ : List ℕ) (i kind count offset : ℕ) → out₁ ≡ stored out₀ i (two kind) → out₂ ≡ stored out₁ (i + 2) (two count)
     → out₃ ≡ stored out₂ (i + 4) (four offset) → out₃ ≡ stored out₀ i (entry_of kind count offset)
-entry-stored out₀ out₁ out₂ out₃ i kind count offset a b c =
+entry_stored out₀ out₁ out₂ out₃ i kind count offset a b c =
     c ∙ then (stored out₀ i (entry_of kind count offset)) out₁ out₂ (four offset) (i + 2) (i + 4) (two count)
     (then (stored out₀ i (entry_of kind count offset)) out₀ out₁ (two count ++ four offset) i (i + 2) (two kind) refl a refl) b (omega arith)
 
@@ -77,34 +77,34 @@ entry-stored out₀ out₁ out₂ out₃ i kind count offset a b c =
 
 -- what a part asks of its body and of its entry, when the body is laid
 module _ (out : List ℕ) (e from n size : ℕ) (room : PartRoom out e from n size) where
-  pub body-room : from + n * size ≤ length out
-  body-room = room.body
+  pub body_room : from + n * size ≤ length out
+  body_room = room.body
 
-  pub entry-room : (next : List ℕ) → length next ≡ length out → (contents ≤ length next) × (e < 4) × (n < 65536) × (from < 4294967296)
-  entry-room next h = (omega (arith, room.front, h), room.entry, omega (arith, room.count), omega (arith, room.offset))
+  pub entry_room : (next : List ℕ) → length next ≡ length out → (contents ≤ length next) × (e < 4) × (n < 65536) × (from < 4294967296)
+  entry_room next h = (omega (arith, room.front, h), room.entry, omega (arith, room.count), omega (arith, room.offset))
 
-with-part-length : (out next body : List ℕ) (e from n : ℕ) → next ≡ withPart out e from n body → length next ≡ length out
-with-part-length out next body e from n w = ap length w ∙ length-stored (stored out from body) (e * 8) (entry_of (e + 1) n from) ∙ length-stored out from body
+with_part_length : (out next body : List ℕ) (e from n : ℕ) → next ≡ with_part out e from n body → length next ≡ length out
+with_part_length out next body e from n w = ap length w ∙ length_stored (stored out from body) (e * 8) (entry_of (e + 1) n from) ∙ length_stored out from body
 
 -- these entries stand in front and these bodies from the contents' end on; all else is as it was
 abbrev LaidSoFar : List ℕ → List ℕ → List ℕ → List ℕ → Type 0
 LaidSoFar before entries bodies out =
     out ≡ entries ++ (drop (length entries) (take contents before) ++ (bodies ++ drop (contents + length bodies) before))
 
-part-laid : (before entries bodies out next body : List ℕ) (e from n : ℕ) → LaidSoFar before entries bodies out → next ≡ withPart out e from n body
+part_laid : (before entries bodies out next body : List ℕ) (e from n : ℕ) → LaidSoFar before entries bodies out → next ≡ with_part out e from n body
     → length entries ≡ e * 8 → e < 4 → from ≡ contents + length bodies → from + length body ≤ length before
     → LaidSoFar before (entries ++ entry_of (e + 1) n from) (bodies ++ body) next
-part-laid before entries bodies out next body e from n o w i h f r =
+part_laid before entries bodies out next body e from n o w i h f r =
     w
     ∙ ap (λ x. stored x (e * 8) entry)
     (ap₂ (λ x k. stored x k body) o place
     ∙ stored_past entries (gap ++ (bodies ++ rest)) (length gap + (length bodies + 0)) body
     ∙ ap (λ x. entries ++ x) (stored_past gap (bodies ++ rest) (length bodies + 0) body
-    ∙ ap (λ x. gap ++ x) (stored_past bodies rest 0 body ∙ ap (λ x. bodies ++ x) (stored-front rest body (omega (arith, left)))
+    ∙ ap (λ x. gap ++ x) (stored_past bodies rest 0 body ∙ ap (λ x. bodies ++ x) (stored_front rest body (omega (arith, left)))
     ∙ sym (append_assoc bodies body (drop (length body) rest)))))
     ∙ ap (λ k. stored (entries ++ (gap ++ after)) k entry) start
     ∙ stored_past entries (gap ++ after) 0 entry
-    ∙ ap (λ x. entries ++ x) (stored-front (gap ++ after) entry (omega (arith, length-append gap after, space))
+    ∙ ap (λ x. entries ++ x) (stored_front (gap ++ after) entry (omega (arith, length-append gap after, space))
     ∙ ap (λ x. entry ++ x) (drop-append-le 8 gap after (omega (arith, space))))
     ∙ sym (append_assoc entries entry (drop 8 gap ++ after))
     ∙ ap₂ (λ x y. (entries ++ entry) ++ (x ++ ((bodies ++ body) ++ y))) gone past
@@ -148,20 +148,20 @@ module _ (t l u e out : List ℕ) (room : Room t l u e out) where
   a = word_bytes t
 
   abbrev b : List ℕ
-  b = longBytes l
+  b = long_bytes l
 
   abbrev c : List ℕ
   c = word_bytes u
 
   abbrev d : List ℕ
-  d = longBytes e
+  d = long_bytes e
 
   sizes : (length a ≡ length t * 2) × (length b ≡ length l * 4) × (length c ≡ length u * 2) × (length d ≡ length e * 4)
       × (contents + length t * 2 + length l * 4 + length u * 2 + length e * 4 ≤ length out)
-  sizes = (word_size t, long-size l, word_size u, long-size e, omega (arith, book-size t l u e, room.fits))
+  sizes = (word_size t, long_size l, word_size u, long_size e, omega (arith, book_size t l u e, room.fits))
 
-  pub tasks-room : PartRoom out 0 contents (length t) 2
-  tasks-room = record {
+  pub tasks_room : PartRoom out 0 contents (length t) 2
+  tasks_room = record {
     front = omega (arith, sizes.4);
     entry = omega arith;
     body = omega (arith, sizes.4);
@@ -170,8 +170,8 @@ module _ (t l u e out : List ℕ) (room : Room t l u e out) where
   }
 
   module _ (p : ℕ) (after-tasks : p ≡ contents + length a) where
-    pub locks-room : (o₁ : List ℕ) → o₁ ≡ withPart out 0 contents (length t) a → PartRoom o₁ 1 p (length l) 4
-    locks-room o₁ w₁ = let h : length o₁ ≡ length out = with-part-length out o₁ a 0 contents (length t) w₁ in record {
+    pub locks_room : (o₁ : List ℕ) → o₁ ≡ with_part out 0 contents (length t) a → PartRoom o₁ 1 p (length l) 4
+    locks_room o₁ w₁ = let h : length o₁ ≡ length out = with_part_length out o₁ a 0 contents (length t) w₁ in record {
       front = omega (arith, sizes.4);
       entry = omega arith;
       body = omega (arith, sizes.0, sizes.4, after-tasks);
@@ -180,9 +180,9 @@ module _ (t l u e out : List ℕ) (room : Room t l u e out) where
     }
 
     module _ (q : ℕ) (after-locks : q ≡ p + length b) where
-      pub uses-room : (o₁ o₂ : List ℕ) → o₁ ≡ withPart out 0 contents (length t) a → o₂ ≡ withPart o₁ 1 p (length l) b → PartRoom o₂ 2 q (length u) 2
-      uses-room o₁ o₂ w₁ w₂ = let h : length o₂ ≡ length out = with-part-length o₁ o₂ b 1 p (length l) w₂
-          ∙ with-part-length out o₁ a 0 contents (length t) w₁ in
+      pub uses_room : (o₁ o₂ : List ℕ) → o₁ ≡ with_part out 0 contents (length t) a → o₂ ≡ with_part o₁ 1 p (length l) b → PartRoom o₂ 2 q (length u) 2
+      uses_room o₁ o₂ w₁ w₂ = let h : length o₂ ≡ length out = with_part_length o₁ o₂ b 1 p (length l) w₂
+          ∙ with_part_length out o₁ a 0 contents (length t) w₁ in
           record {
             front = omega (arith, sizes.4);
             entry = omega arith;
@@ -192,10 +192,10 @@ module _ (t l u e out : List ℕ) (room : Room t l u e out) where
           }
 
       module _ (s : ℕ) (after-uses : s ≡ q + length c) where
-        pub events-room : (o₁ o₂ o₃ : List ℕ) → o₁ ≡ withPart out 0 contents (length t) a → o₂ ≡ withPart o₁ 1 p (length l) b
-            → o₃ ≡ withPart o₂ 2 q (length u) c → PartRoom o₃ 3 s (length e) 4
-        events-room o₁ o₂ o₃ w₁ w₂ w₃ = let h : length o₃ ≡ length out = with-part-length o₂ o₃ c 2 q (length u) w₃ ∙ with-part-length o₁ o₂ b 1 p (length l) w₂
-            ∙ with-part-length out o₁ a 0 contents (length t) w₁ in record {
+        pub events_room : (o₁ o₂ o₃ : List ℕ) → o₁ ≡ with_part out 0 contents (length t) a → o₂ ≡ with_part o₁ 1 p (length l) b
+            → o₃ ≡ with_part o₂ 2 q (length u) c → PartRoom o₃ 3 s (length e) 4
+        events_room o₁ o₂ o₃ w₁ w₂ w₃ = let h : length o₃ ≡ length out = with_part_length o₂ o₃ c 2 q (length u) w₃ ∙ with_part_length o₁ o₂ b 1 p (length l) w₂
+            ∙ with_part_length out o₁ a 0 contents (length t) w₁ in record {
               front = omega (arith, sizes.4);
               entry = omega arith;
               body = omega (arith, sizes.0, sizes.1, sizes.2, sizes.4, after-tasks, after-locks, after-uses);
@@ -204,17 +204,17 @@ module _ (t l u e out : List ℕ) (room : Room t l u e out) where
             }
 
         module _ (r : ℕ) (after-events : r ≡ s + length d) where
-          pub length-laid : r ≡ length (bookOf t l u e)
-          length-laid = omega (arith, sizes.0, sizes.1, sizes.2, sizes.3, after-tasks, after-locks, after-uses, after-events, book-size t l u e)
+          pub length_laid : r ≡ length (book_of t l u e)
+          length_laid = omega (arith, sizes.0, sizes.1, sizes.2, sizes.3, after-tasks, after-locks, after-uses, after-events, book_size t l u e)
 
-          pub book-laid : (o₁ o₂ o₃ o₄ : List ℕ) → o₁ ≡ withPart out 0 contents (length t) a → o₂ ≡ withPart o₁ 1 p (length l) b
-              → o₃ ≡ withPart o₂ 2 q (length u) c → o₄ ≡ withPart o₃ 3 s (length e) d → o₄ ≡ bookOf t l u e ++ drop r out
-          unfolding bookOf
-          book-laid o₁ o₂ o₃ o₄ w₁ w₂ w₃ w₄ =
-              part-laid out (e₁ ++ e₂ ++ e₃) (a ++ b ++ c) o₃ o₄ d 3 s (length e)
-              (part-laid out (e₁ ++ e₂) (a ++ b) o₂ o₃ c 2 q (length u)
-              (part-laid out e₁ a o₁ o₂ b 1 p (length l)
-              (part-laid out [] [] out o₁ a 0 contents (length t) (sym (take-append-drop contents out)) w₁ refl (omega arith) refl
+          pub book_laid : (o₁ o₂ o₃ o₄ : List ℕ) → o₁ ≡ with_part out 0 contents (length t) a → o₂ ≡ with_part o₁ 1 p (length l) b
+              → o₃ ≡ with_part o₂ 2 q (length u) c → o₄ ≡ with_part o₃ 3 s (length e) d → o₄ ≡ book_of t l u e ++ drop r out
+          unfolding book_of
+          book_laid o₁ o₂ o₃ o₄ w₁ w₂ w₃ w₄ =
+              part_laid out (e₁ ++ e₂ ++ e₃) (a ++ b ++ c) o₃ o₄ d 3 s (length e)
+              (part_laid out (e₁ ++ e₂) (a ++ b) o₂ o₃ c 2 q (length u)
+              (part_laid out e₁ a o₁ o₂ b 1 p (length l)
+              (part_laid out [] [] out o₁ a 0 contents (length t) (sym (take-append-drop contents out)) w₁ refl (omega arith) refl
               (omega (arith, sizes.0, sizes.4)))
               w₂ refl (omega arith) after-tasks (omega (arith, sizes.0, sizes.1, sizes.4, after-tasks)))
               w₃ refl (omega arith) (omega (arith, length-append a b, after-tasks, after-locks))
@@ -222,8 +222,8 @@ module _ (t l u e out : List ℕ) (room : Room t l u e out) where
               w₄ refl (omega arith) (omega (arith, length-append (a ++ b) c, length-append a b, after-tasks, after-locks, after-uses))
               (omega (arith, sizes.0, sizes.1, sizes.2, sizes.3, sizes.4, after-tasks, after-locks, after-uses))
               ∙ ap₂ (λ x y. front p q s ++ (x ++ (y ++ drop (contents + length (a ++ b ++ c ++ d)) out))) gone together
-              ∙ ap (λ k. front p q s ++ (bodiesOf t l u e ++ drop k out)) ending
-              ∙ (λ i. front (after-tasks i) (uses-start i) (events-start i) ++ (bodiesOf t l u e ++ drop r out))
+              ∙ ap (λ k. front p q s ++ (bodies_of t l u e ++ drop k out)) ending
+              ∙ (λ i. front (after-tasks i) (uses_start i) (events_start i) ++ (bodies_of t l u e ++ drop r out))
             where
               -- the entries, by the places where the bodies start
               front : ℕ → ℕ → ℕ → List ℕ
@@ -232,7 +232,7 @@ module _ (t l u e out : List ℕ) (room : Room t l u e out) where
               gone : drop contents (take contents out) ≡ []
               gone = drop_of_length-le (take contents out) {i = contents} (omega (arith, length-take-le contents out (omega (arith, sizes.4))))
 
-              together : a ++ b ++ c ++ d ≡ bodiesOf t l u e
+              together : a ++ b ++ c ++ d ≡ bodies_of t l u e
               together = append_assoc (a ++ b) c d ∙ append_assoc a b (c ++ d)
 
               ending : contents + length (a ++ b ++ c ++ d) ≡ r
@@ -247,11 +247,11 @@ module _ (t l u e out : List ℕ) (room : Room t l u e out) where
                 after-events,
               )
 
-              uses-start : q ≡ contents + length a + length b
-              uses-start = omega (arith, after-tasks, after-locks)
+              uses_start : q ≡ contents + length a + length b
+              uses_start = omega (arith, after-tasks, after-locks)
 
-              events-start : s ≡ contents + length a + length b + length c
-              events-start = omega (arith, after-tasks, after-locks, after-uses)
+              events_start : s ≡ contents + length a + length b + length c
+              events_start = omega (arith, after-tasks, after-locks, after-uses)
 
               e₁ : List ℕ
               e₁ = entry_of 1 (length t) contents

@@ -8,131 +8,131 @@ use lib.Dec.{ltb, eqb}
 use lib.ListN.{length, take, drop, length-drop}
 use lib.Seq.{take_all}
 use borrow.Author.Tests.{lt-ltb, le-ltb, ltb-false, eqb-true, not-false}
-use Rattle.rules.specs.Numbers.Capacity.{maxTasks, maxLocks, maxUses}
+use Rattle.rules.specs.Numbers.Capacity.{max_tasks, max_locks, max_uses}
 use Rattle.rules.specs.Numbers.Choice.{if◌then◌else◌}
-use Rattle.rules.specs.Numbers.Place.{any, firstFrom}
-use Rattle.rules.specs.Numbers.Refusal.{number_of, firstFault, checkFor}
-use Rattle.rules.specs.Books.Plan.{most, countFault}
-use Rattle.rules.specs.Books.Load.{load_of, loadChecks}
-use Rattle.rules.specs.Books.Book.{contents, countAt, body_at, layoutFault, tasksOf, locksOf, usesOf, planIn, eventBody, recordFault}
-use Rattle.rules.specs.Books.Book.{contentsChecks, eventChecks, checkOf, passedCheck, refusedCheck, checkedAs, checkedOf}
+use Rattle.rules.specs.Numbers.Place.{any, first_from}
+use Rattle.rules.specs.Numbers.Refusal.{number_of, first_fault, check_for}
+use Rattle.rules.specs.Books.Plan.{most, count_fault}
+use Rattle.rules.specs.Books.Load.{load_of, load_checks}
+use Rattle.rules.specs.Books.Book.{contents, count_at, body_at, layout_fault, tasks_of, locks_of, uses_of, plan_in, event_body, record_fault}
+use Rattle.rules.specs.Books.Book.{contents_checks, event_checks, check_of, passed_check, refused_check, checked_as, checked_of}
 use Rattle.rules.specs.declared.plan.Plan.{Plan}
 use Rattle.rules.specs.declared.answer.Verdict.{Verdict}
 use Rattle.rules.specs.declared.answer.Loaded.{Loaded}
 use Rattle.rules.specs.declared.answer.Checked.{Checked}
 use Rattle.rules.specs.declared.refusal.Refusal.{Refusal}
 use Rattle.rules.specs.declared.refusal.Refusal.TheVariants.{ShortBook, WrongCount, WrongLayout, WrongEvent, ShortRows}
-use Rattle.rules.proofs.Numbers.Choice.{or-false}
-use Rattle.rules.proofs.Numbers.Checks.{clean-for, check-left, check-right, check-none, check-finds, check-passes, one-finds, one_passes}
-use Rattle.rules.proofs.Books.Loaded.{load-refused, load-passed, load-plan}
+use Rattle.rules.proofs.Numbers.Choice.{or_false}
+use Rattle.rules.proofs.Numbers.Checks.{clean_for, check_left, check_right, check_none, check_finds, check_passes, one_finds, one_passes}
+use Rattle.rules.proofs.Books.Loaded.{load_refused, load_passed, load_plan}
 use Rattle.book.specs.Laid.{Laid}
-use Rattle.book.proofs.Parts.{event-size}
-use Rattle.book.proofs.LastTests.{wrong-one, no_room, both-pass}
+use Rattle.book.proofs.Parts.{event_size}
+use Rattle.book.proofs.LastTests.{wrong_one, no_room, both_pass}
 
 -- ---- 1 to 3
 
 module _ (b : List ℕ) where
-  pub short-book : length b < contents → Verdict.Refused ShortBook 0 ≡ firstFault (contentsChecks b)
-  unfolding contentsChecks
-  short-book h = sym (check-finds _ _ 0 (one-finds (ltb (length b) contents) (lt-ltb (length b) contents h)) (omega arith))
+  pub short_book : length b < contents → Verdict.Refused ShortBook 0 ≡ first_fault (contents_checks b)
+  unfolding contents_checks
+  short_book h = sym (check_finds _ _ 0 (one_finds (ltb (length b) contents) (lt-ltb (length b) contents h)) (omega arith))
 
   -- e and l are the first offenders of 2 and 3
-  module _ (whole : contents ≤ length b) (e : ℕ) (count : e ≡ firstFrom (λ i. countFault i (countAt b i)) 0 4) where
-    one : 1 ≡ firstFrom (λ _. ltb (length b) contents) 0 1
+  module _ (whole : contents ≤ length b) (e : ℕ) (count : e ≡ first_from (λ i. count_fault i (count_at b i)) 0 4) where
+    one : 1 ≡ first_from (λ _. ltb (length b) contents) 0 1
     one = one_passes (ltb (length b) contents) (le-ltb (length b) contents whole)
 
-    pub wrong-count : e < 4 → Verdict.Refused WrongCount (e + 1) ≡ firstFault (contentsChecks b)
-    unfolding contentsChecks
-    wrong-count h = sym (check-passes _ _ 1 one (omega arith) ∙ check-finds _ _ e count h ∙ ap (Verdict.Refused WrongCount) (omega arith))
+    pub wrong_count : e < 4 → Verdict.Refused WrongCount (e + 1) ≡ first_fault (contents_checks b)
+    unfolding contents_checks
+    wrong_count h = sym (check_passes _ _ 1 one (omega arith) ∙ check_finds _ _ e count h ∙ ap (Verdict.Refused WrongCount) (omega arith))
 
-    module _ (counts : 4 ≤ e) (l : ℕ) (layout : l ≡ firstFrom (layoutFault b) 0 5) where
-      pub wrong-layout : l < 5 → Verdict.Refused WrongLayout (l + 1) ≡ firstFault (contentsChecks b)
-      unfolding contentsChecks
-      wrong-layout h = sym (check-passes _ _ 1 one (omega arith) ∙ check-passes _ _ e count counts ∙ check-finds _ _ l layout h
+    module _ (counts : 4 ≤ e) (l : ℕ) (layout : l ≡ first_from (layout_fault b) 0 5) where
+      pub wrong_layout : l < 5 → Verdict.Refused WrongLayout (l + 1) ≡ first_fault (contents_checks b)
+      unfolding contents_checks
+      wrong_layout h = sym (check_passes _ _ 1 one (omega arith) ∙ check_passes _ _ e count counts ∙ check_finds _ _ l layout h
           ∙ ap (Verdict.Refused WrongLayout) (omega arith))
 
-      pub no-wrong : 5 ≤ l → Verdict.Passed ≡ firstFault (contentsChecks b)
-      unfolding contentsChecks
-      no-wrong h = sym (check-passes _ _ 1 one (omega arith) ∙ check-passes _ _ e count counts ∙ check-passes _ _ l layout h ∙ check-none)
+      pub no_wrong : 5 ≤ l → Verdict.Passed ≡ first_fault (contents_checks b)
+      unfolding contents_checks
+      no_wrong h = sym (check_passes _ _ 1 one (omega arith) ∙ check_passes _ _ e count counts ∙ check_passes _ _ l layout h ∙ check_none)
 
-  pub laid_out : (v : Verdict) → v ≡ firstFault (contentsChecks b) → v ≡ Verdict.Passed → Laid b
-  unfolding contentsChecks checkFor number_of countFault most layoutFault if◌then◌else◌
+  pub laid_out : (v : Verdict) → v ≡ first_fault (contents_checks b) → v ≡ Verdict.Passed → Laid b
+  unfolding contents_checks check_for number_of count_fault most layout_fault if◌then◌else◌
   laid_out v said passed =
-      let clean = clean-for (contentsChecks b) (sym said ∙ passed) in
+      let clean = clean_for (contents_checks b) (sym said ∙ passed) in
       record {
         whole = ltb-false (length b) contents (clean ShortBook 0 (omega arith));
-        tasks = ltb-false maxTasks (countAt b 0) (or-false (eqb (countAt b 0) 0) _ (clean WrongCount 0 (omega arith))).1;
-        locks = ltb-false maxLocks (countAt b 1) (clean WrongCount 1 (omega arith));
-        uses = ltb-false maxUses (countAt b 2) (clean WrongCount 2 (omega arith));
+        tasks = ltb-false max_tasks (count_at b 0) (or_false (eqb (count_at b 0) 0) _ (clean WrongCount 0 (omega arith))).1;
+        locks = ltb-false max_locks (count_at b 1) (clean WrongCount 1 (omega arith));
+        uses = ltb-false max_uses (count_at b 2) (clean WrongCount 2 (omega arith));
         ends = eqb-true (body_at b 4) (length b) (not-false (eqb (body_at b 4) (length b)) (clean WrongLayout 4 (omega arith)));
       }
 
   -- a verdict of the contents is the book's, and where they pass the rest decides
-  module _ (room : ℕ) (v : Verdict) (said : v ≡ firstFault (contentsChecks b)) where
-    pub refused-contents : (why : Refusal) (place : ℕ) (r : Checked) → v ≡ Verdict.Refused why place → r ≡ refusedCheck why place → r ≡ checkedOf b room
-    unfolding checkOf checkedAs
-    refused-contents why place r e h = h ∙ ap (λ w. checkedAs w b) (sym (check-left (contentsChecks b) _ why place (sym said ∙ e)))
+  module _ (room : ℕ) (v : Verdict) (said : v ≡ first_fault (contents_checks b)) where
+    pub refused_contents : (why : Refusal) (place : ℕ) (r : Checked) → v ≡ Verdict.Refused why place → r ≡ refused_check why place → r ≡ checked_of b room
+    unfolding check_of checked_as
+    refused_contents why place r e h = h ∙ ap (λ w. checked_as w b) (sym (check_left (contents_checks b) _ why place (sym said ∙ e)))
 
-    pub passed-contents : (r : Checked) → v ≡ Verdict.Passed
-        → r ≡ checkedAs (firstFault (loadChecks (tasksOf b) (locksOf b) (usesOf b) ++ eventChecks b room)) b → r ≡ checkedOf b room
-    unfolding checkOf
-    passed-contents r e h = h ∙ ap (λ w. checkedAs w b) (sym (check-right (contentsChecks b) _ (sym said ∙ e)))
+    pub passed_contents : (r : Checked) → v ≡ Verdict.Passed
+        → r ≡ checked_as (first_fault (load_checks (tasks_of b) (locks_of b) (uses_of b) ++ event_checks b room)) b → r ≡ checked_of b room
+    unfolding check_of
+    passed_contents r e h = h ∙ ap (λ w. checked_as w b) (sym (check_right (contents_checks b) _ (sym said ∙ e)))
 
   -- ---- 4 to 7 and 24
 
-  module _ (room : ℕ) (l : Loaded) (loaded : l ≡ load_of (tasksOf b) (locksOf b) (usesOf b)) where
+  module _ (room : ℕ) (l : Loaded) (loaded : l ≡ load_of (tasks_of b) (locks_of b) (uses_of b)) where
     abbrev rest : Verdict
-    rest = firstFault (loadChecks (tasksOf b) (locksOf b) (usesOf b) ++ eventChecks b room)
+    rest = first_fault (load_checks (tasks_of b) (locks_of b) (uses_of b) ++ event_checks b room)
 
-    pub refused-plan : (why : Refusal) (place : ℕ) (r : Checked) → l.verdict ≡ Verdict.Refused why place → r ≡ refusedCheck why place → r ≡ checkedAs rest b
-    unfolding checkedAs
-    refused-plan why place r e h =
+    pub refused_plan : (why : Refusal) (place : ℕ) (r : Checked) → l.verdict ≡ Verdict.Refused why place → r ≡ refused_check why place → r ≡ checked_as rest b
+    unfolding checked_as
+    refused_plan why place r e h =
         h
-        ∙ ap (λ w. checkedAs w b)
-        (sym (check-left (loadChecks (tasksOf b) (locksOf b) (usesOf b)) (eventChecks b room) why place
-        (load-refused (tasksOf b) (locksOf b) (usesOf b) why place (ap (λ v. v.verdict) (sym loaded) ∙ e))))
+        ∙ ap (λ w. checked_as w b)
+        (sym (check_left (load_checks (tasks_of b) (locks_of b) (uses_of b)) (event_checks b room) why place
+        (load_refused (tasks_of b) (locks_of b) (uses_of b) why place (ap (λ v. v.verdict) (sym loaded) ∙ e))))
 
-    pub passed-plan : (r : Checked) → l.verdict ≡ Verdict.Passed → r ≡ checkedAs (firstFault (eventChecks b room)) b → r ≡ checkedAs rest b
-    passed-plan r e h =
+    pub passed_plan : (r : Checked) → l.verdict ≡ Verdict.Passed → r ≡ checked_as (first_fault (event_checks b room)) b → r ≡ checked_as rest b
+    passed_plan r e h =
         h
-        ∙ ap (λ w. checkedAs w b)
-        (sym (check-right (loadChecks (tasksOf b) (locksOf b) (usesOf b)) (eventChecks b room)
-        (load-passed (tasksOf b) (locksOf b) (usesOf b) (ap (λ v. v.verdict) (sym loaded) ∙ e))))
+        ∙ ap (λ w. checked_as w b)
+        (sym (check_right (load_checks (tasks_of b) (locks_of b) (uses_of b)) (event_checks b room)
+        (load_passed (tasks_of b) (locks_of b) (uses_of b) (ap (λ v. v.verdict) (sym loaded) ∙ e))))
 
-    pub plan-read : l.verdict ≡ Verdict.Passed → l.plan ≡ planIn b
-    plan-read e = ap (λ v. v.plan) loaded ∙ load-plan (tasksOf b) (locksOf b) (usesOf b) (ap (λ v. v.verdict) (sym loaded) ∙ e)
+    pub plan_read : l.verdict ≡ Verdict.Passed → l.plan ≡ plan_in b
+    plan_read e = ap (λ v. v.plan) loaded ∙ load_plan (tasks_of b) (locks_of b) (uses_of b) (ap (λ v. v.verdict) (sym loaded) ∙ e)
 
   -- ---- 8 and 9
 
   -- the events lie from `events` on, `body` is that part of the book, and r says whether 8 refuses one of them
   module _ (laid : Laid b) (room events : ℕ) (starts : events ≡ body_at b 3) (body : List ℕ) (r : Bool)
-      (asked : r ≡ any (recordFault body) (length body / 4)) (part : body ≡ take (length b - events) (drop events b)) where
-    whole_part : body ≡ eventBody b
+      (asked : r ≡ any (record_fault body) (length body / 4)) (part : body ≡ take (length b - events) (drop events b)) where
+    whole_part : body ≡ event_body b
     whole_part = part ∙ take_all (length b - events) (drop events b) (omega (arith, length-drop events b)) ∙ ap (λ i. drop i b) starts
 
-    size : length body ≡ countAt b 3 * 4
-    size = ap length whole_part ∙ event-size b laid
+    size : length body ≡ count_at b 3 * 4
+    size = ap length whole_part ∙ event_size b laid
 
-    records : length body / 4 ≡ countAt b 3
+    records : length body / 4 ≡ count_at b 3
     records = omega (arith, size)
 
-    said : r ≡ any (recordFault (eventBody b)) (countAt b 3)
+    said : r ≡ any (record_fault (event_body b)) (count_at b 3)
     said = asked ∙ rw (records, whole_part)
 
-    pub wrong-event : (k : ℕ) (c : Checked) → r ≡ true → k ≡ firstFrom (recordFault body) 0 (length body / 4) → c ≡ refusedCheck WrongEvent k
-        → c ≡ checkedAs (firstFault (eventChecks b room)) b
-    unfolding eventChecks checkedAs
-    wrong-event k c e first g = g
-        ∙ ap (λ w. checkedAs w b) (wrong-one (countAt b 3) (recordFault (eventBody b)) ShortRows (countAt b 3 * 4) room r said k e
+    pub wrong_event : (k : ℕ) (c : Checked) → r ≡ true → k ≡ first_from (record_fault body) 0 (length body / 4) → c ≡ refused_check WrongEvent k
+        → c ≡ checked_as (first_fault (event_checks b room)) b
+    unfolding event_checks checked_as
+    wrong_event k c e first g = g
+        ∙ ap (λ w. checked_as w b) (wrong_one (count_at b 3) (record_fault (event_body b)) ShortRows (count_at b 3 * 4) room r said k e
         (first ∙ rw (records, whole_part)))
 
     module _ (e : r ≡ false) where
-      pub short-rows : (c : Checked) → room < length body → c ≡ refusedCheck ShortRows 0 → c ≡ checkedAs (firstFault (eventChecks b room)) b
-      unfolding eventChecks checkedAs
-      short-rows c h g = g
-          ∙ ap (λ w. checkedAs w b) (no_room (countAt b 3) (recordFault (eventBody b)) ShortRows (countAt b 3 * 4) room r said e (omega (arith, size, h)))
+      pub short_rows : (c : Checked) → room < length body → c ≡ refused_check ShortRows 0 → c ≡ checked_as (first_fault (event_checks b room)) b
+      unfolding event_checks checked_as
+      short_rows c h g = g
+          ∙ ap (λ w. checked_as w b) (no_room (count_at b 3) (record_fault (event_body b)) ShortRows (count_at b 3 * 4) room r said e (omega (arith, size, h)))
 
-      pub all_right : (p : Plan) → p ≡ planIn b → length body ≤ room → passedCheck p events ≡ checkedAs (firstFault (eventChecks b room)) b
-      unfolding eventChecks checkedAs
-      all_right p q h = ap₂ passedCheck q starts
-          ∙ ap (λ w. checkedAs w b) (both-pass (countAt b 3) (recordFault (eventBody b)) ShortRows (countAt b 3 * 4) room r said e (omega (arith, size, h)))
+      pub all_right : (p : Plan) → p ≡ plan_in b → length body ≤ room → passed_check p events ≡ checked_as (first_fault (event_checks b room)) b
+      unfolding event_checks checked_as
+      all_right p q h = ap₂ passed_check q starts
+          ∙ ap (λ w. checked_as w b) (both_pass (count_at b 3) (record_fault (event_body b)) ShortRows (count_at b 3 * 4) room r said e (omega (arith, size, h)))

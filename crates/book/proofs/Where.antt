@@ -12,10 +12,10 @@ use Rattle.rules.specs.declared.answer.Found.{Found}
 
 module _ (b : List ℕ) (from k : ℕ) where
   -- the part of the book that the code lends on is all that lies from there
-  pub found-there : (r : Found) → r ≡ found_at (take (length b - from) (drop from b)) k → r ≡ found_at (drop from b) k
-  found-there r h = h ∙ ap (λ body. found_at body k) (take_all (length b - from) (drop from b) (omega (arith, length-drop from b)))
+  pub found_there : (r : Found) → r ≡ found_at (take (length b - from) (drop from b)) k → r ≡ found_at (drop from b) k
+  found_there r h = h ∙ ap (λ body. found_at body k) (take_all (length b - from) (drop from b) (omega (arith, length-drop from b)))
 
   -- nothing lies past the end
-  pub found-past : length b ≤ from → Found.End ≡ found_at (drop from b) k
+  pub found_past : length b ≤ from → Found.End ≡ found_at (drop from b) k
   unfolding found_at if◌then◌else◌
-  found-past h = rw (drop_of_length-le b h, le-ltb k 0 (omega arith)) refl
+  found_past h = rw (drop_of_length-le b h, le-ltb k 0 (omega arith)) refl

@@ -1,9 +1,9 @@
 // The records of the first three bodies, one number for a record, handed to the plan check.
 ghost use Rattle.std.specs.Prelude.{◌≡◌, ◌+◌, ◌*◌, ◌<◌, ◌≤◌, length, take, ◌++◌};
 ghost use Rattle.rules.specs.Numbers.Place.{renewed};
-ghost use Rattle.rules.specs.Numbers.Refusal.{firstFault};
-ghost use Rattle.rules.specs.Books.Book.{contents, word, long, countAt, body_at, wordsAt, longsAt, tasksOf, locksOf, usesOf, eventChecks, checkedAs};
-ghost use Rattle.rules.specs.Books.Load.{load_of, loadChecks};
+ghost use Rattle.rules.specs.Numbers.Refusal.{first_fault};
+ghost use Rattle.rules.specs.Books.Book.{contents, word, long, count_at, body_at, words_at, longs_at, tasks_of, locks_of, uses_of, event_checks, checked_as};
+ghost use Rattle.rules.specs.Books.Load.{load_of, load_checks};
 ghost use Rattle.book.specs.Laid.{Laid};
 
 use crate::entry::{body_at, count_at};
@@ -39,8 +39,8 @@ fn fill_longs(b: &[u8], from: usize, n: usize, longs: &mut [u32])
 // The numbers of entry e, of two bytes each, and how many there are.
 fn read_words(b: &[u8], e: usize, words: &mut [u16]) -> usize
     requires contents_in_bounds { (contents ≤ length b.now) × (e < 4) }
-    requires e_in_bounds { (body_at b.now e + countAt b.now e * 2 ≤ length b.now) × (countAt b.now e ≤ length words.old) }
-    ensures { (result ≡ countAt b.now e) × (take result words.new ≡ wordsAt b.now e) }
+    requires e_in_bounds { (body_at b.now e + count_at b.now e * 2 ≤ length b.now) × (count_at b.now e ≤ length words.old) }
+    ensures { (result ≡ count_at b.now e) × (take result words.new ≡ words_at b.now e) }
 {
     let n = count_at(b, e);
     let from = body_at(b, e);
@@ -51,8 +51,8 @@ fn read_words(b: &[u8], e: usize, words: &mut [u16]) -> usize
 // The same for four bytes each.
 fn read_longs(b: &[u8], e: usize, longs: &mut [u32]) -> usize
     requires contents_in_bounds { (contents ≤ length b.now) × (e < 4) }
-    requires e_in_bounds { (body_at b.now e + countAt b.now e * 4 ≤ length b.now) × (countAt b.now e ≤ length longs.old) }
-    ensures { (result ≡ countAt b.now e) × (take result longs.new ≡ longsAt b.now e) }
+    requires e_in_bounds { (body_at b.now e + count_at b.now e * 4 ≤ length b.now) × (count_at b.now e ≤ length longs.old) }
+    ensures { (result ≡ count_at b.now e) × (take result longs.new ≡ longs_at b.now e) }
 {
     let n = count_at(b, e);
     let from = body_at(b, e);
@@ -70,7 +70,7 @@ fn load_front(tasks: &[u16], n: usize, locks: &[u32], m: usize, uses: &[u16], u:
 
 fn load(b: &[u8]) -> Loaded
     requires { Laid b.now }
-    ensures { result ≡ load_of (tasksOf b.now) (locksOf b.now) (usesOf b.now) }
+    ensures { result ≡ load_of (tasks_of b.now) (locks_of b.now) (uses_of b.now) }
 {
     let mut tasks = [0u16; MAX_TASKS];
     let n = read_words(b, 0, &mut tasks);
@@ -84,7 +84,7 @@ fn load(b: &[u8]) -> Loaded
 // The rest of the check of a book whose contents pass.
 pub fn check(b: &[u8], room: usize) -> Checked
     requires { Laid b.now }
-    ensures { result ≡ checkedAs (firstFault (loadChecks (tasksOf b.now) (locksOf b.now) (usesOf b.now) ++ eventChecks
+    ensures { result ≡ checked_as (first_fault (load_checks (tasks_of b.now) (locks_of b.now) (uses_of b.now) ++ event_checks
         b.now room)) b.now }
 {
     let loaded = load(b);

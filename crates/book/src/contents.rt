@@ -1,9 +1,9 @@
 // 1 to 3: the book's length, the counts, and the layout.
 ghost use Rattle.std.specs.Prelude.{◌≡◌, ◌<◌, ◌≤◌, length};
-ghost use Rattle.rules.specs.Numbers.Place.{firstFrom};
-ghost use Rattle.rules.specs.Numbers.Refusal.{firstFault};
-ghost use Rattle.rules.specs.Books.Plan.{countFault};
-ghost use Rattle.rules.specs.Books.Book.{contents, countAt, layoutFault, contentsChecks};
+ghost use Rattle.rules.specs.Numbers.Place.{first_from};
+ghost use Rattle.rules.specs.Numbers.Refusal.{first_fault};
+ghost use Rattle.rules.specs.Books.Plan.{count_fault};
+ghost use Rattle.rules.specs.Books.Book.{contents, count_at, layout_fault, contents_checks};
 
 use crate::entry::{CONTENTS, body_at, count_at, kind_at, offset_at};
 use plan::count::count_fault;
@@ -13,7 +13,7 @@ use rules::refusal::Refusal;
 // The first entry whose count is out of range; 4 where there is none.
 fn first_count(b: &[u8]) -> usize
     requires { contents ≤ length b.now }
-    ensures { result ≡ firstFrom (λ e. countFault e (countAt b.now e)) 0 4 }
+    ensures { result ≡ first_from (λ e. count_fault e (count_at b.now e)) 0 4 }
 {
     let mut e: usize = 0;
     while e < 4 {
@@ -30,7 +30,7 @@ fn first_count(b: &[u8]) -> usize
 // book.
 fn layout_fault(b: &[u8], e: usize) -> bool
     requires { (contents ≤ length b.now) × (e < 5) }
-    ensures { result ≡ layoutFault b.now e }
+    ensures { result ≡ layout_fault b.now e }
 {
     let place = body_at(b, e);
     if e < 4 {
@@ -44,7 +44,7 @@ fn layout_fault(b: &[u8], e: usize) -> bool
 
 fn first_layout(b: &[u8]) -> usize
     requires { contents ≤ length b.now }
-    ensures { result ≡ firstFrom (layoutFault b.now) 0 5 }
+    ensures { result ≡ first_from (layout_fault b.now) 0 5 }
 {
     let mut e: usize = 0;
     while e < 5 {
@@ -58,7 +58,7 @@ fn first_layout(b: &[u8]) -> usize
 
 // 1 (place 0), 2 (the entry, 1 to 4), 3 (the entry, or 5 for the end), in this order.
 pub fn first_fault(b: &[u8]) -> Verdict
-    ensures { result ≡ firstFault (contentsChecks b.now) }
+    ensures { result ≡ first_fault (contents_checks b.now) }
 {
     if b.len() < CONTENTS {
         return Verdict::Refused(Refusal::ShortBook, 0);

@@ -1,6 +1,6 @@
 // The four entries of the contents: 0 tasks, 1 locks, 2 uses, 3 events.
 ghost use Rattle.std.specs.Prelude.{◌≡◌, ◌*◌, ◌<◌, ◌≤◌, length};
-ghost use Rattle.rules.specs.Books.Book.{contents, kind_at, countAt, offsetAt, size_of, body_at};
+ghost use Rattle.rules.specs.Books.Book.{contents, kind_at, count_at, offset_at, size_of, body_at};
 
 use crate::number::{long_at, word_at};
 
@@ -16,14 +16,14 @@ pub fn kind_at(b: &[u8], e: usize) -> usize
 
 pub fn count_at(b: &[u8], e: usize) -> usize
     requires { (contents ≤ length b.now) × (e < 4) }
-    ensures { (result ≡ countAt b.now e) × (result < 65536) }
+    ensures { (result ≡ count_at b.now e) × (result < 65536) }
 {
     word_at(b, e * 8 + 2) as usize
 }
 
 pub fn offset_at(b: &[u8], e: usize) -> usize
     requires { (contents ≤ length b.now) × (e < 4) }
-    ensures { result ≡ offsetAt b.now e }
+    ensures { result ≡ offset_at b.now e }
 {
     long_at(b, e * 8 + 4) as usize
 }
@@ -47,7 +47,7 @@ fn size_of(e: usize) -> usize
 // The bytes of entry e's records.
 fn body_size(b: &[u8], e: usize) -> usize
     requires { (contents ≤ length b.now) × (e < 4) }
-    ensures { (result ≡ countAt b.now e * size_of e) × (result < 262144) }
+    ensures { (result ≡ count_at b.now e * size_of e) × (result < 262144) }
 {
     count_at(b, e) * size_of(e)
 }

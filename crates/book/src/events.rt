@@ -1,8 +1,8 @@
 // 8 and 9: the events where they lie, and the row space for them.
 ghost use Rattle.std.specs.Prelude.{◌≡◌, ◌<◌, ◌/◌, length};
-ghost use Rattle.rules.specs.Numbers.Place.{any, firstFrom};
-ghost use Rattle.rules.specs.Numbers.Refusal.{firstFault};
-ghost use Rattle.rules.specs.Books.Book.{recordFault, planIn, eventChecks, refusedCheck, checkedAs};
+ghost use Rattle.rules.specs.Numbers.Place.{any, first_from};
+ghost use Rattle.rules.specs.Numbers.Refusal.{first_fault};
+ghost use Rattle.rules.specs.Books.Book.{record_fault, plan_in, event_checks, refused_check, checked_as};
 ghost use Rattle.book.specs.Laid.{Laid};
 
 use crate::entry::body_at;
@@ -13,7 +13,7 @@ use rules::plan::{Plan, blank};
 use rules::refusal::Refusal;
 
 pub fn refused(why: Refusal, place: usize) -> Checked
-    ensures { result ≡ refusedCheck why place }
+    ensures { result ≡ refused_check why place }
 {
     let plan = blank();
     Checked {
@@ -26,7 +26,7 @@ pub fn refused(why: Refusal, place: usize) -> Checked
 // Whether 8 refuses record k of a body.
 fn fault_at(body: &[u8], k: usize) -> bool
     requires { k < length body.now / 4 }
-    ensures { result ≡ recordFault body.now k }
+    ensures { result ≡ record_fault body.now k }
 {
     let i = k * 4;
     let amount = word_at(body, i + 2);
@@ -35,7 +35,7 @@ fn fault_at(body: &[u8], k: usize) -> bool
 
 // Whether 8 refuses one of the records. The loop has no other end, so that several are asked at a time.
 fn any_fault(body: &[u8]) -> bool
-    ensures { result ≡ any (recordFault body.now) (length body.now / 4) }
+    ensures { result ≡ any (record_fault body.now) (length body.now / 4) }
 {
     let n = body.len() / 4;
     let mut found = false;
@@ -49,7 +49,7 @@ fn any_fault(body: &[u8]) -> bool
 
 // The first record of a body that 8 refuses; the number of records where there is none.
 fn first_fault(body: &[u8]) -> usize
-    ensures { result ≡ firstFrom (recordFault body.now) 0 (length body.now / 4) }
+    ensures { result ≡ first_from (record_fault body.now) 0 (length body.now / 4) }
 {
     let n = body.len() / 4;
     let mut k: usize = 0;
@@ -64,8 +64,8 @@ fn first_fault(body: &[u8]) -> usize
 
 // The rest of the check of a book whose plan is loaded.
 pub fn check(b: &[u8], room: usize, plan: Plan) -> Checked
-    requires { Laid b.now × (plan ≡ planIn b.now) }
-    ensures { result ≡ checkedAs (firstFault (eventChecks b.now room)) b.now }
+    requires { Laid b.now × (plan ≡ plan_in b.now) }
+    ensures { result ≡ checked_as (first_fault (event_checks b.now room)) b.now }
 {
     let events = body_at(b, 3);
     let body = &b[events..];

@@ -2,8 +2,8 @@
 ghost use Rattle.std.specs.Prelude.{◌≡◌, ◌++◌, ◌+◌, ◌*◌, ◌≤◌, ◌<◌, length, drop};
 ghost use Rattle.rules.specs.Numbers.Place.{stored};
 ghost use Rattle.rules.specs.Books.Book.{contents};
-ghost use Rattle.rules.specs.Books.Bytes.{word_bytes, longBytes, entry_of, bookOf};
-ghost use Rattle.book.specs.Room.{Room, PartRoom, withPart};
+ghost use Rattle.rules.specs.Books.Bytes.{word_bytes, long_bytes, entry_of, book_of};
+ghost use Rattle.book.specs.Room.{Room, PartRoom, with_part};
 
 use crate::entry::CONTENTS;
 use crate::number::{put_long, put_word};
@@ -26,8 +26,8 @@ fn put_words(out: &mut [u8], from: usize, words: &[u16]) -> usize
 // One of records of four bytes.
 fn put_longs(out: &mut [u8], from: usize, longs: &[u32]) -> usize
     requires { from + length longs.now * 4 ≤ length out.old }
-    ensures value { result ≡ from + length (longBytes longs.now) }
-    ensures out_after { out.new ≡ stored out.old from (longBytes longs.now) }
+    ensures value { result ≡ from + length (long_bytes longs.now) }
+    ensures out_after { out.new ≡ stored out.old from (long_bytes longs.now) }
 {
     let n = longs.len();
     let mut i: usize = 0;
@@ -53,7 +53,7 @@ fn put_entry(out: &mut [u8], e: usize, count: usize, offset: usize)
 fn put_word_part(out: &mut [u8], e: usize, from: usize, words: &[u16]) -> usize
     requires { PartRoom out.old e from (length words.now) 2 }
     ensures value { result ≡ from + length (word_bytes words.now) }
-    ensures out_after { out.new ≡ withPart out.old e from (length words.now) (word_bytes words.now) }
+    ensures out_after { out.new ≡ with_part out.old e from (length words.now) (word_bytes words.now) }
 {
     let next = put_words(out, from, words);
     put_entry(out, e, words.len(), from);
@@ -62,8 +62,8 @@ fn put_word_part(out: &mut [u8], e: usize, from: usize, words: &[u16]) -> usize
 
 fn put_long_part(out: &mut [u8], e: usize, from: usize, longs: &[u32]) -> usize
     requires { PartRoom out.old e from (length longs.now) 4 }
-    ensures value { result ≡ from + length (longBytes longs.now) }
-    ensures out_after { out.new ≡ withPart out.old e from (length longs.now) (longBytes longs.now) }
+    ensures value { result ≡ from + length (long_bytes longs.now) }
+    ensures out_after { out.new ≡ with_part out.old e from (length longs.now) (long_bytes longs.now) }
 {
     let next = put_longs(out, from, longs);
     put_entry(out, e, longs.len(), from);
@@ -73,8 +73,8 @@ fn put_long_part(out: &mut [u8], e: usize, from: usize, longs: &[u32]) -> usize
 // The four parts, each body where the one before it ends. The answer is the book's length.
 pub fn lay(tasks: &[u16], locks: &[u32], uses: &[u16], events: &[u32], out: &mut [u8]) -> usize
     requires { Room tasks.now locks.now uses.now events.now out.old }
-    ensures value { result ≡ length (bookOf tasks.now locks.now uses.now events.now) }
-    ensures out_after { out.new ≡ bookOf tasks.now locks.now uses.now events.now
+    ensures value { result ≡ length (book_of tasks.now locks.now uses.now events.now) }
+    ensures out_after { out.new ≡ book_of tasks.now locks.now uses.now events.now
         ++ drop result out.old }
 {
     let locks_at = put_word_part(out, 0, CONTENTS, tasks);

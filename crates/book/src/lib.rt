@@ -13,14 +13,14 @@ pub mod record;
 pub mod writer;
 
 ghost use Rattle.std.specs.Prelude.{◌≡◌};
-ghost use Rattle.rules.specs.Books.Book.{checkedOf};
+ghost use Rattle.rules.specs.Books.Book.{checked_of};
 
 use rules::answer::{Checked, Verdict};
 
 // The book's plan and the place of its event body, or the first offender of 1 to 9 and 24. Each event
 // needs four bytes of room for its row.
 pub fn check(b: &[u8], room: usize) -> Checked
-    ensures { result ≡ checkedOf b.now room }
+    ensures { result ≡ checked_of b.now room }
 {
     let laid = contents::first_fault(b);
     match laid {

@@ -1,7 +1,7 @@
 // What stands in a book, whatever its bytes are: an entry of its contents, and the record k of each part as one number. It is
 // 0 where the book is too short to have it.
 ghost use Rattle.std.specs.Prelude.{◌≡◌};
-ghost use Rattle.book.specs.Look.{entryIn, bodyIn, word_in, longIn, taskIn, lockIn, useIn, eventIn};
+ghost use Rattle.book.specs.Look.{entry_in, body_in, word_in, long_in, task_in, lock_in, use_in, event_in};
 
 use crate::entry::{CONTENTS, body_at, count_at, kind_at, offset_at};
 use crate::number::{long_at, word_at};
@@ -15,7 +15,7 @@ pub struct Entry {
 
 // Entry e, from 0 to 3.
 pub fn entry_at(b: &[u8], e: usize) -> Entry
-    ensures { result ≡ entryIn b.now e }
+    ensures { result ≡ entry_in b.now e }
 {
     if b.len() < CONTENTS {
         return Entry {
@@ -40,7 +40,7 @@ pub fn entry_at(b: &[u8], e: usize) -> Entry
 
 // Where the body of entry e starts; the book's end where it has no contents.
 fn body(b: &[u8], e: usize) -> usize
-    ensures { result ≡ bodyIn b.now e }
+    ensures { result ≡ body_in b.now e }
 {
     if b.len() < CONTENTS {
         return b.len();
@@ -65,7 +65,7 @@ fn word(b: &[u8], from: usize, k: usize) -> u32
 }
 
 fn long(b: &[u8], from: usize, k: usize) -> u32
-    ensures { result ≡ longIn b.now from k }
+    ensures { result ≡ long_in b.now from k }
 {
     if from > b.len() {
         return 0;
@@ -77,28 +77,28 @@ fn long(b: &[u8], from: usize, k: usize) -> u32
 }
 
 pub fn task(b: &[u8], k: usize) -> u32
-    ensures { result ≡ taskIn b.now k }
+    ensures { result ≡ task_in b.now k }
 {
     let from = body(b, 0);
     word(b, from, k)
 }
 
 pub fn lock(b: &[u8], k: usize) -> u32
-    ensures { result ≡ lockIn b.now k }
+    ensures { result ≡ lock_in b.now k }
 {
     let from = body(b, 1);
     long(b, from, k)
 }
 
 pub fn usage(b: &[u8], k: usize) -> u32
-    ensures { result ≡ useIn b.now k }
+    ensures { result ≡ use_in b.now k }
 {
     let from = body(b, 2);
     word(b, from, k)
 }
 
 pub fn event(b: &[u8], k: usize) -> u32
-    ensures { result ≡ eventIn b.now k }
+    ensures { result ≡ event_in b.now k }
 {
     let from = body(b, 3);
     long(b, from, k)

@@ -2,7 +2,7 @@
 // place. Each function over it takes it apart for the cursor.
 ghost use Rattle.std.specs.Prelude.{◌≡◌, drop};
 ghost use Rattle.rules.specs.Books.Book.{found_at};
-ghost use Rattle.book.specs.Reader.{readerAt};
+ghost use Rattle.book.specs.Reader.{reader_at};
 
 use crate::cursor::cursor;
 use rules::answer::Found;
@@ -22,7 +22,7 @@ pub fn next<'a>(r: Reader<'a>) -> Found
 
 // The reader of the same bytes at another place.
 pub fn moved<'a>(r: Reader<'a>, place: usize) -> Reader<'a>
-    ensures { result ≡ readerAt r.entry place }
+    ensures { result ≡ reader_at r.entry place }
 {
     Reader {
         body: r.body,

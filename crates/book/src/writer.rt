@@ -1,13 +1,13 @@
 // RULES 6.5, 6.6: a book written from its records into a lent buffer, or the first offender of 2, 4 to 7, 24, 8
 // and 23.
 ghost use Rattle.std.specs.Prelude.{◌≡◌, ◌+◌, ◌*◌, length};
-ghost use Rattle.rules.specs.Numbers.Place.{at, any, firstFrom};
-ghost use Rattle.rules.specs.Numbers.Refusal.{firstFault};
-ghost use Rattle.rules.specs.Books.Event.{numberFault};
-ghost use Rattle.rules.specs.Books.Plan.{countFault};
+ghost use Rattle.rules.specs.Numbers.Place.{at, any, first_from};
+ghost use Rattle.rules.specs.Numbers.Refusal.{first_fault};
+ghost use Rattle.rules.specs.Books.Event.{number_fault};
+ghost use Rattle.rules.specs.Books.Plan.{count_fault};
 ghost use Rattle.rules.specs.Books.Book.{contents};
-ghost use Rattle.rules.specs.Books.Write.{count_of, writeChecks, writeOf, wroteWith};
-ghost use Rattle.book.specs.Room.{Few, lastChecks};
+ghost use Rattle.rules.specs.Books.Write.{count_of, write_checks, write_of, wrote_with};
+ghost use Rattle.book.specs.Room.{Few, last_checks};
 
 use crate::entry::CONTENTS;
 use crate::lay::lay;
@@ -34,7 +34,7 @@ fn count_of(n: usize, m: usize, u: usize, k: usize, e: usize) -> usize
 
 // The first entry whose count is out of range; 4 where there is none.
 fn first_count(n: usize, m: usize, u: usize, k: usize) -> usize
-    ensures { result ≡ firstFrom (λ e. countFault e (count_of n m u k e)) 0 4 }
+    ensures { result ≡ first_from (λ e. count_fault e (count_of n m u k e)) 0 4 }
 {
     let mut e: usize = 0;
     while e < 4 {
@@ -49,7 +49,7 @@ fn first_count(n: usize, m: usize, u: usize, k: usize) -> usize
 
 // Whether 8 refuses one of the events. The loop has no other end, so that several are asked at a time.
 fn any_event(events: &[u32]) -> bool
-    ensures { result ≡ any (λ k. numberFault (at events.now k)) (length events.now) }
+    ensures { result ≡ any (λ k. number_fault (at events.now k)) (length events.now) }
 {
     let n = events.len();
     let mut found = false;
@@ -63,7 +63,7 @@ fn any_event(events: &[u32]) -> bool
 
 // The first event that 8 refuses; the number of events where there is none.
 fn first_event(events: &[u32]) -> usize
-    ensures { result ≡ firstFrom (λ k. numberFault (at events.now k)) 0 (length events.now) }
+    ensures { result ≡ first_from (λ k. number_fault (at events.now k)) 0 (length events.now) }
 {
     let n = events.len();
     let mut k: usize = 0;
@@ -86,7 +86,7 @@ fn book_size(n: usize, m: usize, u: usize, k: usize) -> usize
 
 // 8 and 23, for a book of this size and a buffer with so much room.
 fn first_last(events: &[u32], size: usize, room: usize) -> Verdict
-    ensures { result ≡ firstFault (lastChecks events.now size room) }
+    ensures { result ≡ first_fault (last_checks events.now size room) }
 {
     let wrong = any_event(events);
     if wrong {
@@ -101,7 +101,7 @@ fn first_last(events: &[u32], size: usize, room: usize) -> Verdict
 
 // 2, 4 to 7, 24, 8 and 23, in this order, each at its first offender.
 fn first_fault(tasks: &[u16], locks: &[u32], uses: &[u16], events: &[u32], room: usize) -> Verdict
-    ensures { result ≡ firstFault (writeChecks tasks.now locks.now uses.now events.now room) }
+    ensures { result ≡ first_fault (write_checks tasks.now locks.now uses.now events.now room) }
 {
     let e = first_count(tasks.len(), locks.len(), uses.len(), events.len());
     if e < 4 {
@@ -122,7 +122,7 @@ fn first_fault(tasks: &[u16], locks: &[u32], uses: &[u16], events: &[u32], room:
 // four. The answer is the book's length, with the book at the start of the buffer; or a refusal, and the
 // buffer as it was.
 pub fn write(tasks: &[u16], locks: &[u32], uses: &[u16], events: &[u32], out: &mut [u8]) -> Written
-    ensures { wroteWith result out.new ≡ writeOf tasks.now locks.now uses.now events.now
+    ensures { wrote_with result out.new ≡ write_of tasks.now locks.now uses.now events.now
         out.old }
 {
     let verdict = first_fault(tasks, locks, uses, events, out.len());

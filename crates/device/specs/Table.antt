@@ -1,6 +1,6 @@
 -- RULES 6.3: the numbers of the task records of a lent table, and what is kept of them while they are read. Assumes nothing.
 use Rattle.std.specs.Prelude.{List, [], ◌∷◌, map, ℕ, ◌+◌, ◌*◌, min, ltb, set, take, replicate}
-use Rattle.rules.specs.Numbers.Capacity.{maxTasks}
+use Rattle.rules.specs.Numbers.Capacity.{max_tasks}
 use Rattle.rules.specs.Numbers.Choice.{if◌then◌else◌}
 use Rattle.device.specs.declared.table.TaskRecord.{TaskRecord}
 use Rattle.device.specs.declared.numbers.Numbers.{Numbers}
@@ -9,29 +9,29 @@ use Rattle.device.specs.declared.numbers.Numbers.{Numbers}
 abbrev pub word_of : TaskRecord → ℕ
 word_of t = t.base + t.maximum * 256
 
-abbrev pub numbersOf : List TaskRecord → List ℕ
-numbersOf ts = map word_of ts
+abbrev pub numbers_of : List TaskRecord → List ℕ
+numbers_of ts = map word_of ts
 
 -- ---- what is kept: numbers, at most one more than a plan may have
 
-abbrev pub mostKept : ℕ
-mostKept = maxTasks + 1
+abbrev pub most_kept : ℕ
+most_kept = max_tasks + 1
 
-abbrev pub noNumbers : Numbers
-noNumbers = record { words = replicate mostKept 0; count = 0 }
+abbrev pub no_numbers : Numbers
+no_numbers = record { words = replicate most_kept 0; count = 0 }
 
 unfoldable pub kept : Numbers → ℕ → ℕ → Numbers
 kept n base maximum =
-    if ltb n.count mostKept then (record { words = set n.words n.count (base + maximum * 256); count = n.count + 1 })
+    if ltb n.count most_kept then (record { words = set n.words n.count (base + maximum * 256); count = n.count + 1 })
     else n
 
-unfoldable pub keptFrom : Numbers → List TaskRecord → Numbers
-keptFrom n [] = n
-keptFrom n (t ∷ ts) = keptFrom (kept n t.base t.maximum) ts
+unfoldable pub kept_from : Numbers → List TaskRecord → Numbers
+kept_from n [] = n
+kept_from n (t ∷ ts) = kept_from (kept n t.base t.maximum) ts
 
-abbrev pub keptOf : List TaskRecord → Numbers
-keptOf ts = keptFrom noNumbers ts
+abbrev pub kept_of : List TaskRecord → Numbers
+kept_of ts = kept_from no_numbers ts
 
 -- the numbers that were kept
 abbrev pub shown : Numbers → List ℕ
-shown n = take (min n.count mostKept) n.words
+shown n = take (min n.count most_kept) n.words

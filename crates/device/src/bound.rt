@@ -1,8 +1,8 @@
 // The bound on a task's delay.
 ghost use Rattle.std.specs.Prelude.{◌≡◌};
-ghost use Rattle.rules.specs.Demands.Bound.{boundOf};
-ghost use Rattle.rules.specs.Books.Book.{checkedOf};
-ghost use Rattle.device.specs.Device.{fullRoom};
+ghost use Rattle.rules.specs.Demands.Bound.{bound_of};
+ghost use Rattle.rules.specs.Books.Book.{checked_of};
+ghost use Rattle.device.specs.Device.{full_room};
 
 use rules::capacity::MAX_EVENTS;
 
@@ -12,7 +12,7 @@ pub const FULL_ROOM: usize = MAX_EVENTS * 4;
 // The bound for a task of the book's plan; 0 for a task that it has not, and for a book that is refused.
 #[unsafe(no_mangle)]
 pub extern "C" fn recorder_bound(book: &[u8], task: usize) -> u16
-    ensures { result ≡ boundOf (checkedOf book.now fullRoom).plan task }
+    ensures { result ≡ bound_of (checked_of book.now full_room).plan task }
 {
     let c = book::check(book, FULL_ROOM);
     let plan = c.plan;

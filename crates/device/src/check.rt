@@ -1,7 +1,7 @@
 // The check of a book.
 ghost use Rattle.std.specs.Prelude.{◌≡◌};
-ghost use Rattle.rules.specs.Books.Book.{checkedOf};
-ghost use Rattle.device.specs.Device.{checkSpelled};
+ghost use Rattle.rules.specs.Books.Book.{checked_of};
+ghost use Rattle.device.specs.Device.{check_spelled};
 
 use rules::answer::{verdict_number, verdict_place};
 use rules::plan::Plan;
@@ -20,7 +20,7 @@ pub struct DeviceCheck {
 // 1 to 9 and 24, for a book that is to be replayed with so many bytes of row space.
 #[unsafe(no_mangle)]
 pub extern "C" fn recorder_check(book: &[u8], room: usize) -> DeviceCheck
-    ensures { result ≡ checkSpelled (checkedOf book.now room) }
+    ensures { result ≡ check_spelled (checked_of book.now room) }
 {
     let c = book::check(book, room);
     let verdict = c.verdict;

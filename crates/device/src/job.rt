@@ -1,7 +1,7 @@
 // RULES 16.10: the text of a job read into event records.
 ghost use Rattle.std.specs.Prelude.{◌≡◌};
 ghost use Rattle.jobs.specs.Job.{job_of};
-ghost use Rattle.device.specs.Device.{jobSpelled};
+ghost use Rattle.device.specs.Device.{job_spelled};
 
 use rules::answer::{verdict_number, verdict_place};
 
@@ -18,7 +18,7 @@ pub struct DeviceJob {
 // them stay.
 #[unsafe(no_mangle)]
 pub extern "C" fn recorder_read_job(text: &[u8], space: &mut [u8]) -> DeviceJob
-    ensures value { result ≡ jobSpelled (job_of text.now space.old).answer }
+    ensures value { result ≡ job_spelled (job_of text.now space.old).answer }
     ensures space_after { space.new ≡ (job_of text.now space.old).space }
 {
     let job = jobs::read_job(text, space);

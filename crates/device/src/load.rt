@@ -1,8 +1,8 @@
 // RULES 6.3: the load of a plan from a lent table.
 ghost use Rattle.std.specs.Prelude.{◌≡◌};
 ghost use Rattle.rules.specs.Books.Load.{load_of};
-ghost use Rattle.device.specs.Table.{numbersOf};
-ghost use Rattle.device.specs.Device.{loadSpelled};
+ghost use Rattle.device.specs.Table.{numbers_of};
+ghost use Rattle.device.specs.Device.{load_spelled};
 
 use crate::table::{TaskRecord, load_table};
 use rules::answer::{Loaded, verdict_number, verdict_place};
@@ -18,7 +18,7 @@ pub struct DeviceLoad {
 }
 
 fn spell(l: Loaded) -> DeviceLoad
-    ensures { result ≡ loadSpelled l }
+    ensures { result ≡ load_spelled l }
 {
     let verdict = l.verdict;
     let plan = l.plan;
@@ -36,7 +36,7 @@ pub extern "C" fn recorder_load_table(
     locks: &[u32],
     uses: &[u16],
 ) -> DeviceLoad
-    ensures { result ≡ loadSpelled (load_of (numbersOf tasks.now) locks.now uses.now) }
+    ensures { result ≡ load_spelled (load_of (numbers_of tasks.now) locks.now uses.now) }
 {
     let l = load_table(tasks, locks, uses);
     spell(l)

@@ -1,7 +1,7 @@
 // The numbers of a table's records, as far as a plan may have them and one more.
 ghost use Rattle.std.specs.Prelude.{◌≡◌, ◌<◌, ◌≤◌, min, length, take};
 ghost use Rattle.rules.specs.Books.Load.{load_of};
-ghost use Rattle.device.specs.Table.{mostKept, noNumbers, kept, shown};
+ghost use Rattle.device.specs.Table.{most_kept, no_numbers, kept, shown};
 
 use figures::number::wide_byte;
 use rules::answer::Loaded;
@@ -17,7 +17,7 @@ pub struct Numbers {
 }
 
 pub fn none() -> Numbers
-    ensures { result ≡ noNumbers }
+    ensures { result ≡ no_numbers }
 {
     let words = [0u16; ROOM];
     Numbers { words, count: 0 }
@@ -40,7 +40,7 @@ pub fn keep(n: Numbers, base: u8, maximum: u8) -> Numbers
 
 // The lesser of a count and the room.
 fn within(count: usize) -> usize
-    ensures { (result ≡ min count mostKept) × (result ≤ mostKept) }
+    ensures { (result ≡ min count most_kept) × (result ≤ most_kept) }
 {
     if count < ROOM {
         return count;
@@ -58,7 +58,7 @@ fn load_front(words: &[u16], k: usize, locks: &[u32], uses: &[u16]) -> Loaded
 
 // The same of a whole array.
 fn load_array(words: &[u16; ROOM], k: usize, locks: &[u32], uses: &[u16]) -> Loaded
-    requires { (length words.now ≡ mostKept) × (k ≤ mostKept) }
+    requires { (length words.now ≡ most_kept) × (k ≤ most_kept) }
     ensures { result ≡ load_of (take k words.now) locks.now uses.now }
 {
     load_front(words, k, locks, uses)

@@ -1,9 +1,9 @@
 // The replay of a book.
 ghost use Rattle.std.specs.Prelude.{◌≡◌, length};
-ghost use Rattle.rules.specs.Books.Book.{checkedOf};
-ghost use Rattle.rules.specs.Replays.Replay.{replayOf};
-ghost use Rattle.rules.specs.Schedulers.Protocol.{protocolNamed};
-ghost use Rattle.device.specs.Device.{replaySpelled};
+ghost use Rattle.rules.specs.Books.Book.{checked_of};
+ghost use Rattle.rules.specs.Replays.Replay.{replay_of};
+ghost use Rattle.rules.specs.Schedulers.Protocol.{protocol_named};
+ghost use Rattle.device.specs.Device.{replay_spelled};
 
 use rules::answer::{verdict_number, verdict_place};
 use rules::plan::Plan;
@@ -26,10 +26,10 @@ pub struct DeviceReplay {
 // its number.
 #[unsafe(no_mangle)]
 pub extern "C" fn recorder_replay(protocol: u8, book: &[u8], rows: &mut [u8]) -> DeviceReplay
-    ensures value { result ≡ replaySpelled (replayOf (protocolNamed protocol) book.now rows.old).verdict
-        (checkedOf book.now (length rows.old)).plan
-        (replayOf (protocolNamed protocol) book.now rows.old).state }
-    ensures rows_after { rows.new ≡ (replayOf (protocolNamed protocol) book.now rows.old).rows }
+    ensures value { result ≡ replay_spelled (replay_of (protocol_named protocol) book.now rows.old).verdict
+        (checked_of book.now (length rows.old)).plan
+        (replay_of (protocol_named protocol) book.now rows.old).state }
+    ensures rows_after { rows.new ≡ (replay_of (protocol_named protocol) book.now rows.old).rows }
 {
     let r = scheduler::replay(named(protocol), book, rows);
     let verdict = r.verdict;

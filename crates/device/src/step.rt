@@ -1,7 +1,7 @@
 // A single step, and the state before the first.
 ghost use Rattle.std.specs.Prelude.{◌≡◌};
 ghost use Rattle.rules.specs.Schedulers.State.{fresh_of};
-ghost use Rattle.device.specs.Device.{noEvent, stepFrom};
+ghost use Rattle.device.specs.Device.{no_event, step_from};
 
 use book::record::{event_fault, event_of};
 use rules::answer::{answer_calls, answer_number};
@@ -22,7 +22,7 @@ pub struct DeviceStep {
 
 // Three numbers that are no event's: what 8 refuses in a book, but for work of 0, which is an event.
 fn no_event(kind: u8, id: u8, amount: u16) -> bool
-    ensures { result ≡ noEvent kind id amount }
+    ensures { result ≡ no_event kind id amount }
 {
     if kind == 4 {
         return id != 0;
@@ -49,7 +49,7 @@ pub extern "C" fn recorder_step(
     id: u8,
     amount: u16,
 ) -> DeviceStep
-    ensures { result ≡ stepFrom protocol plan state kind id amount }
+    ensures { result ≡ step_from protocol plan state kind id amount }
 {
     if no_event(kind, id, amount) {
         return DeviceStep {

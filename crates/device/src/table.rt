@@ -1,7 +1,7 @@
 // RULES 6.3: a thin loader over a lent table, which hands the numbers of its records to the plan check.
 ghost use Rattle.std.specs.Prelude.{◌≡◌};
 ghost use Rattle.rules.specs.Books.Load.{load_of};
-ghost use Rattle.device.specs.Table.{numbersOf, keptOf};
+ghost use Rattle.device.specs.Table.{numbers_of, kept_of};
 
 use crate::numbers;
 use crate::numbers::Numbers;
@@ -17,7 +17,7 @@ pub struct TaskRecord {
 
 // The numbers of the records, read where they lie.
 fn gather(tasks: &[TaskRecord]) -> Numbers
-    ensures { result ≡ keptOf tasks.now }
+    ensures { result ≡ kept_of tasks.now }
 {
     let mut n = numbers::none();
     let mut i = 0;
@@ -32,7 +32,7 @@ fn gather(tasks: &[TaskRecord]) -> Numbers
 // The plan of a table of records with its locks and uses, or the first offender of 2,
 // 4 to 7 and 24.
 pub fn load_table(tasks: &[TaskRecord], locks: &[u32], uses: &[u16]) -> Loaded
-    ensures { result ≡ load_of (numbersOf tasks.now) locks.now uses.now }
+    ensures { result ≡ load_of (numbers_of tasks.now) locks.now uses.now }
 {
     let n = gather(tasks);
     numbers::load(n, locks, uses)

@@ -1,7 +1,7 @@
 // RULES 6.5, 6.6: a book written from its records.
 ghost use Rattle.std.specs.Prelude.{◌≡◌};
-ghost use Rattle.rules.specs.Books.Write.{writeOf};
-ghost use Rattle.device.specs.Device.{writeSpelled};
+ghost use Rattle.rules.specs.Books.Write.{write_of};
+ghost use Rattle.device.specs.Device.{write_spelled};
 
 use rules::answer::{verdict_number, verdict_place};
 
@@ -24,8 +24,8 @@ pub extern "C" fn recorder_write(
     events: &[u32],
     buffer: &mut [u8],
 ) -> DeviceWrite
-    ensures value { result ≡ writeSpelled (writeOf tasks.now locks.now uses.now events.now buffer.old) }
-    ensures buffer_after { buffer.new ≡ (writeOf tasks.now locks.now uses.now events.now
+    ensures value { result ≡ write_spelled (write_of tasks.now locks.now uses.now events.now buffer.old) }
+    ensures buffer_after { buffer.new ≡ (write_of tasks.now locks.now uses.now events.now
         buffer.old).bytes }
 {
     let w = book::writer::write(tasks, locks, uses, events, buffer);

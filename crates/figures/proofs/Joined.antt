@@ -14,13 +14,13 @@ use borrow.Author.Tests.{ne_eqb}
 use Rattle.rules.specs.Numbers.Place.{at, zeros}
 
 -- two numbers joined make 0 where both are 0
-first-none : (a b : ℕ) → bit_or a b ≡ 0 → a ≡ 0
-first-none = bin_ind (λ (n : ℕ). (b : ℕ) → bit_or n b ≡ 0 → n ≡ 0) (λ b e. refl)
+first_none : (a b : ℕ) → bit_or a b ≡ 0 → a ≡ 0
+first_none = bin_ind (λ (n : ℕ). (b : ℕ) → bit_or n b ≡ 0 → n ≡ 0) (λ b e. refl)
     (λ n ih b e. omega (arith, or_step n b, ih (b / 2) (omega (arith, or_step n b))))
 
-joined-none : (a b : ℕ) → eqb (bit_or a b) 0 ≡ (eqb a 0 && eqb b 0)
-joined-none zero b = ap (λ q. eqb q 0) (or_zero_l b)
-joined-none (suc a) b = ne_eqb (bit_or (suc a) b) 0 (λ e. absurd (omega (arith, first-none (suc a) b e))) ∙ rw (eqb-suc-zero a)
+joined_none : (a b : ℕ) → eqb (bit_or a b) 0 ≡ (eqb a 0 && eqb b 0)
+joined_none zero b = ap (λ q. eqb q 0) (or_zero_l b)
+joined_none (suc a) b = ne_eqb (bit_or (suc a) b) 0 (λ e. absurd (omega (arith, first_none (suc a) b e))) ∙ rw (eqb-suc-zero a)
 
 -- one place after the other
 unspare : (ys : List ℕ) (i : ℕ) → i < length ys → zeros (drop i ys) ≡ (eqb (at ys i) 0 && zeros (drop (suc i) ys))
@@ -34,10 +34,10 @@ module _ (xs : List ℕ) (n : ℕ) where
   abbrev pub JoinedSoFar : ℕ → ℕ → Type 0
   JoinedSoFar i joined = (eqb joined 0 && zeros (drop i xs)) ≡ zeros (drop n xs)
 
-  pub joined-next : (i joined : ℕ) → JoinedSoFar i joined → i < length xs → JoinedSoFar (i + 1) (bit_or joined (at xs i))
-  joined-next i joined e l = rw (add-one i) (ap (λ t. t && zeros (drop (suc i) xs)) (joined-none joined (at xs i))
+  pub joined_next : (i joined : ℕ) → JoinedSoFar i joined → i < length xs → JoinedSoFar (i + 1) (bit_or joined (at xs i))
+  joined_next i joined e l = rw (add-one i) (ap (λ t. t && zeros (drop (suc i) xs)) (joined_none joined (at xs i))
       ∙ and_assoc (eqb joined 0) (eqb (at xs i) 0) (zeros (drop (suc i) xs)) ∙ ap (λ t. eqb joined 0 && t) (sym (unspare xs i l)) ∙ e)
 
-  pub joined-ends : (i joined : ℕ) → JoinedSoFar i joined → length xs ≤ i → eqb joined 0 ≡ zeros (drop n xs)
+  pub joined_ends : (i joined : ℕ) → JoinedSoFar i joined → length xs ≤ i → eqb joined 0 ≡ zeros (drop n xs)
   unfolding zeros
-  joined-ends i joined e l = sym (and-true (eqb joined 0)) ∙ ap (λ ys. eqb joined 0 && zeros ys) (sym (drop_of_length-le xs l)) ∙ e
+  joined_ends i joined e l = sym (and-true (eqb joined 0)) ∙ ap (λ ys. eqb joined 0 && zeros ys) (sym (drop_of_length-le xs l)) ∙ e

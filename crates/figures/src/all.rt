@@ -1,9 +1,9 @@
 // Whether tests all hold.
 ghost use Rattle.std.specs.Prelude.{◌≡◌, [], ◌∷◌};
-ghost use Rattle.rules.specs.Numbers.Choice.{allTrue};
+ghost use Rattle.rules.specs.Numbers.Choice.{all_true};
 
 pub fn all_five(a: bool, b: bool, c: bool, d: bool, e: bool) -> bool
-    ensures { result ≡ allTrue (a ∷ b ∷ c ∷ d ∷ e ∷ []) }
+    ensures { result ≡ all_true (a ∷ b ∷ c ∷ d ∷ e ∷ []) }
 {
     if !a {
         return false;
@@ -21,7 +21,7 @@ pub fn all_five(a: bool, b: bool, c: bool, d: bool, e: bool) -> bool
 }
 
 pub fn all_six(a: bool, b: bool, c: bool, d: bool, e: bool, f: bool) -> bool
-    ensures { result ≡ allTrue (a ∷ b ∷ c ∷ d ∷ e ∷ f ∷ []) }
+    ensures { result ≡ all_true (a ∷ b ∷ c ∷ d ∷ e ∷ f ∷ []) }
 {
     if !a {
         return false;
@@ -42,7 +42,7 @@ pub fn all_six(a: bool, b: bool, c: bool, d: bool, e: bool, f: bool) -> bool
 }
 
 pub fn all_eight(a: bool, b: bool, c: bool, d: bool, e: bool, f: bool, g: bool, h: bool) -> bool
-    ensures { result ≡ allTrue (a ∷ b ∷ c ∷ d ∷ e ∷ f ∷ g ∷ h ∷ []) }
+    ensures { result ≡ all_true (a ∷ b ∷ c ∷ d ∷ e ∷ f ∷ g ∷ h ∷ []) }
 {
     if !a {
         return false;

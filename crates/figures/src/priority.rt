@@ -2,7 +2,7 @@
 // number of the one kind becomes one of the other, meets it, or becomes a byte of a table and comes
 // back: tables are lent, and what is lent holds plain numbers.
 ghost use Rattle.std.specs.Prelude.{◌≡◌, max, eqb, leb, ltb};
-ghost use Rattle.rules.specs.Schedulers.Lazy.{callsFor, cut_to};
+ghost use Rattle.rules.specs.Schedulers.Lazy.{calls_for, cut_to};
 
 use rules::priority::{KernelPriority, UserPriority};
 
@@ -69,7 +69,7 @@ pub fn exceeds(a: KernelPriority, b: KernelPriority) -> bool
 
 // The rule for a call: the word put back is strictly below the second word.
 pub fn calls_for(back: UserPriority, next: KernelPriority) -> bool
-    ensures { result ≡ callsFor back.0 next.0 }
+    ensures { result ≡ calls_for back.0 next.0 }
 {
     back.0 < next.0
 }

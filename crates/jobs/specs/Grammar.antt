@@ -11,53 +11,53 @@ pub data Body : Type 0 where
   section : ℕ → Body → Body → Body
 
 -- the most units of one work, the greatest lock, and how many sections may stand one in another. src/form.rt names the same
-abbrev pub maxUnits : ℕ
-maxUnits = 65_535
+abbrev pub max_units : ℕ
+max_units = 65_535
 
-abbrev pub maxLock : ℕ
-maxLock = 31
+abbrev pub max_lock : ℕ
+max_lock = 31
 
 abbrev pub levels : ℕ
 levels = 8
 
 -- units from 1 on, and neither they, the locks nor the levels above what may be; k levels are left
 pub data Good : ℕ → Body → Type 0 where
-  good-empty : {k : ℕ} → Good k empty
-  good-work : {k n : ℕ} {rest : Body} → 1 ≤ n → n ≤ maxUnits → Good k rest → Good k (work n rest)
-  good-section : {k l : ℕ} {inner rest : Body} → l ≤ maxLock → Good k inner → Good (suc k) rest → Good (suc k) (section l inner rest)
+  good_empty : {k : ℕ} → Good k empty
+  good_work : {k n : ℕ} {rest : Body} → 1 ≤ n → n ≤ max_units → Good k rest → Good k (work n rest)
+  good_section : {k l : ℕ} {inner rest : Body} → l ≤ max_lock → Good k inner → Good (suc k) rest → Good (suc k) (section l inner rest)
 
 -- ---- the text
 
 -- `w`, `[`, `]` and the space
-abbrev pub letterByte : ℕ
-letterByte = 119
+abbrev pub letter_byte : ℕ
+letter_byte = 119
 
-abbrev pub leftByte : ℕ
-leftByte = 91
+abbrev pub left_byte : ℕ
+left_byte = 91
 
-abbrev pub rightByte : ℕ
-rightByte = 93
+abbrev pub right_byte : ℕ
+right_byte = 93
 
-abbrev pub gapByte : ℕ
-gapByte = 32
+abbrev pub gap_byte : ℕ
+gap_byte = 32
 
 -- the items, each after a single space: ` w` and the units, or ` [`, the lock, the body and `]`
-unfoldable pub tailOf : Body → List ℕ
-tailOf empty = []
-tailOf (work n rest) = gapByte ∷ letterByte ∷ digits n ++ tailOf rest
-tailOf (section l inner rest) = gapByte ∷ leftByte ∷ digits l ++ tailOf inner ++ rightByte ∷ tailOf rest
+unfoldable pub tail_of : Body → List ℕ
+tail_of empty = []
+tail_of (work n rest) = gap_byte ∷ letter_byte ∷ digits n ++ tail_of rest
+tail_of (section l inner rest) = gap_byte ∷ left_byte ∷ digits l ++ tail_of inner ++ right_byte ∷ tail_of rest
 
 -- the same with no space before the first
 unfoldable pub text_of : Body → List ℕ
-text_of b = drop 1 (tailOf b)
+text_of b = drop 1 (tail_of b)
 
 -- ---- the events
 
-unfoldable pub eventsIn : Body → List Event
-eventsIn empty = []
-eventsIn (work n rest) = Work n ∷ eventsIn rest
-eventsIn (section l inner rest) = Acquire l ∷ eventsIn inner ++ Unlock l ∷ eventsIn rest
+unfoldable pub events_in : Body → List Event
+events_in empty = []
+events_in (work n rest) = Work n ∷ events_in rest
+events_in (section l inner rest) = Acquire l ∷ events_in inner ++ Unlock l ∷ events_in rest
 
 -- of a job: those of its body, and the finish
-unfoldable pub eventsOf : Body → List Event
-eventsOf b = eventsIn b ++ Finish ∷ []
+unfoldable pub events_of : Body → List Event
+events_of b = events_in b ++ Finish ∷ []

@@ -2,10 +2,10 @@
 use Rattle.std.specs.Prelude.{◌≡◌, List, ◌++◌, ℕ, ◌+◌, ◌*◌, ◌≤◌, ◌<◌, length, take}
 use Rattle.rules.specs.declared.answer.Verdict.{Verdict}
 use Rattle.rules.specs.declared.refusal.Refusal.TheVariants.{WrongJob, ShortSpace}
-use Rattle.jobs.specs.Grammar.{Body, levels, Good, text_of, eventsOf}
-use Rattle.jobs.specs.Reader.{Answer, readJob}
+use Rattle.jobs.specs.Grammar.{Body, levels, Good, text_of, events_of}
+use Rattle.jobs.specs.Reader.{Answer, read_job}
 use Rattle.jobs.specs.Tree.{Reading, read_body}
-use Rattle.jobs.specs.Job.{jobVerdict, jobEvents, readWith, withEvents, job_of}
+use Rattle.jobs.specs.Job.{job_verdict, job_events, read_with, with_events, job_of}
 
 -- some text of a body begins so
 unfoldable pub Begins : List ℕ → Type 0
@@ -21,26 +21,26 @@ pub record Place (text : List ℕ) (n : ℕ) : Type 0 where
 -- a text is written and read
 pub record ReadsAsWritten : Type 0 where
   -- no text has two readings
-  pub oneReading : (a b : Body) → Good levels a → Good levels b → text_of a ≡ text_of b → a ≡ b
+  pub one_reading : (a b : Body) → Good levels a → Good levels b → text_of a ≡ text_of b → a ≡ b
   -- what is printed of a body is read as its events, and as the body itself
-  pub eventsBack : (b : Body) → Good levels b → readJob (text_of b) ≡ Answer.read (eventsOf b)
-  pub bodyBack : (b : Body) → Good levels b → read_body (text_of b) ≡ Reading.form b
+  pub events_back : (b : Body) → Good levels b → read_job (text_of b) ≡ Answer.read (events_of b)
+  pub body_back : (b : Body) → Good levels b → read_body (text_of b) ≡ Reading.form b
   -- what is printed of the body that was read is the text
-  pub textBack : (text : List ℕ) (b : Body) → read_body text ≡ Reading.form b → Good levels b × (text_of b ≡ text)
+  pub text_back : (text : List ℕ) (b : Body) → read_body text ≡ Reading.form b → Good levels b × (text_of b ≡ text)
 
 -- what is accepted is the grammar, and a refusal's place is the one that RULES 20.4 says
 pub record AcceptsTheGrammar : Type 0 where
-  pub accepted : (text : List ℕ) (room : ℕ) → jobVerdict text room ≡ Verdict.Passed → (b : Body) × Good levels b × (text_of b ≡ text) × (jobEvents text room ≡ eventsOf b)
-  pub written : (b : Body) (space : List ℕ) → Good levels b → length (eventsOf b) * 4 ≤ length space
-      → job_of (text_of b) space ≡ readWith (record { verdict = Verdict.Passed; events = length (eventsOf b) }) (withEvents (eventsOf b) space)
-  pub noSpace : (b : Body) (space : List ℕ) → Good levels b → length space < length (eventsOf b) * 4
-      → job_of (text_of b) space ≡ readWith (record { verdict = Verdict.Refused ShortSpace 0; events = 0 }) space
+  pub accepted : (text : List ℕ) (room : ℕ) → job_verdict text room ≡ Verdict.Passed → (b : Body) × Good levels b × (text_of b ≡ text) × (job_events text room ≡ events_of b)
+  pub written : (b : Body) (space : List ℕ) → Good levels b → length (events_of b) * 4 ≤ length space
+      → job_of (text_of b) space ≡ read_with (record { verdict = Verdict.Passed; events = length (events_of b) }) (with_events (events_of b) space)
+  pub no_space : (b : Body) (space : List ℕ) → Good levels b → length space < length (events_of b) * 4
+      → job_of (text_of b) space ≡ read_with (record { verdict = Verdict.Refused ShortSpace 0; events = 0 }) space
   pub unfit : (text space : List ℕ) → ((b : Body) → Good levels b → text_of b ≡ text → ⊥)
-      → (n : ℕ) × Place text n × (job_of text space ≡ readWith (record { verdict = Verdict.Refused WrongJob n; events = 0 }) space)
-  pub placed : (text : List ℕ) (room n : ℕ) → jobVerdict text room ≡ Verdict.Refused WrongJob n → Place text n
-  pub onePlace : (text : List ℕ) (m n : ℕ) → Place text m → Place text n → m ≡ n
+      → (n : ℕ) × Place text n × (job_of text space ≡ read_with (record { verdict = Verdict.Refused WrongJob n; events = 0 }) space)
+  pub placed : (text : List ℕ) (room n : ℕ) → job_verdict text room ≡ Verdict.Refused WrongJob n → Place text n
+  pub one_place : (text : List ℕ) (m n : ℕ) → Place text m → Place text n → m ≡ n
   -- so much space is always enough
-  pub enough : (text : List ℕ) (room : ℕ) → length text * 2 + 6 ≤ room → jobVerdict text room ≡ Verdict.Refused ShortSpace 0 → ⊥
+  pub enough : (text : List ℕ) (room : ℕ) → length text * 2 + 6 ≤ room → job_verdict text room ≡ Verdict.Refused ShortSpace 0 → ⊥
 
 pub record JobPromises : Type 0 where
   pub reads : ReadsAsWritten

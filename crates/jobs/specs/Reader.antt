@@ -3,7 +3,7 @@ use Rattle.std.specs.Prelude.{List, [], ◌∷◌, ◌++◌, ℕ, ◌+◌, ◌*�
 use Rattle.rules.specs.Numbers.Choice.{if◌then◌else◌}
 use Rattle.rules.specs.declared.event.Event.{Event}
 use Rattle.rules.specs.declared.event.Event.TheVariants.{Acquire, Unlock, Work, Finish}
-use Rattle.jobs.specs.Grammar.{maxUnits, maxLock, levels, letterByte, leftByte, rightByte, gapByte}
+use Rattle.jobs.specs.Grammar.{max_units, max_lock, levels, letter_byte, left_byte, right_byte, gap_byte}
 
 -- what a byte stands for
 pub data Mark : Type 0 where
@@ -19,10 +19,10 @@ pub data Sign : Type 0 where
 
 unfoldable pub mark_of : ℕ → Mark
 mark_of b =
-    if eqb b letterByte then letter
-    else if eqb b leftByte then left
-    else if eqb b rightByte then right
-    else if eqb b gapByte then gap
+    if eqb b letter_byte then letter
+    else if eqb b left_byte then left
+    else if eqb b right_byte then right
+    else if eqb b gap_byte then gap
     else other
 
 unfoldable pub sign : ℕ → Sign
@@ -58,28 +58,28 @@ begin (mark right) ls = stop
 begin (mark gap) ls = stop
 begin (mark other) ls = stop
 
-unfoldable pub inUnits : Sign → ℕ → List ℕ → Move
-inUnits (digit d) v ls = if eqb (v * 10 + d) 0 then stop else if ltb maxUnits (v * 10 + d) then stop else move (units (v * 10 + d)) ls []
-inUnits (mark m) v ls = if eqb v 0 then stop else behind m ls (Work v ∷ [])
+unfoldable pub in_units : Sign → ℕ → List ℕ → Move
+in_units (digit d) v ls = if eqb (v * 10 + d) 0 then stop else if ltb max_units (v * 10 + d) then stop else move (units (v * 10 + d)) ls []
+in_units (mark m) v ls = if eqb v 0 then stop else behind m ls (Work v ∷ [])
 
-unfoldable pub inBracket : Sign → List ℕ → Move
-inBracket (digit d) ls = move (lock d) ls []
-inBracket (mark m) ls = stop
+unfoldable pub in_bracket : Sign → List ℕ → Move
+in_bracket (digit d) ls = move (lock d) ls []
+in_bracket (mark m) ls = stop
 
-unfoldable pub inLock : Sign → ℕ → List ℕ → Move
-inLock (digit d) v ls = if eqb v 0 then stop else if ltb maxLock (v * 10 + d) then stop else move (lock (v * 10 + d)) ls []
-inLock (mark m) v ls = behind m (v ∷ ls) (Acquire v ∷ [])
+unfoldable pub in_lock : Sign → ℕ → List ℕ → Move
+in_lock (digit d) v ls = if eqb v 0 then stop else if ltb max_lock (v * 10 + d) then stop else move (lock (v * 10 + d)) ls []
+in_lock (mark m) v ls = behind m (v ∷ ls) (Acquire v ∷ [])
 
-unfoldable pub behindSign : Sign → List ℕ → Move
-behindSign (digit d) ls = stop
-behindSign (mark m) ls = behind m ls []
+unfoldable pub behind_sign : Sign → List ℕ → Move
+behind_sign (digit d) ls = stop
+behind_sign (mark m) ls = behind m ls []
 
 unfoldable pub step : Mode → Sign → List ℕ → Move
 step fresh s ls = begin s ls
-step (units v) s ls = inUnits s v ls
-step bracket s ls = inBracket s ls
-step (lock v) s ls = inLock s v ls
-step after s ls = behindSign s ls
+step (units v) s ls = in_units s v ls
+step bracket s ls = in_bracket s ls
+step (lock v) s ls = in_lock s v ls
+step after s ls = behind_sign s ls
 
 -- what is left where the reader stops, or the events
 pub data Answer : Type 0 where
@@ -95,22 +95,22 @@ unfoldable pub ends : List ℕ → Answer
 ends [] = read (Finish ∷ [])
 ends (l ∷ ls) = refused []
 
-unfoldable pub endsIn : Mode → List ℕ → Answer
-endsIn fresh ls = refused []
-endsIn (units v) ls = if eqb v 0 then refused [] else prepend (Work v ∷ []) (ends ls)
-endsIn bracket ls = refused []
-endsIn (lock v) ls = refused []
-endsIn after ls = ends ls
+unfoldable pub ends_in : Mode → List ℕ → Answer
+ends_in fresh ls = refused []
+ends_in (units v) ls = if eqb v 0 then refused [] else prepend (Work v ∷ []) (ends ls)
+ends_in bracket ls = refused []
+ends_in (lock v) ls = refused []
+ends_in after ls = ends ls
 
 unfoldable pub onward : Move → List ℕ → (Mode → List ℕ → Answer) → Answer
 onward stop rest k = refused rest
 onward (move m ls es) rest k = prepend es (k m ls)
 
 unfoldable pub run : List ℕ → Mode → List ℕ → Answer
-run [] m ls = endsIn m ls
+run [] m ls = ends_in m ls
 run (b ∷ t) m ls = onward (step m (sign b) ls) (b ∷ t) (λ m' ls'. run t m' ls')
 
 -- a whole text: the empty one is a job of no items
-unfoldable pub readJob : List ℕ → Answer
-readJob [] = read (Finish ∷ [])
-readJob (b ∷ t) = run (b ∷ t) fresh []
+unfoldable pub read_job : List ℕ → Answer
+read_job [] = read (Finish ∷ [])
+read_job (b ∷ t) = run (b ∷ t) fresh []

@@ -2,13 +2,13 @@
 use Rattle.std.specs.Prelude.{Bool, true, false, ◌&&◌, List, [], ◌∷◌, ℕ, T, eqb, replicate}
 use Prim.Native.String.{String}
 use Rattle.rules.specs.Numbers.Choice.{if◌then◌else◌}
-use Rattle.rules.specs.Numbers.Answer.{verdictNumber, verdictPlace}
+use Rattle.rules.specs.Numbers.Answer.{verdict_number, verdict_place}
 use Rattle.rules.specs.Numbers.Refusal.{number_of}
-use Rattle.rules.specs.Books.Bytes.{longBytes}
-use Rattle.rules.specs.Books.Event.{kind_of, id_of, amountOf}
+use Rattle.rules.specs.Books.Bytes.{long_bytes}
+use Rattle.rules.specs.Books.Event.{kind_of, id_of, amount_of}
 use Rattle.page.specs.Ascii.{ascii}
-use Rattle.jobs.specs.Reader.{mark_of, sign, behind, begin, inUnits, inBracket, inLock, behindSign, step, prepend, ends, endsIn, onward, run, readJob}
-use Rattle.jobs.specs.Job.{ReadInto, verdictOf, givenBy, jobVerdict, jobEvents, jobAnswer, job_of}
+use Rattle.jobs.specs.Reader.{mark_of, sign, behind, begin, in_units, in_bracket, in_lock, behind_sign, step, prepend, ends, ends_in, onward, run, read_job}
+use Rattle.jobs.specs.Job.{ReadInto, verdict_of, given_by, job_verdict, job_events, job_answer, job_of}
 
 same : List ℕ → List ℕ → Bool
 same [] [] = true
@@ -18,7 +18,7 @@ same (x ∷ xs) (y ∷ ys) = eqb x y && same xs ys
 
 is : ReadInto → (number place events : ℕ) → List ℕ → Bool
 is r number place events space =
-    eqb (verdictNumber r.answer.verdict) number && eqb (verdictPlace r.answer.verdict) place && eqb r.answer.events events && same r.space space
+    eqb (verdict_number r.answer.verdict) number && eqb (verdict_place r.answer.verdict) place && eqb r.answer.events events && same r.space space
 
 -- space for nine events and one byte more
 room : List ℕ
@@ -55,5 +55,5 @@ shown : T (
     && refuses "w1 " 3
     && refuses "w1  w2" 3
     && refuses "x" 0)
-unfolding if◌then◌else◌ same is room reads refuses ascii verdictNumber verdictPlace number_of kind_of id_of amountOf longBytes mark_of sign behind begin inUnits inBracket inLock behindSign step prepend ends endsIn onward run readJob verdictOf givenBy jobVerdict jobEvents jobAnswer job_of
+unfolding if◌then◌else◌ same is room reads refuses ascii verdict_number verdict_place number_of kind_of id_of amount_of long_bytes mark_of sign behind begin in_units in_bracket in_lock behind_sign step prepend ends ends_in onward run read_job verdict_of given_by job_verdict job_events job_answer job_of
 shown = tt

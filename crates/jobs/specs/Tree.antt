@@ -4,7 +4,7 @@ use Rattle.rules.specs.declared.event.Event.{Event}
 use Rattle.rules.specs.declared.event.Event.TheVariants.{Release, Acquire, Unlock, Work, Finish, Tick}
 use Rattle.jobs.specs.Grammar.{Body}
 use Rattle.jobs.specs.Grammar.Body.{empty, work, section}
-use Rattle.jobs.specs.Reader.{Answer, readJob}
+use Rattle.jobs.specs.Reader.{Answer, read_job}
 
 -- the items of a body, and after them those of another
 unfoldable pub followed : Body → Body → Body
@@ -41,4 +41,4 @@ reading_of (Answer.refused rest) = wrong rest
 reading_of (Answer.read es) = form (grown es empty [])
 
 unfoldable pub read_body : List ℕ → Reading
-read_body text = reading_of (readJob text)
+read_body text = reading_of (read_job text)

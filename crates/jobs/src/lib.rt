@@ -6,7 +6,7 @@ mod space;
 mod text;
 
 ghost use Rattle.std.specs.Prelude.{◌≡◌, ◌*◌, ◌≤◌};
-ghost use Rattle.jobs.specs.Job.{jobAnswer, readWith, job_of};
+ghost use Rattle.jobs.specs.Job.{job_answer, read_with, job_of};
 
 use crate::read::scan;
 use rules::answer::Verdict;
@@ -21,7 +21,7 @@ pub struct Job {
 
 // 25 and 26 of a job's text, for so many bytes of event space. It is read into no space: nothing is written.
 pub fn check_job(text: &[u8], room: usize) -> Job
-    ensures value { result ≡ jobAnswer text.now room }
+    ensures value { result ≡ job_answer text.now room }
     ensures events_bound { result.events * 4 ≤ room }
 {
     let mut none = [0u8; 1];
@@ -47,7 +47,7 @@ pub fn check_job(text: &[u8], room: usize) -> Job
 // Reads a job's text and lays its events into `space`, four bytes an event; the bytes after them stay. Where 25 or 26 refuses
 // it, nothing is written.
 pub fn read_job(text: &[u8], space: &mut [u8]) -> Job
-    ensures { readWith result space.new ≡ job_of text.now space.old }
+    ensures { read_with result space.new ≡ job_of text.now space.old }
 {
     let job = check_job(text, space.len());
     let verdict = job.verdict;

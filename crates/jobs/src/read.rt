@@ -1,10 +1,10 @@
 // RULES 20.1, 20.2: the readers of bodies and items, which call each other: a bracketed item holds a body. A body's items are
 // walked by a loop, so the calls go no deeper than the nesting; an empty body is no call. Each lays the events that it reads; those that do not fit are counted and not written.
 ghost use Rattle.std.specs.Prelude.{◌≡◌, ◌+◌, ◌≤◌, ◌<◌, length};
-ghost use Rattle.rules.specs.Books.Event.{eventNumber};
+ghost use Rattle.rules.specs.Books.Event.{event_number};
 ghost use Rattle.rules.specs.declared.event.Event.{Event};
-ghost use Rattle.jobs.specs.Grammar.{maxUnits, maxLock};
-ghost use Rattle.jobs.specs.Reader.{readJob};
+ghost use Rattle.jobs.specs.Grammar.{max_units, max_lock};
+ghost use Rattle.jobs.specs.Reader.{read_job};
 ghost use Rattle.jobs.specs.Reader.Mode.{units};
 ghost use Rattle.jobs.specs.Sheet.{sheet, tell};
 ghost use Rattle.jobs.specs.Said.{Went, Did, Entered, Left, Over, whole, Within};
@@ -17,22 +17,22 @@ use crate::text::{GAP, LEFT, Number, RIGHT, WORK, byte, gap, lock, units};
 const FINISH: u32 = 5;
 
 fn work_number(units: u32) -> u32
-    requires { units ≤ maxUnits }
-    ensures { result ≡ eventNumber (Event.Work units) }
+    requires { units ≤ max_units }
+    ensures { result ≡ event_number (Event.Work units) }
 {
     4 + units * 65536
 }
 
 fn acquire_number(lock: u32) -> u32
-    requires { lock ≤ maxLock }
-    ensures { result ≡ eventNumber (Event.Acquire lock) }
+    requires { lock ≤ max_lock }
+    ensures { result ≡ event_number (Event.Acquire lock) }
 {
     2 + lock * 256
 }
 
 fn unlock_number(lock: u32) -> u32
-    requires { lock ≤ maxLock }
-    ensures { result ≡ eventNumber (Event.Unlock lock) }
+    requires { lock ≤ max_lock }
+    ensures { result ≡ event_number (Event.Unlock lock) }
 {
     3 + lock * 256
 }
@@ -73,7 +73,7 @@ fn enter(text: &[u8], from: usize, space: &mut [u8], n: usize) -> Number
     requires { (n < from) × (from ≤ length text.now) }
     ensures entered { Entered text.now from (sheet space.old n) result.ok result.place result.value (sheet space.new (n + 1)) }
     ensures within { Within text.now from result.place (n + 1) }
-    ensures value_le_max_lock { result.value ≤ maxLock }
+    ensures value_le_max_lock { result.value ≤ max_lock }
 {
     let l = lock(text, from);
     let place = l.place;
@@ -96,7 +96,7 @@ fn enter(text: &[u8], from: usize, space: &mut [u8], n: usize) -> Number
 // The end of the section of a lock.
 fn leave(text: &[u8], from: usize, l: u32, space: &mut [u8], n: usize) -> At
     requires n_le_from { (n ≤ from) × (from ≤ length text.now) }
-    requires l_le_max_lock { l ≤ maxLock }
+    requires l_le_max_lock { l ≤ max_lock }
     ensures left { Left text.now from l (sheet space.old n) result.ok result.place (sheet space.new result.count) }
     ensures within { Within text.now from result.place result.count }
 {
@@ -205,7 +205,7 @@ fn body(text: &[u8], from: usize, k: usize, space: &mut [u8], n: usize) -> At
 
 // A whole text.
 pub fn scan(text: &[u8], space: &mut [u8]) -> At
-    ensures text_value { tell (sheet space.old 0) (readJob text.now) ≡ whole result.ok text.now result.place (sheet space.new result.count) }
+    ensures text_value { tell (sheet space.old 0) (read_job text.now) ≡ whole result.ok text.now result.place (sheet space.new result.count) }
     ensures place_in_bounds { result.place ≤ length text.now }
 {
     if text.len() == 0 {

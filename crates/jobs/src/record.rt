@@ -1,6 +1,6 @@
 // Event records in lent space, read as numbers.
 ghost use Rattle.std.specs.Prelude.{◌≡◌, ◌<◌};
-ghost use Rattle.jobs.specs.Sheet.{recordIn};
+ghost use Rattle.jobs.specs.Sheet.{record_in};
 
 fn wide(x: u8) -> u32
     ensures { (result ≡ x) × (result < 256) }
@@ -10,7 +10,7 @@ fn wide(x: u8) -> u32
 
 // The number of record n, and 0 where there is none.
 pub fn record_at(space: &[u8], n: usize) -> u32
-    ensures { result ≡ recordIn space.now n }
+    ensures { result ≡ record_in space.now n }
 {
     if n < space.len() / 4 {
         let i = n * 4;

@@ -1,8 +1,8 @@
 // RULES 20.1: the bytes of a job's text, and the numbers in it.
 ghost use Rattle.std.specs.Prelude.{◌≡◌, ◌≤◌, length};
 ghost use Rattle.rules.specs.Numbers.Place.{at};
-ghost use Rattle.jobs.specs.Grammar.{maxUnits, maxLock};
-ghost use Rattle.jobs.specs.Said.{Gap, signAt, digitOf, Counted, Numbered, Within};
+ghost use Rattle.jobs.specs.Grammar.{max_units, max_lock};
+ghost use Rattle.jobs.specs.Said.{Gap, sign_at, digit_of, Counted, Numbered, Within};
 
 use crate::form::{MAX_LOCK, MAX_UNITS};
 
@@ -41,7 +41,7 @@ pub fn gap(text: &[u8], place: usize) -> bool
 
 // The digit at a place, or 10.
 pub fn digit(text: &[u8], from: usize) -> u32
-    ensures { result ≡ digitOf (signAt text.now from) }
+    ensures { result ≡ digit_of (sign_at text.now from) }
 {
     let b = byte(text, from);
     if b < 48 {
@@ -65,7 +65,7 @@ pub fn units(text: &[u8], from: usize) -> Number
     requires { from ≤ length text.now }
     ensures counted { Counted text.now from result.ok result.place result.value }
     ensures within { Within text.now from result.place 0 }
-    ensures value_le_max_units { result.value ≤ maxUnits }
+    ensures value_le_max_units { result.value ≤ max_units }
 {
     let first = digit(text, from);
     if 10 <= first {
@@ -110,7 +110,7 @@ pub fn lock(text: &[u8], from: usize) -> Number
     requires { from ≤ length text.now }
     ensures numbered { Numbered text.now from result.ok result.place result.value }
     ensures within { Within text.now from result.place 0 }
-    ensures value_le_max_lock { result.value ≤ maxLock }
+    ensures value_le_max_lock { result.value ≤ max_lock }
 {
     let d = digit(text, from);
     if 10 <= d {

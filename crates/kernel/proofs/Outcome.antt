@@ -5,16 +5,16 @@ use Prim.Native.Nat.{ℕ}
 use Rattle.rules.specs.declared.state.Head.{Head}
 use Rattle.rules.specs.declared.answer.Tested.{Tested}
 use Rattle.rules.specs.declared.refusal.Refusal.{Refusal}
-use Rattle.kernel.specs.Lent.{refusedAs}
+use Rattle.kernel.specs.Lent.{refused_as}
 use Rattle.kernel.specs.Parts.{Outcome}
 use Rattle.kernel.specs.declared.acted.Acted.{Acted}
 
 -- t is what the tests say
 module _ (tested t : Tested) (said : tested ≡ t) (h : Head) (r : Acted) (Done : Type 0) where
-  pub refused-so : (why : Refusal) (lent : List (List ℕ)) → tested ≡ Tested.Refused why → r ≡ refusedAs h why → Outcome t h r lent lent Done
+  pub refused_so : (why : Refusal) (lent : List (List ℕ)) → tested ≡ Tested.Refused why → r ≡ refused_as h why → Outcome t h r lent lent Done
   unfolding Outcome
-  refused-so why lent g q = subst (λ (v : Tested). Outcome v h r lent lent Done) (sym g ∙ said) (q, refl)
+  refused_so why lent g q = subst (λ (v : Tested). Outcome v h r lent lent Done) (sym g ∙ said) (q, refl)
 
-  pub done-so : (before after : List (List ℕ)) → tested ≡ Tested.Passed → Done → Outcome t h r before after Done
+  pub done_so : (before after : List (List ℕ)) → tested ≡ Tested.Passed → Done → Outcome t h r before after Done
   unfolding Outcome
-  done-so before after g d = subst (λ (v : Tested). Outcome v h r before after Done) (sym g ∙ said) d
+  done_so before after g d = subst (λ (v : Tested). Outcome v h r before after Done) (sym g ∙ said) d

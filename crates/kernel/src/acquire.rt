@@ -1,6 +1,6 @@
 // RULES 9.5: acquire.
 ghost use Rattle.std.specs.Prelude.{◌^◌, ◌<◌};
-ghost use Rattle.rules.specs.Numbers.Capacity.{maxLocks, maxTakes, maxTasks};
+ghost use Rattle.rules.specs.Numbers.Capacity.{max_locks, max_takes, max_tasks};
 ghost use Rattle.rules.specs.Numbers.Place.{at};
 ghost use Rattle.kernel.specs.Parts.{AcquireAnswered, AcquireDone};
 ghost use Rattle.kernel.specs.Ready.{AcquireReady, Counts};
@@ -25,8 +25,8 @@ fn accept(
     owner: &mut [u8; MAX_LOCKS],
     l: u8,
 ) -> Acted
-    requires counts { Counts h × (h.running < maxTasks) × (l < maxLocks) }
-    requires running_bound { (at depth.old h.running < maxTakes) × (at takes.old h.running < 256 ^ 7) × (at saved.old h.running < 256 ^ 7) }
+    requires counts { Counts h × (h.running < max_tasks) × (l < max_locks) }
+    requires running_bound { (at depth.old h.running < max_takes) × (at takes.old h.running < 256 ^ 7) × (at saved.old h.running < 256 ^ 7) }
     ensures { AcquireDone h l
         ceiling.now depth.old takes.old saved.old owner.old
         result depth.new takes.new saved.new owner.new }

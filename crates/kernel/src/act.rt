@@ -1,12 +1,12 @@
 // The step of a sound state: 11 to 22, or the event is accepted. The arrays are lent and changed in
 // place, and so is the tournament beside the kept priorities.
 ghost use Rattle.std.specs.Prelude.{◌≡◌, length};
-ghost use Rattle.rules.specs.Numbers.Capacity.{maxLocks};
-ghost use Rattle.rules.specs.Schedulers.Whole.{planWith, stateWith};
+ghost use Rattle.rules.specs.Numbers.Capacity.{max_locks};
+ghost use Rattle.rules.specs.Schedulers.Whole.{plan_with, state_with};
 ghost use Rattle.rules.specs.Soundness.Sound.{SoundAndSized};
-ghost use Rattle.rules.specs.Replays.Step.{actOf};
-ghost use Rattle.tournament.specs.Keys.{tournamentOf};
-ghost use Rattle.kernel.specs.Lent.{steppedAs};
+ghost use Rattle.rules.specs.Replays.Step.{act_of};
+ghost use Rattle.tournament.specs.Keys.{tournament_of};
+ghost use Rattle.kernel.specs.Lent.{stepped_as};
 
 use crate::acquire::acquire;
 use crate::acted::Acted;
@@ -46,15 +46,15 @@ pub fn act(
     tree: &mut [u64; PLACES],
     e: Event,
 ) -> Acted
-    requires sound_and_sized { SoundAndSized protocol (planWith n m base.now maximum.now ceiling.now limit.now uses.now)
-        (stateWith h released.old kept.old delay.old depth.old takes.old saved.old units.old owner.old) }
-    requires limit_len { (length limit.now ≡ maxLocks) × (tree.old ≡ tournamentOf n released.old kept.old) }
-    ensures owner_after { steppedAs result released.new kept.new delay.new depth.new takes.new saved.new
+    requires sound_and_sized { SoundAndSized protocol (plan_with n m base.now maximum.now ceiling.now limit.now uses.now)
+        (state_with h released.old kept.old delay.old depth.old takes.old saved.old units.old owner.old) }
+    requires limit_len { (length limit.now ≡ max_locks) × (tree.old ≡ tournament_of n released.old kept.old) }
+    ensures owner_after { stepped_as result released.new kept.new delay.new depth.new takes.new saved.new
         units.new owner.new
-        ≡ actOf protocol (planWith n m base.now maximum.now ceiling.now limit.now uses.now)
-        (stateWith h released.old kept.old delay.old depth.old takes.old saved.old
+        ≡ act_of protocol (plan_with n m base.now maximum.now ceiling.now limit.now uses.now)
+        (state_with h released.old kept.old delay.old depth.old takes.old saved.old
         units.old owner.old) e }
-    ensures tree_after { tree.new ≡ tournamentOf n released.new kept.new }
+    ensures tree_after { tree.new ≡ tournament_of n released.new kept.new }
 {
     if MAX_ACCEPTED <= h.accepted {
         return refused(h, Refusal::Exhausted);

@@ -2,7 +2,7 @@
 ghost use Rattle.std.specs.Prelude.{◌≡◌, ◌≤◌};
 ghost use Rattle.rules.specs.Numbers.Choice.{if◌then◌else◌};
 ghost use Rattle.rules.specs.Schedulers.FiguresAfter.{differs};
-ghost use Rattle.kernel.specs.Lent.{acceptedWith, refusedAs, turn_of};
+ghost use Rattle.kernel.specs.Lent.{accepted_with, refused_as, turn_of};
 ghost use Rattle.kernel.specs.Ready.{Counts};
 
 use crate::acted::Acted;
@@ -16,7 +16,7 @@ use rules::state::Head;
 // Field by field: a head that is handed on whole keeps its two words in memory from event to event,
 // which costs a short book's replay a twelfth of its time.
 pub fn refused(h: Head, why: Refusal) -> Acted
-    ensures { result ≡ refusedAs h why }
+    ensures { result ≡ refused_as h why }
 {
     let user = h.user;
     let next = h.next;
@@ -69,7 +69,7 @@ fn eager_calls(before: UserPriority, after: UserPriority) -> u32
 // The event counts, and so do the lazy call that it made and its eager calls.
 pub fn accepted(h: Head, turn: Turn, call: bool, eager: u32) -> Acted
     requires { Counts h × (eager ≤ 1) }
-    ensures { result ≡ acceptedWith h turn call eager }
+    ensures { result ≡ accepted_with h turn call eager }
 {
     let user = turn.user;
     let next = turn.next;
@@ -92,7 +92,7 @@ pub fn accepted(h: Head, turn: Turn, call: bool, eager: u32) -> Acted
 // told from the user word before, since in a sound state both are that task's priority.
 pub fn accepted_with_word(h: Head, turn: Turn, call: bool, word: UserPriority) -> Acted
     requires { Counts h }
-    ensures { result ≡ acceptedWith h turn call (differs h.user.0 word.0) }
+    ensures { result ≡ accepted_with h turn call (differs h.user.0 word.0) }
 {
     let user = h.user;
     accepted(h, turn, call, eager_calls(user, word))

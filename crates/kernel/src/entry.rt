@@ -3,7 +3,7 @@
 ghost use Rattle.std.specs.Prelude.{◌≡◌};
 ghost use Rattle.rules.specs.Numbers.Place.{at};
 ghost use Rattle.rules.specs.Schedulers.Lazy.{cut_to};
-ghost use Rattle.kernel.specs.Lent.{enteringHead};
+ghost use Rattle.kernel.specs.Lent.{entering_head};
 ghost use Rattle.kernel.specs.Ready.{IdleWord};
 
 use figures::priority::{cut_to, kernel_of};
@@ -26,7 +26,7 @@ pub fn found_word(maximum: &[u8; MAX_TASKS], running: u8, user: UserPriority) ->
 // The head as a release, a finish or a tick goes on with it.
 pub fn entering(maximum: &[u8; MAX_TASKS], h: Head) -> Head
     requires { IdleWord h.running h.user.0 }
-    ensures { result ≡ enteringHead maximum.now h }
+    ensures { result ≡ entering_head maximum.now h }
 {
     let user = h.user;
     let found = found_word(maximum, h.running, user);

@@ -1,7 +1,7 @@
 // RULES 9.8: finish.
 ghost use Rattle.std.specs.Prelude.{◌≡◌, ◌<◌};
-ghost use Rattle.rules.specs.Numbers.Capacity.{maxTasks};
-ghost use Rattle.tournament.specs.Keys.{tournamentOf};
+ghost use Rattle.rules.specs.Numbers.Capacity.{max_tasks};
+ghost use Rattle.tournament.specs.Keys.{tournament_of};
 ghost use Rattle.kernel.specs.Parts.{FinishAnswered, FinishDone};
 ghost use Rattle.kernel.specs.Ready.{FinishReady};
 
@@ -26,11 +26,11 @@ fn accept(
     kept: &mut [u8; MAX_TASKS],
     tree: &mut [u64; PLACES],
 ) -> Acted
-    requires { FinishReady h n kept.old × (h.running < maxTasks) × (tree.old ≡ tournamentOf n released.old kept.old) }
+    requires { FinishReady h n kept.old × (h.running < max_tasks) × (tree.old ≡ tournament_of n released.old kept.old) }
     ensures finish_done { FinishDone protocol h n
         maximum.now released.old kept.old
         result released.new kept.new }
-    ensures tree_after { tree.new ≡ tournamentOf n released.new kept.new }
+    ensures tree_after { tree.new ≡ tournament_of n released.new kept.new }
 {
     let x = h.running as usize;
     released[x] = 0;
@@ -50,11 +50,11 @@ pub fn finish(
     tree: &mut [u64; PLACES],
     depth: &[u8; MAX_TASKS],
 ) -> Acted
-    requires { FinishReady h n kept.old × (tree.old ≡ tournamentOf n released.old kept.old) }
+    requires { FinishReady h n kept.old × (tree.old ≡ tournament_of n released.old kept.old) }
     ensures finish_answered { FinishAnswered protocol h n
         maximum.now released.old kept.old depth.now
         result released.new kept.new }
-    ensures tree_after { tree.new ≡ tournamentOf n released.new kept.new }
+    ensures tree_after { tree.new ≡ tournament_of n released.new kept.new }
 {
     let tested = finish_refusal(h.running as usize, depth);
     match tested {

@@ -2,11 +2,11 @@
 // user word, the second word, kept priorities and saved words. The figures are moved elsewhere, and the
 // word that a release, a finish or a tick finds is cut already.
 ghost use Rattle.std.specs.Prelude.{◌≡◌, List, ℕ, ◌≤◌, ◌<◌, ◌^◌, length, set};
-ghost use Rattle.rules.specs.Numbers.Capacity.{maxLocks, maxTasks};
-ghost use Rattle.rules.specs.Schedulers.Lazy.{Words, bestKept, switched, stays, afterRelease, afterAcquire};
+ghost use Rattle.rules.specs.Numbers.Capacity.{max_locks, max_tasks};
+ghost use Rattle.rules.specs.Schedulers.Lazy.{Words, best_kept, switched, stays, after_release, after_acquire};
 ghost use Rattle.rules.specs.Numbers.Place.{at};
-ghost use Rattle.tournament.specs.Keys.{tournamentOf};
-ghost use Rattle.kernel.specs.Lent.{tickedTurn, turned, turn_of, wordsOn};
+ghost use Rattle.tournament.specs.Keys.{tournament_of};
+ghost use Rattle.kernel.specs.Lent.{ticked_turn, turned, turn_of, words_on};
 ghost use Rattle.kernel.specs.Parts.{UnlockWords};
 ghost use Rattle.kernel.specs.Ready.{Arrives};
 
@@ -34,11 +34,11 @@ fn newcomer_runs(
     base: KernelPriority,
     most: KernelPriority,
 ) -> Turn
-    requires arrives { Arrives h n kept.old t × (tree.old ≡ tournamentOf n released.now kept.old) }
-    requires user_lt_base { (h.user.0 < base.0) × (most.0 < base.0) × (most.0 ≡ bestKept kept.old n) }
+    requires arrives { Arrives h n kept.old t × (tree.old ≡ tournament_of n released.now kept.old) }
+    requires user_lt_base { (h.user.0 < base.0) × (most.0 < base.0) × (most.0 ≡ best_kept kept.old n) }
     ensures w_after { (w : Words) → turned result kept.new w
         ≡ switched protocol n released.now (set (set kept.old t base.0) h.running h.user.0) w }
-    ensures tree_after { tree.new ≡ tournamentOf n released.now kept.new }
+    ensures tree_after { tree.new ≡ tournament_of n released.now kept.new }
 {
     let leaving = recorded(h.user);
     keep(n, released, kept, tree, h.running, leaving);
@@ -57,10 +57,10 @@ fn newcomer_waits(
     base: KernelPriority,
     most: KernelPriority,
 ) -> Turn
-    requires { Arrives h n kept.old t × (tree.old ≡ tournamentOf n released.now kept.old) × (most.0 ≡ bestKept kept.old n) }
+    requires { Arrives h n kept.old t × (tree.old ≡ tournament_of n released.now kept.old) × (most.0 ≡ best_kept kept.old n) }
     ensures w_after { (w : Words) → turned result kept.new w
         ≡ stays protocol n (set kept.old t base.0) (turned (turn_of h) kept.old w) }
-    ensures tree_after { tree.new ≡ tournamentOf n released.now kept.new }
+    ensures tree_after { tree.new ≡ tournament_of n released.now kept.new }
 {
     let user = h.user;
     keep(n, released, kept, tree, t, base);
@@ -79,10 +79,10 @@ pub fn after_release(
     t: u8,
     base: KernelPriority,
 ) -> Turn
-    requires { Arrives h n kept.old t × (tree.old ≡ tournamentOf n released.now kept.old) }
+    requires { Arrives h n kept.old t × (tree.old ≡ tournament_of n released.now kept.old) }
     ensures w_after { (w : Words) → turned result kept.new w
-        ≡ afterRelease protocol n released.now (set kept.old t base.0) base.0 (turned (turn_of h) kept.old w) }
-    ensures tree_after { tree.new ≡ tournamentOf n released.now kept.new }
+        ≡ after_release protocol n released.now (set kept.old t base.0) base.0 (turned (turn_of h) kept.old w) }
+    ensures tree_after { tree.new ≡ tournament_of n released.now kept.new }
 {
     let user = h.user;
     let most = best(n, released, kept, tree);
@@ -104,9 +104,9 @@ pub fn after_acquire(
     l: u8,
     ceiling: UserPriority,
 ) -> Turn
-    requires { (h.running < maxTasks) × (l < maxLocks) × (at saved.old h.running < 256 ^ 7) }
-    ensures { (lazy : ℕ) (kept : List ℕ) → wordsOn result lazy kept saved.new owner.new
-        ≡ afterAcquire l ceiling.0 (wordsOn (turn_of h) lazy kept saved.old owner.old) }
+    requires { (h.running < max_tasks) × (l < max_locks) × (at saved.old h.running < 256 ^ 7) }
+    ensures { (lazy : ℕ) (kept : List ℕ) → words_on result lazy kept saved.new owner.new
+        ≡ after_acquire l ceiling.0 (words_on (turn_of h) lazy kept saved.old owner.old) }
 {
     let x = h.running as usize;
     let y = l as usize;
@@ -143,11 +143,11 @@ pub fn after_unlock(
     tree: &mut [u64; PLACES],
     saved: &mut [u64; MAX_TASKS],
 ) -> Unlocked
-    requires running_lt_max_tasks { (h.running < maxTasks) × (n ≤ maxTasks) × (length kept.old ≡ maxTasks) }
-    requires tree_value { tree.old ≡ tournamentOf n released.now kept.old }
+    requires running_lt_max_tasks { (h.running < max_tasks) × (n ≤ max_tasks) × (length kept.old ≡ max_tasks) }
+    requires tree_value { tree.old ≡ tournament_of n released.now kept.old }
     ensures unlock_words { UnlockWords protocol h n maximum.now released.now kept.old saved.old
         result kept.new saved.new }
-    ensures tree_after { tree.new ≡ tournamentOf n released.now kept.new }
+    ensures tree_after { tree.new ≡ tournament_of n released.now kept.new }
 {
     let x = h.running as usize;
     let row = saved[x];
@@ -184,17 +184,17 @@ pub fn after_finish(
     kept: &mut [u8; MAX_TASKS],
     tree: &mut [u64; PLACES],
 ) -> Turn
-    requires n_le_max_tasks { (n ≤ maxTasks) × (length kept.old ≡ maxTasks) × (at kept.old h.running ≡ 0) }
-    requires tree_value { tree.old ≡ tournamentOf n released.now kept.old }
+    requires n_le_max_tasks { (n ≤ max_tasks) × (length kept.old ≡ max_tasks) × (at kept.old h.running ≡ 0) }
+    requires tree_value { tree.old ≡ tournament_of n released.now kept.old }
     ensures w_after { (w : Words) → turned result kept.new w ≡ switched protocol n released.now (set kept.old h.running 0) w }
-    ensures tree_after { tree.new ≡ tournamentOf n released.now kept.new }
+    ensures tree_after { tree.new ≡ tournament_of n released.now kept.new }
 {
     switch(protocol, n, released, kept, tree)
 }
 
 // Tick: the kernel is entered, and whoever runs goes on.
 pub fn after_tick(protocol: Protocol, h: Head, most: KernelPriority) -> Turn
-    ensures { result ≡ tickedTurn protocol h most.0 }
+    ensures { result ≡ ticked_turn protocol h most.0 }
 {
     let user = h.user;
     entered(protocol, h.running, user, most)

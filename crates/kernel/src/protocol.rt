@@ -1,7 +1,7 @@
 // RULES 7.9: the one rule in which the protocols differ, for every entry to the kernel.
 ghost use Rattle.std.specs.Prelude.{◌≡◌};
-ghost use Rattle.rules.specs.Schedulers.Protocol.{secondWord};
-ghost use Rattle.kernel.specs.Lent.{enteredTurn};
+ghost use Rattle.rules.specs.Schedulers.Protocol.{second_word};
+ghost use Rattle.kernel.specs.Lent.{entered_turn};
 
 use crate::switch::Turn;
 use figures::priority::recorded;
@@ -10,7 +10,7 @@ use rules::protocol::Protocol;
 
 // The second word: the greatest kept priority, or the user word of the task that runs.
 fn second_word(protocol: Protocol, user: UserPriority, best: KernelPriority) -> KernelPriority
-    ensures { result.0 ≡ secondWord protocol user.0 best.0 }
+    ensures { result.0 ≡ second_word protocol user.0 best.0 }
 {
     match protocol {
         Protocol::Second => best,
@@ -20,7 +20,7 @@ fn second_word(protocol: Protocol, user: UserPriority, best: KernelPriority) -> 
 
 // What an entry leaves where this task runs with this word: after any switch.
 pub fn entered(protocol: Protocol, running: u8, user: UserPriority, best: KernelPriority) -> Turn
-    ensures { result ≡ enteredTurn protocol running user best.0 }
+    ensures { result ≡ entered_turn protocol running user best.0 }
 {
     Turn {
         running: running,

@@ -1,10 +1,10 @@
 // RULES 9.2: the tests of each event, in their order; the first that holds refuses.
 ghost use Rattle.std.specs.Prelude.{◌≡◌, ◌&&◌, ◌||◌, not, ◌+◌, ◌≤◌, ◌<◌, eqb, length};
-ghost use Rattle.rules.specs.Numbers.Capacity.{maxLocks, maxTasks};
+ghost use Rattle.rules.specs.Numbers.Capacity.{max_locks, max_tasks};
 ghost use Rattle.rules.specs.Numbers.Place.{at};
 ghost use Rattle.rules.specs.Numbers.Row.{newest};
-ghost use Rattle.kernel.specs.Work.{pastRow};
-ghost use Rattle.kernel.specs.Parts.{acquireTested, finishTested, releaseTested, unlockTested, workTested};
+ghost use Rattle.kernel.specs.Work.{past_row};
+ghost use Rattle.kernel.specs.Parts.{acquire_tested, finish_tested, release_tested, unlock_tested, work_tested};
 
 use figures::mask::has_bit;
 use figures::number::{place_of, wide_word};
@@ -14,8 +14,8 @@ use rules::capacity::{MAX_LOCKS, MAX_TAKES, MAX_TASKS};
 use rules::refusal::Refusal;
 
 pub fn release_refusal(n: usize, released: &[u32; MAX_TASKS], t: u8) -> Tested
-    requires { n ≤ maxTasks }
-    ensures { result ≡ releaseTested n t released.now }
+    requires { n ≤ max_tasks }
+    ensures { result ≡ release_tested n t released.now }
 {
     let y = t as usize;
     if n <= y {
@@ -29,7 +29,7 @@ pub fn release_refusal(n: usize, released: &[u32; MAX_TASKS], t: u8) -> Tested
 
 // Whether a lock is open for another task than x, by its owner's byte: the task plus one, or 0 for none.
 fn open_elsewhere(o: u8, x: usize) -> bool
-    requires { x < maxTasks }
+    requires { x < max_tasks }
     ensures { result ≡ (not (eqb o 0) && not (eqb o (x + 1))) }
 {
     if o == 0 {
@@ -47,8 +47,8 @@ pub fn acquire_refusal(
     owner: &[u8; MAX_LOCKS],
     l: u8,
 ) -> Tested
-    requires { m ≤ maxLocks }
-    ensures { result ≡ acquireTested x m l uses.now depth.now owner.now }
+    requires { m ≤ max_locks }
+    ensures { result ≡ acquire_tested x m l uses.now depth.now owner.now }
 {
     if MAX_TASKS <= x {
         return Tested::Refused(Refusal::NobodyRuns);
@@ -86,7 +86,7 @@ pub fn unlock_refusal(
     takes: &[u64; MAX_TASKS],
     l: u8,
 ) -> Tested
-    ensures { result ≡ unlockTested x m l depth.now takes.now }
+    ensures { result ≡ unlock_tested x m l depth.now takes.now }
 {
     if MAX_TASKS <= x {
         return Tested::Refused(Refusal::NobodyRuns);
@@ -103,7 +103,7 @@ pub fn unlock_refusal(
 
 // A figure of lock l; a place past the last one has 0.
 fn figure_of(figures: &[u16; MAX_LOCKS], l: u8) -> u32
-    requires { length figures.now ≡ maxLocks }
+    requires { length figures.now ≡ max_locks }
     ensures { (result ≡ at figures.now l) × (result < 65536) }
 {
     let y = l as usize;
@@ -115,8 +115,8 @@ fn figure_of(figures: &[u16; MAX_LOCKS], l: u8) -> u32
 
 // Whether a units more would take one of the k newest of a row past its limit.
 fn past(limit: &[u16; MAX_LOCKS], units: &[u16; MAX_LOCKS], row: u64, k: u8, a: u16) -> bool
-    requires { (length limit.now ≡ maxLocks) × (length units.now ≡ maxLocks) }
-    ensures { result ≡ pastRow limit.now units.now a row k }
+    requires { (length limit.now ≡ max_locks) × (length units.now ≡ max_locks) }
+    ensures { result ≡ past_row limit.now units.now a row k }
 {
     let more = wide_word(a);
     let mut left = row;
@@ -140,8 +140,8 @@ pub fn work_refusal(
     units: &[u16; MAX_LOCKS],
     a: u16,
 ) -> Tested
-    requires { (length limit.now ≡ maxLocks) × (length units.now ≡ maxLocks) }
-    ensures { result ≡ workTested x a limit.now depth.now takes.now units.now }
+    requires { (length limit.now ≡ max_locks) × (length units.now ≡ max_locks) }
+    ensures { result ≡ work_tested x a limit.now depth.now takes.now units.now }
 {
     if a == 0 {
         return Tested::Refused(Refusal::NoWork);
@@ -156,7 +156,7 @@ pub fn work_refusal(
 }
 
 pub fn finish_refusal(x: usize, depth: &[u8; MAX_TASKS]) -> Tested
-    ensures { result ≡ finishTested x depth.now }
+    ensures { result ≡ finish_tested x depth.now }
 {
     if MAX_TASKS <= x {
         return Tested::Refused(Refusal::NobodyRuns);

@@ -1,6 +1,6 @@
 // RULES 9.4: release.
 ghost use Rattle.std.specs.Prelude.{◌≡◌};
-ghost use Rattle.tournament.specs.Keys.{tournamentOf};
+ghost use Rattle.tournament.specs.Keys.{tournament_of};
 ghost use Rattle.kernel.specs.Parts.{ReleaseAnswered, ReleaseDone};
 ghost use Rattle.kernel.specs.Ready.{Arrives, Counts, ReleaseReady};
 
@@ -29,11 +29,11 @@ fn accept(
     delay: &mut [u16; MAX_TASKS],
     t: u8,
 ) -> Acted
-    requires { Counts h × Arrives h n kept.old t × (tree.old ≡ tournamentOf n released.old kept.old) }
+    requires { Counts h × Arrives h n kept.old t × (tree.old ≡ tournament_of n released.old kept.old) }
     ensures release_done { ReleaseDone protocol h n t
         base.now maximum.now released.old kept.old delay.old
         result released.new kept.new delay.new }
-    ensures tree_after { tree.new ≡ tournamentOf n released.new kept.new }
+    ensures tree_after { tree.new ≡ tournament_of n released.new kept.new }
 {
     let x = t as usize;
     released[x] = h.accepted + 1;
@@ -57,11 +57,11 @@ pub fn release(
     delay: &mut [u16; MAX_TASKS],
     t: u8,
 ) -> Acted
-    requires { ReleaseReady h n released.old kept.old t × (tree.old ≡ tournamentOf n released.old kept.old) }
+    requires { ReleaseReady h n released.old kept.old t × (tree.old ≡ tournament_of n released.old kept.old) }
     ensures release_answered { ReleaseAnswered protocol h n t
         base.now maximum.now released.old kept.old delay.old
         result released.new kept.new delay.new }
-    ensures tree_after { tree.new ≡ tournamentOf n released.new kept.new }
+    ensures tree_after { tree.new ≡ tournament_of n released.new kept.new }
 {
     let tested = release_refusal(n, released, t);
     match tested {

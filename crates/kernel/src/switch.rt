@@ -1,12 +1,12 @@
 // RULES 9.10: the kernel's switch. The greatest kept priority runs, ties to the earlier release. The
 // tournament beside the kept priorities says who that is, and then who is next.
 ghost use Rattle.std.specs.Prelude.{◌≡◌, ◌≤◌, length, set};
-ghost use Rattle.rules.specs.Numbers.Capacity.{maxTasks};
+ghost use Rattle.rules.specs.Numbers.Capacity.{max_tasks};
 ghost use Rattle.rules.specs.Numbers.Place.{at};
 ghost use Rattle.rules.specs.Schedulers.Elect.{elected};
-ghost use Rattle.rules.specs.Schedulers.Lazy.{Words, bestKept, runsOn, switched};
-ghost use Rattle.tournament.specs.Keys.{rootOf, tournamentOf};
-ghost use Rattle.kernel.specs.Lent.{idleTurn, turned};
+ghost use Rattle.rules.specs.Schedulers.Lazy.{Words, best_kept, runs_on, switched};
+ghost use Rattle.tournament.specs.Keys.{root_of, tournament_of};
+ghost use Rattle.kernel.specs.Lent.{idle_turn, turned};
 
 use crate::protocol::entered;
 use figures::priority::{kernel_byte, kernel_of, recorded, shown};
@@ -35,10 +35,10 @@ pub fn keep(
     t: u8,
     priority: KernelPriority,
 ) -> u64
-    requires { (n ≤ maxTasks) × (length kept.old ≡ maxTasks) × (tree.old ≡ tournamentOf n released.now kept.old) }
-    ensures kept_after { (kept.new ≡ set kept.old t priority.0) × (length kept.new ≡ maxTasks) }
-    ensures tree_after { (tree.new ≡ tournamentOf n released.now kept.new)
-        × (result ≡ rootOf n released.now kept.new) }
+    requires { (n ≤ max_tasks) × (length kept.old ≡ max_tasks) × (tree.old ≡ tournament_of n released.now kept.old) }
+    ensures kept_after { (kept.new ≡ set kept.old t priority.0) × (length kept.new ≡ max_tasks) }
+    ensures tree_after { (tree.new ≡ tournament_of n released.now kept.new)
+        × (result ≡ root_of n released.now kept.new) }
 {
     let x = t as usize;
     if x >= MAX_TASKS {
@@ -52,7 +52,7 @@ pub fn keep(
 
 // Of the first n tasks the one of greatest kept priority, ties to the earlier release, by the root.
 fn elect(n: usize, released: &[u32; MAX_TASKS], kept: &[u8; MAX_TASKS], root: u64) -> u8
-    requires { (n ≤ maxTasks) × (root ≡ rootOf n released.now kept.now) }
+    requires { (n ≤ max_tasks) × (root ≡ root_of n released.now kept.now) }
     ensures { result ≡ elected (at released.now) (at kept.now) n }
 {
     all_words(released);
@@ -66,8 +66,8 @@ fn best_by(
     kept: &[u8; MAX_TASKS],
     root: u64,
 ) -> KernelPriority
-    requires { (n ≤ maxTasks) × (root ≡ rootOf n released.now kept.now) }
-    ensures { result.0 ≡ bestKept kept.now n }
+    requires { (n ≤ max_tasks) × (root ≡ root_of n released.now kept.now) }
+    ensures { result.0 ≡ best_kept kept.now n }
 {
     all_words(released);
     all_bytes(kept);
@@ -81,8 +81,8 @@ pub fn best(
     kept: &[u8; MAX_TASKS],
     tree: &[u64; PLACES],
 ) -> KernelPriority
-    requires { (n ≤ maxTasks) × (tree.now ≡ tournamentOf n released.now kept.now) }
-    ensures { result.0 ≡ bestKept kept.now n }
+    requires { (n ≤ max_tasks) × (tree.now ≡ tournament_of n released.now kept.now) }
+    ensures { result.0 ≡ best_kept kept.now n }
 {
     let root = top(tree);
     best_by(n, released, kept, root)
@@ -90,7 +90,7 @@ pub fn best(
 
 // Nobody runs.
 fn idle() -> Turn
-    ensures { result ≡ idleTurn }
+    ensures { result ≡ idle_turn }
 {
     Turn {
         running: NOBODY,
@@ -110,10 +110,10 @@ fn run_on(
     root: u64,
     q: u8,
 ) -> Turn
-    requires n_le_max_tasks { (n ≤ maxTasks) × (length kept.old ≡ maxTasks) × (tree.old ≡ tournamentOf n released.now kept.old) }
-    requires root_value { (root ≡ rootOf n released.now kept.old) × (at kept.old q ≡ bestKept kept.old n) }
-    ensures w_after { (w : Words) → turned result kept.new w ≡ runsOn protocol n kept.old w q }
-    ensures tree_after { tree.new ≡ tournamentOf n released.now kept.new }
+    requires n_le_max_tasks { (n ≤ max_tasks) × (length kept.old ≡ max_tasks) × (tree.old ≡ tournament_of n released.now kept.old) }
+    requires root_value { (root ≡ root_of n released.now kept.old) × (at kept.old q ≡ best_kept kept.old n) }
+    ensures w_after { (w : Words) → turned result kept.new w ≡ runs_on protocol n kept.old w q }
+    ensures tree_after { tree.new ≡ tournament_of n released.now kept.new }
 {
     let k = best_by(n, released, kept, root);
     let rest = keep(n, released, kept, tree, q, KernelPriority(0));
@@ -129,10 +129,10 @@ fn run(
     tree: &mut [u64; PLACES],
     root: u64,
 ) -> Turn
-    requires n_le_max_tasks { (n ≤ maxTasks) × (length kept.old ≡ maxTasks) × (tree.old ≡ tournamentOf n released.now kept.old) }
-    requires root_value { root ≡ rootOf n released.now kept.old }
+    requires n_le_max_tasks { (n ≤ max_tasks) × (length kept.old ≡ max_tasks) × (tree.old ≡ tournament_of n released.now kept.old) }
+    requires root_value { root ≡ root_of n released.now kept.old }
     ensures w_after { (w : Words) → turned result kept.new w ≡ switched protocol n released.now kept.old w }
-    ensures tree_after { tree.new ≡ tournamentOf n released.now kept.new }
+    ensures tree_after { tree.new ≡ tournament_of n released.now kept.new }
 {
     let q = elect(n, released, kept, root);
     if q == NOBODY {
@@ -149,9 +149,9 @@ pub fn switch(
     kept: &mut [u8; MAX_TASKS],
     tree: &mut [u64; PLACES],
 ) -> Turn
-    requires { (n ≤ maxTasks) × (length kept.old ≡ maxTasks) × (tree.old ≡ tournamentOf n released.now kept.old) }
+    requires { (n ≤ max_tasks) × (length kept.old ≡ max_tasks) × (tree.old ≡ tournament_of n released.now kept.old) }
     ensures w_after { (w : Words) → turned result kept.new w ≡ switched protocol n released.now kept.old w }
-    ensures tree_after { tree.new ≡ tournamentOf n released.now kept.new }
+    ensures tree_after { tree.new ≡ tournament_of n released.now kept.new }
 {
     let root = top(tree);
     run(protocol, n, released, kept, tree, root)
@@ -167,9 +167,9 @@ pub fn leave(
     r: u8,
     word: UserPriority,
 ) -> Turn
-    requires { (n ≤ maxTasks) × (length kept.old ≡ maxTasks) × (tree.old ≡ tournamentOf n released.now kept.old) }
+    requires { (n ≤ max_tasks) × (length kept.old ≡ max_tasks) × (tree.old ≡ tournament_of n released.now kept.old) }
     ensures w_after { (w : Words) → turned result kept.new w ≡ switched protocol n released.now (set kept.old r word.0) w }
-    ensures tree_after { tree.new ≡ tournamentOf n released.now kept.new }
+    ensures tree_after { tree.new ≡ tournament_of n released.now kept.new }
 {
     let root = keep(n, released, kept, tree, r, recorded(word));
     run(protocol, n, released, kept, tree, root)

@@ -1,6 +1,6 @@
 // RULES 9.9: tick.
 ghost use Rattle.std.specs.Prelude.{◌≡◌, false};
-ghost use Rattle.kernel.specs.Lent.{acceptedWith, enteringHead, tickedTurn};
+ghost use Rattle.kernel.specs.Lent.{accepted_with, entering_head, ticked_turn};
 ghost use Rattle.kernel.specs.Ready.{TickReady};
 
 use crate::acted::Acted;
@@ -15,7 +15,7 @@ use rules::state::Head;
 // The kernel is entered, and that is all; `most` is the greatest that is kept. Nothing refuses it.
 pub fn tick(protocol: Protocol, h: Head, maximum: &[u8; MAX_TASKS], most: KernelPriority) -> Acted
     requires { TickReady h }
-    ensures { result ≡ acceptedWith h (tickedTurn protocol (enteringHead maximum.now h) most.0) false 0 }
+    ensures { result ≡ accepted_with h (ticked_turn protocol (entering_head maximum.now h) most.0) false 0 }
 {
     let found = entering(maximum, h);
     let after = after_tick(protocol, found, most);

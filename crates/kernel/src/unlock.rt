@@ -1,9 +1,9 @@
 // RULES 9.6: unlock.
 ghost use Rattle.std.specs.Prelude.{◌≡◌, ◌≤◌, ◌<◌, length, set};
-ghost use Rattle.rules.specs.Numbers.Capacity.{maxLocks, maxTasks};
+ghost use Rattle.rules.specs.Numbers.Capacity.{max_locks, max_tasks};
 ghost use Rattle.rules.specs.Numbers.Place.{at};
 ghost use Rattle.rules.specs.Schedulers.FiguresAfter.{left_of};
-ghost use Rattle.tournament.specs.Keys.{tournamentOf};
+ghost use Rattle.tournament.specs.Keys.{tournament_of};
 ghost use Rattle.kernel.specs.Parts.{UnlockAnswered, UnlockDone};
 ghost use Rattle.kernel.specs.Ready.{Counts, UnlockReady};
 
@@ -20,7 +20,7 @@ use tournament::tree::PLACES;
 
 // The section of lock l is over, unless the lock stays open: it has no units, and nobody has it open.
 fn end_section(units: &mut [u16; MAX_LOCKS], owner: &mut [u8; MAX_LOCKS], stays: bool, l: u8)
-    requires { l < maxLocks }
+    requires { l < max_locks }
     ensures { (units.new ≡ set units.old l (left_of stays (at units.old l)))
         × (owner.new ≡ set owner.old l (left_of stays (at owner.old l))) }
 {
@@ -48,14 +48,14 @@ fn accept(
     owner: &mut [u8; MAX_LOCKS],
     l: u8,
 ) -> Acted
-    requires counts { Counts h × (h.running < maxTasks) × (l < maxLocks) }
-    requires n_le_max_tasks { (n ≤ maxTasks) × (0 < at depth.old h.running) × (length kept.old ≡ maxTasks) }
-    requires tree_value { tree.old ≡ tournamentOf n released.now kept.old }
+    requires counts { Counts h × (h.running < max_tasks) × (l < max_locks) }
+    requires n_le_max_tasks { (n ≤ max_tasks) × (0 < at depth.old h.running) × (length kept.old ≡ max_tasks) }
+    requires tree_value { tree.old ≡ tournament_of n released.now kept.old }
     ensures unlock_done { UnlockDone protocol h n l
         maximum.now released.now kept.old depth.old takes.old saved.old
         units.old owner.old
         result kept.new depth.new takes.new saved.new units.new owner.new }
-    ensures tree_after { tree.new ≡ tournamentOf n released.now kept.new }
+    ensures tree_after { tree.new ≡ tournament_of n released.now kept.new }
 {
     let x = h.running as usize;
     let k = depth[x] - 1;
@@ -85,12 +85,12 @@ pub fn unlock(
     owner: &mut [u8; MAX_LOCKS],
     l: u8,
 ) -> Acted
-    requires { UnlockReady h n m kept.old × (tree.old ≡ tournamentOf n released.now kept.old) }
+    requires { UnlockReady h n m kept.old × (tree.old ≡ tournament_of n released.now kept.old) }
     ensures unlock_answered { UnlockAnswered protocol h n m l
         maximum.now released.now kept.old depth.old takes.old saved.old
         units.old owner.old
         result kept.new depth.new takes.new saved.new units.new owner.new }
-    ensures tree_after { tree.new ≡ tournamentOf n released.now kept.new }
+    ensures tree_after { tree.new ≡ tournament_of n released.now kept.new }
 {
     let tested = unlock_refusal(h.running as usize, m, depth, takes, l);
     match tested {

@@ -1,8 +1,8 @@
 // RULES 9.7: work.
 ghost use Rattle.std.specs.Prelude.{◌≡◌, ◌+◌, ◌≤◌, ◌<◌, min, length};
-ghost use Rattle.rules.specs.Numbers.Capacity.{maxDelay, maxLocks, maxTasks};
+ghost use Rattle.rules.specs.Numbers.Capacity.{max_delay, max_locks, max_tasks};
 ghost use Rattle.rules.specs.Numbers.Place.{at, renewed};
-ghost use Rattle.kernel.specs.Work.{bumped, chargedRow, waited, waitedBy};
+ghost use Rattle.kernel.specs.Work.{bumped, charged_row, waited, waited_by};
 ghost use Rattle.kernel.specs.Parts.{WorkAnswered, WorkDone};
 ghost use Rattle.kernel.specs.Ready.{Counts, Waiting, WorkReady};
 
@@ -18,7 +18,7 @@ use rules::state::Head;
 
 // A sum that sticks at 65,535.
 fn stick(a: u16, b: u16) -> u16
-    ensures { result ≡ min maxDelay (a + b) }
+    ensures { result ≡ min max_delay (a + b) }
 {
     if MAX_DELAY - a < b {
         return MAX_DELAY;
@@ -29,7 +29,7 @@ fn stick(a: u16, b: u16) -> u16
 // The delay of a task of release number y and base q after a units by one of base b. One test for both: so
 // the compiler chooses once, and for several tasks at a time.
 fn delay_of(y: u32, q: u8, b: u8, d: u16, a: u16) -> u16
-    ensures { result ≡ waitedBy y q b d a }
+    ensures { result ≡ waited_by y q b d a }
 {
     let more = stick(d, a);
     let waits = (0 < y) & (b < q);
@@ -48,7 +48,7 @@ fn delays(
     b: u8,
     a: u16,
 )
-    requires { n ≤ maxTasks }
+    requires { n ≤ max_tasks }
     ensures { delay.new ≡ renewed delay.old (waited base.now released.now delay.old b a) n }
 {
     let mut t: usize = 0;
@@ -70,7 +70,7 @@ fn waits(
     b: u8,
     a: u16,
 )
-    requires { (n ≤ maxTasks) × Waiting most b base.now released.now }
+    requires { (n ≤ max_tasks) × Waiting most b base.now released.now }
     ensures { delay.new ≡ renewed delay.old (waited base.now released.now delay.old b a) n }
 {
     if exceeds(most, kernel_of(b)) {
@@ -80,8 +80,8 @@ fn waits(
 
 // A units more for the section of lock l, unless an older take of it counts them.
 fn bump(units: &mut [u16; MAX_LOCKS], older: bool, l: u8, a: u16)
-    requires { length units.old ≡ maxLocks }
-    ensures { (units.new ≡ bumped units.old older l a) × (length units.new ≡ maxLocks) }
+    requires { length units.old ≡ max_locks }
+    ensures { (units.new ≡ bumped units.old older l a) × (length units.new ≡ max_locks) }
 {
     if older {
         return;
@@ -96,8 +96,8 @@ fn bump(units: &mut [u16; MAX_LOCKS], older: bool, l: u8, a: u16)
 
 // The same for the lock of each of the k newest takes of a row: it counts at its oldest take.
 fn charge(units: &mut [u16; MAX_LOCKS], row: u64, k: u8, a: u16)
-    requires { length units.old ≡ maxLocks }
-    ensures { units.new ≡ chargedRow units.old a row k }
+    requires { length units.old ≡ max_locks }
+    ensures { units.new ≡ charged_row units.old a row k }
 {
     let mut left = row;
     let mut c = k;
@@ -123,7 +123,7 @@ fn accept(
     units: &mut [u16; MAX_LOCKS],
     a: u16,
 ) -> Acted
-    requires counts { Counts h × (h.running < maxTasks) × (n ≤ maxTasks) × (length units.old ≡ maxLocks) }
+    requires counts { Counts h × (h.running < max_tasks) × (n ≤ max_tasks) × (length units.old ≡ max_locks) }
     requires waiting { Waiting most (at base.now h.running) base.now released.now }
     ensures { WorkDone h n a
         base.now released.now delay.old depth.now takes.now units.old

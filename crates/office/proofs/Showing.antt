@@ -10,26 +10,26 @@ use lib.ListN.{length}
 use borrow.Author.Tests.{lt-ltb, le-ltb, eq-eqb, ne_eqb, le-leb, lt-leb}
 use Rattle.rules.specs.Numbers.Place.{at}
 use Rattle.rules.specs.Numbers.Refusal.{number_of}
-use Rattle.rules.specs.Books.Event.{numberFault, numberEvent}
-use Rattle.rules.specs.Books.Book.{checkOf, checkedAs, checkedOf}
-use Rattle.rules.specs.Replays.Replay.{ranAs}
+use Rattle.rules.specs.Books.Event.{number_fault, number_event}
+use Rattle.rules.specs.Books.Book.{check_of, checked_as, checked_of}
+use Rattle.rules.specs.Replays.Replay.{ran_as}
 use Rattle.rules.specs.declared.answer.Verdict.{Verdict}
 use Rattle.rules.specs.declared.answer.Checked.{Checked}
 use Rattle.rules.specs.declared.answer.Replayed.{Replayed}
 use Rattle.rules.specs.declared.event.Event.{Event}
 use Rattle.rules.specs.declared.protocol.Protocol.TheVariants.{Second}
 use Rattle.rules.specs.declared.refusal.Refusal.{Refusal}
-use Rattle.rules.proofs.Numbers.Choice.{if-true, if-false}
+use Rattle.rules.proofs.Numbers.Choice.{if_true, if_false}
 use Rattle.page.specs.Ascii.{ascii}
 use Rattle.page.specs.Page.{Page, typed}
-use Rattle.page.proofs.Typed.{typed-two}
-use Rattle.book.specs.Look.{entryIn, taskIn, lockIn, useIn, eventIn}
+use Rattle.page.proofs.Typed.{typed_two}
+use Rattle.book.specs.Look.{entry_in, task_in, lock_in, use_in, event_in}
 use Rattle.book.specs.declared.look.Entry.{Entry}
-use Rattle.wording.specs.Mistakes.{refusalWords}
-use Rattle.wording.specs.Records.{taskLine, lockLine, useLine, eventWords, noEventLine, eventLine, ranComment, refusedComment, unreached, sizeLine, entryLine}
-use Rattle.office.specs.Ran.{rowSpace, ranOf}
-use Rattle.office.specs.Show.{each, taskLines, lockLines, useLines, stopComment, commentOf, eventLines}
-use Rattle.office.specs.Show.{taskPart, lockPart, usePart, eventPart, firstParts, lastParts, parts_of, entry_of, entryPair, entriesOf, refusedBody, refusedHead, shownAs, shownOf}
+use Rattle.wording.specs.Mistakes.{refusal_words}
+use Rattle.wording.specs.Records.{task_line, lock_line, use_line, event_words, no_event_line, event_line, ran_comment, refused_comment, unreached, size_line, entry_line}
+use Rattle.office.specs.Ran.{row_space, ran_of}
+use Rattle.office.specs.Show.{each, task_lines, lock_lines, use_lines, stop_comment, comment_of, event_lines}
+use Rattle.office.specs.Show.{task_part, lock_part, use_part, event_part, first_parts, last_parts, parts_of, entry_of, entry_pair, entries_of, refused_body, refused_head, shown_as, shown_of}
 
 -- ---- a loop that puts one text after the other
 
@@ -39,174 +39,174 @@ each_start p f = refl
 
 pub each_next : (p q r : Page) (f : ℕ → List ℕ) (k : ℕ) → q ≡ typed p (each f k) → r ≡ typed q (f k) → r ≡ typed p (each f (k + 1))
 unfolding each
-each_next p q r f k e h = rw (add-one k) (typed-two p q r (each f k) (f k) e h)
+each_next p q r f k e h = rw (add-one k) (typed_two p q r (each f k) (f k) e h)
 
 -- at the end all n are there
-pub all-put : (p q : Page) (f : ℕ → List ℕ) (n k : ℕ) → q ≡ typed p (f k) → k ≤ n → n ≤ k → q ≡ typed p (f n)
-all-put p q f n k e h l = let s : k ≡ n = omega arith in e ∙ ap (λ m. typed p (f m)) s
+pub all_put : (p q : Page) (f : ℕ → List ℕ) (n k : ℕ) → q ≡ typed p (f k) → k ≤ n → n ≤ k → q ≡ typed p (f n)
+all_put p q f n k e h l = let s : k ≡ n = omega arith in e ∙ ap (λ m. typed p (f m)) s
 
 module _ (b : List ℕ) (p : Page) where
-  pub tasks-start : p ≡ typed p (taskLines b 0)
-  unfolding taskLines
-  tasks-start = each_start p (λ k. taskLine k (taskIn b k))
+  pub tasks_start : p ≡ typed p (task_lines b 0)
+  unfolding task_lines
+  tasks_start = each_start p (λ k. task_line k (task_in b k))
 
-  pub tasks-next : (q r : Page) (k w : ℕ) → q ≡ typed p (taskLines b k) → r ≡ typed q (taskLine k w) → w ≡ taskIn b k → r ≡ typed p (taskLines b (k + 1))
-  unfolding taskLines
-  tasks-next q r k w e h g = each_next p q r (λ k. taskLine k (taskIn b k)) k e (h ∙ ap (λ x. typed q (taskLine k x)) g)
+  pub tasks_next : (q r : Page) (k w : ℕ) → q ≡ typed p (task_lines b k) → r ≡ typed q (task_line k w) → w ≡ task_in b k → r ≡ typed p (task_lines b (k + 1))
+  unfolding task_lines
+  tasks_next q r k w e h g = each_next p q r (λ k. task_line k (task_in b k)) k e (h ∙ ap (λ x. typed q (task_line k x)) g)
 
-  pub tasks-end : (q : Page) (n k : ℕ) → q ≡ typed p (taskLines b k) → k ≤ n → n ≤ k → q ≡ typed p (taskLines b n)
-  tasks-end q n k = all-put p q (taskLines b) n k
+  pub tasks_end : (q : Page) (n k : ℕ) → q ≡ typed p (task_lines b k) → k ≤ n → n ≤ k → q ≡ typed p (task_lines b n)
+  tasks_end q n k = all_put p q (task_lines b) n k
 
-  pub locks-start : p ≡ typed p (lockLines b 0)
-  unfolding lockLines
-  locks-start = each_start p (λ k. lockLine k (lockIn b k))
+  pub locks_start : p ≡ typed p (lock_lines b 0)
+  unfolding lock_lines
+  locks_start = each_start p (λ k. lock_line k (lock_in b k))
 
-  pub locks-next : (q r : Page) (k w : ℕ) → q ≡ typed p (lockLines b k) → r ≡ typed q (lockLine k w) → w ≡ lockIn b k → r ≡ typed p (lockLines b (k + 1))
-  unfolding lockLines
-  locks-next q r k w e h g = each_next p q r (λ k. lockLine k (lockIn b k)) k e (h ∙ ap (λ x. typed q (lockLine k x)) g)
+  pub locks_next : (q r : Page) (k w : ℕ) → q ≡ typed p (lock_lines b k) → r ≡ typed q (lock_line k w) → w ≡ lock_in b k → r ≡ typed p (lock_lines b (k + 1))
+  unfolding lock_lines
+  locks_next q r k w e h g = each_next p q r (λ k. lock_line k (lock_in b k)) k e (h ∙ ap (λ x. typed q (lock_line k x)) g)
 
-  pub locks-end : (q : Page) (n k : ℕ) → q ≡ typed p (lockLines b k) → k ≤ n → n ≤ k → q ≡ typed p (lockLines b n)
-  locks-end q n k = all-put p q (lockLines b) n k
+  pub locks_end : (q : Page) (n k : ℕ) → q ≡ typed p (lock_lines b k) → k ≤ n → n ≤ k → q ≡ typed p (lock_lines b n)
+  locks_end q n k = all_put p q (lock_lines b) n k
 
-  pub uses-start : p ≡ typed p (useLines b 0)
-  unfolding useLines
-  uses-start = each_start p (λ k. useLine k (useIn b k))
+  pub uses_start : p ≡ typed p (use_lines b 0)
+  unfolding use_lines
+  uses_start = each_start p (λ k. use_line k (use_in b k))
 
-  pub uses-next : (q r : Page) (k w : ℕ) → q ≡ typed p (useLines b k) → r ≡ typed q (useLine k w) → w ≡ useIn b k → r ≡ typed p (useLines b (k + 1))
-  unfolding useLines
-  uses-next q r k w e h g = each_next p q r (λ k. useLine k (useIn b k)) k e (h ∙ ap (λ x. typed q (useLine k x)) g)
+  pub uses_next : (q r : Page) (k w : ℕ) → q ≡ typed p (use_lines b k) → r ≡ typed q (use_line k w) → w ≡ use_in b k → r ≡ typed p (use_lines b (k + 1))
+  unfolding use_lines
+  uses_next q r k w e h g = each_next p q r (λ k. use_line k (use_in b k)) k e (h ∙ ap (λ x. typed q (use_line k x)) g)
 
-  pub uses-end : (q : Page) (n k : ℕ) → q ≡ typed p (useLines b k) → k ≤ n → n ≤ k → q ≡ typed p (useLines b n)
-  uses-end q n k = all-put p q (useLines b) n k
+  pub uses_end : (q : Page) (n k : ℕ) → q ≡ typed p (use_lines b k) → k ≤ n → n ≤ k → q ≡ typed p (use_lines b n)
+  uses_end q n k = all_put p q (use_lines b) n k
 
   module _ (v : Verdict) (a : ℕ) (rows : List ℕ) where
-    pub events-start : p ≡ typed p (eventLines b v a rows 0)
-    unfolding eventLines
-    events-start = each_start p (λ k. eventLine (eventIn b k) (commentOf v a rows k))
+    pub events_start : p ≡ typed p (event_lines b v a rows 0)
+    unfolding event_lines
+    events_start = each_start p (λ k. event_line (event_in b k) (comment_of v a rows k))
 
-    pub events-next : (q r : Page) (k w : ℕ) → q ≡ typed p (eventLines b v a rows k) → r ≡ typed q (eventLine w (commentOf v a rows k)) → w ≡ eventIn b k
-        → r ≡ typed p (eventLines b v a rows (k + 1))
-    unfolding eventLines
-    events-next q r k w e h g =
-        each_next p q r (λ k. eventLine (eventIn b k) (commentOf v a rows k)) k e (h ∙ ap (λ x. typed q (eventLine x (commentOf v a rows k))) g)
+    pub events_next : (q r : Page) (k w : ℕ) → q ≡ typed p (event_lines b v a rows k) → r ≡ typed q (event_line w (comment_of v a rows k)) → w ≡ event_in b k
+        → r ≡ typed p (event_lines b v a rows (k + 1))
+    unfolding event_lines
+    events_next q r k w e h g =
+        each_next p q r (λ k. event_line (event_in b k) (comment_of v a rows k)) k e (h ∙ ap (λ x. typed q (event_line x (comment_of v a rows k))) g)
 
-    pub events-end : (q : Page) (n k : ℕ) → q ≡ typed p (eventLines b v a rows k) → k ≤ n → n ≤ k → q ≡ typed p (eventLines b v a rows n)
-    events-end q n k = all-put p q (eventLines b v a rows) n k
+    pub events_end : (q : Page) (n k : ℕ) → q ≡ typed p (event_lines b v a rows k) → k ≤ n → n ≤ k → q ≡ typed p (event_lines b v a rows n)
+    events_end q n k = all_put p q (event_lines b v a rows) n k
 
 -- ---- an event and its comment
 
-pub stop-passed : (p r : Page) (v : Verdict) (n : ℕ) → r ≡ typed p (unreached n) → v ≡ Verdict.Passed → r ≡ typed p (stopComment v n)
-unfolding stopComment
-stop-passed p r v n h e = h ∙ ap (λ x. typed p (stopComment x n)) (sym e)
+pub stop_passed : (p r : Page) (v : Verdict) (n : ℕ) → r ≡ typed p (unreached n) → v ≡ Verdict.Passed → r ≡ typed p (stop_comment v n)
+unfolding stop_comment
+stop_passed p r v n h e = h ∙ ap (λ x. typed p (stop_comment x n)) (sym e)
 
-pub stop-refused : (p r : Page) (v : Verdict) (n : ℕ) (why : Refusal) (place : ℕ) → r ≡ typed p (refusedComment n why) → v ≡ Verdict.Refused why place
-    → r ≡ typed p (stopComment v n)
-unfolding stopComment
-stop-refused p r v n why place h e = h ∙ ap (λ x. typed p (stopComment x n)) (sym e)
+pub stop_refused : (p r : Page) (v : Verdict) (n : ℕ) (why : Refusal) (place : ℕ) → r ≡ typed p (refused_comment n why) → v ≡ Verdict.Refused why place
+    → r ≡ typed p (stop_comment v n)
+unfolding stop_comment
+stop_refused p r v n why place h e = h ∙ ap (λ x. typed p (stop_comment x n)) (sym e)
 
 module _ (p r : Page) (v : Verdict) (a : ℕ) (rows : List ℕ) (k : ℕ) where
-  pub comment-ran : (task user : ℕ) → r ≡ typed p (ranComment (k + 1) task user) → k < a → task ≡ at rows (k * 4) → user ≡ at rows (k * 4 + 1)
-      → r ≡ typed p (commentOf v a rows k)
-  unfolding commentOf
-  comment-ran task user h l e f =
-      h ∙ ap (λ x. typed p (ranComment (k + 1) x user)) e ∙ ap (λ x. typed p (ranComment (k + 1) (at rows (k * 4)) x)) f
-      ∙ ap (typed p) (sym (if-true (ltb k a) _ _ (lt-ltb k a l)))
+  pub comment_ran : (task user : ℕ) → r ≡ typed p (ran_comment (k + 1) task user) → k < a → task ≡ at rows (k * 4) → user ≡ at rows (k * 4 + 1)
+      → r ≡ typed p (comment_of v a rows k)
+  unfolding comment_of
+  comment_ran task user h l e f =
+      h ∙ ap (λ x. typed p (ran_comment (k + 1) x user)) e ∙ ap (λ x. typed p (ran_comment (k + 1) (at rows (k * 4)) x)) f
+      ∙ ap (typed p) (sym (if_true (ltb k a) _ _ (lt-ltb k a l)))
 
-  pub comment-stop : r ≡ typed p (stopComment v (k + 1)) → a ≤ k → k ≡ a → r ≡ typed p (commentOf v a rows k)
-  unfolding commentOf
-  comment-stop h l e = h ∙ ap (typed p) (sym (if-false (ltb k a) _ _ (le-ltb k a l) ∙ if-true (eqb k a) _ _ (eq-eqb k a e)))
+  pub comment_stop : r ≡ typed p (stop_comment v (k + 1)) → a ≤ k → k ≡ a → r ≡ typed p (comment_of v a rows k)
+  unfolding comment_of
+  comment_stop h l e = h ∙ ap (typed p) (sym (if_false (ltb k a) _ _ (le-ltb k a l) ∙ if_true (eqb k a) _ _ (eq-eqb k a e)))
 
-  pub comment-none : r ≡ typed p (unreached (k + 1)) → a ≤ k → (k ≡ a → ⊥) → r ≡ typed p (commentOf v a rows k)
-  unfolding commentOf
-  comment-none h l e = h ∙ ap (typed p) (sym (if-false (ltb k a) _ _ (le-ltb k a l) ∙ if-false (eqb k a) _ _ (ne_eqb k a e)))
+  pub comment_none : r ≡ typed p (unreached (k + 1)) → a ≤ k → (k ≡ a → ⊥) → r ≡ typed p (comment_of v a rows k)
+  unfolding comment_of
+  comment_none h l e = h ∙ ap (typed p) (sym (if_false (ltb k a) _ _ (le-ltb k a l) ∙ if_false (eqb k a) _ _ (ne_eqb k a e)))
 
-pub event-none : (p r : Page) (w : ℕ) (comment : List ℕ) (t : Bool) → r ≡ typed p (noEventLine w) → t ≡ numberFault w → t ≡ true → r ≡ typed p (eventLine w comment)
-unfolding eventLine
-event-none p r w comment t h e f = h ∙ ap (typed p) (sym (if-true (numberFault w) _ _ (sym e ∙ f)))
+pub event_none : (p r : Page) (w : ℕ) (comment : List ℕ) (t : Bool) → r ≡ typed p (no_event_line w) → t ≡ number_fault w → t ≡ true → r ≡ typed p (event_line w comment)
+unfolding event_line
+event_none p r w comment t h e f = h ∙ ap (typed p) (sym (if_true (number_fault w) _ _ (sym e ∙ f)))
 
-pub event-some : (p q r : Page) (w : ℕ) (comment : List ℕ) (t : Bool) (event : Event) → r ≡ typed q comment → q ≡ typed p (eventWords event)
-    → event ≡ numberEvent w → t ≡ numberFault w → t ≡ false
-    → r ≡ typed p (eventLine w comment)
-unfolding eventLine
-event-some p q r w comment t event h g n e f =
-    typed-two p q r (eventWords (numberEvent w)) comment (g ∙ ap (λ x. typed p (eventWords x)) n) h
-    ∙ ap (typed p) (sym (if-false (numberFault w) _ _ (sym e ∙ f)))
+pub event_some : (p q r : Page) (w : ℕ) (comment : List ℕ) (t : Bool) (event : Event) → r ≡ typed q comment → q ≡ typed p (event_words event)
+    → event ≡ number_event w → t ≡ number_fault w → t ≡ false
+    → r ≡ typed p (event_line w comment)
+unfolding event_line
+event_some p q r w comment t event h g n e f =
+    typed_two p q r (event_words (number_event w)) comment (g ∙ ap (λ x. typed p (event_words x)) n) h
+    ∙ ap (typed p) (sym (if_false (number_fault w) _ _ (sym e ∙ f)))
 
 -- ---- the parts
 
 module _ (p q r : Page) (b : List ℕ) where
-  pub first-put : (ts ls : ℕ) → r ≡ typed q (lockPart b ls) → q ≡ typed p (taskPart b ts) → ts ≡ (entryIn b 0).count → ls ≡ (entryIn b 1).count
-      → r ≡ typed p (firstParts b)
-  unfolding firstParts
-  first-put ts ls h g e f = rw (sym e, sym f) (typed-two p q r (taskPart b ts) (lockPart b ls) g h)
+  pub first_put : (ts ls : ℕ) → r ≡ typed q (lock_part b ls) → q ≡ typed p (task_part b ts) → ts ≡ (entry_in b 0).count → ls ≡ (entry_in b 1).count
+      → r ≡ typed p (first_parts b)
+  unfolding first_parts
+  first_put ts ls h g e f = rw (sym e, sym f) (typed_two p q r (task_part b ts) (lock_part b ls) g h)
 
-  pub last-put : (v : Verdict) (n : ℕ) (rows : List ℕ) (us es : ℕ) → r ≡ typed q (eventPart b v n rows es) → q ≡ typed p (usePart b us)
-      → us ≡ (entryIn b 2).count → es ≡ (entryIn b 3).count
-      → r ≡ typed p (lastParts b v n rows)
-  unfolding lastParts
-  last-put v n rows us es h g e f = rw (sym e, sym f) (typed-two p q r (usePart b us) (eventPart b v n rows es) g h)
+  pub last_put : (v : Verdict) (n : ℕ) (rows : List ℕ) (us es : ℕ) → r ≡ typed q (event_part b v n rows es) → q ≡ typed p (use_part b us)
+      → us ≡ (entry_in b 2).count → es ≡ (entry_in b 3).count
+      → r ≡ typed p (last_parts b v n rows)
+  unfolding last_parts
+  last_put v n rows us es h g e f = rw (sym e, sym f) (typed_two p q r (use_part b us) (event_part b v n rows es) g h)
 
-pub count-is : (b : List ℕ) (e : ℕ) (entry : Entry) → entry ≡ entryIn b e → entry.count ≡ (entryIn b e).count
-count-is b e entry h = ap (λ x. x.count) h
+pub count_is : (b : List ℕ) (e : ℕ) (entry : Entry) → entry ≡ entry_in b e → entry.count ≡ (entry_in b e).count
+count_is b e entry h = ap (λ x. x.count) h
 
-pub entry-put : (p r : Page) (b : List ℕ) (e : ℕ) (entry : Entry) → r ≡ typed p (entryLine (e + 1) entry.kind entry.count entry.offset)
-    → entry ≡ entryIn b e
+pub entry_put : (p r : Page) (b : List ℕ) (e : ℕ) (entry : Entry) → r ≡ typed p (entry_line (e + 1) entry.kind entry.count entry.offset)
+    → entry ≡ entry_in b e
     → r ≡ typed p (entry_of b e)
 unfolding entry_of
-entry-put p r b e entry h g = h ∙ ap (λ x. typed p (entryLine (e + 1) x.kind x.count x.offset)) g
+entry_put p r b e entry h g = h ∙ ap (λ x. typed p (entry_line (e + 1) x.kind x.count x.offset)) g
 
-pub entries-put : (p a c r : Page) (b : List ℕ) → r ≡ typed c (entryPair b 2) → c ≡ typed a (entryPair b 0) → a ≡ typed p (sizeLine (length b))
-    → r ≡ typed p (entriesOf b)
-unfolding entriesOf
-entries-put p a c r b hr hc ha =
-    typed-two p c r (sizeLine (length b) ++ entryPair b 0) (entryPair b 2) (typed-two p a c (sizeLine (length b)) (entryPair b 0) ha hc) hr
+pub entries_put : (p a c r : Page) (b : List ℕ) → r ≡ typed c (entry_pair b 2) → c ≡ typed a (entry_pair b 0) → a ≡ typed p (size_line (length b))
+    → r ≡ typed p (entries_of b)
+unfolding entries_of
+entries_put p a c r b hr hc ha =
+    typed_two p c r (size_line (length b) ++ entry_pair b 0) (entry_pair b 2) (typed_two p a c (size_line (length b)) (entry_pair b 0) ha hc) hr
 
 -- ---- a refused book
 
 module _ (p r : Page) (n : ℕ) (b : List ℕ) where
-  pub body-size : r ≡ typed p (sizeLine (length b)) → n ≡ 1 → r ≡ typed p (refusedBody n b)
-  unfolding refusedBody
-  body-size h e = h ∙ ap (typed p) (sym (if-true (eqb n 1) _ _ (eq-eqb n 1 e)))
+  pub body_size : r ≡ typed p (size_line (length b)) → n ≡ 1 → r ≡ typed p (refused_body n b)
+  unfolding refused_body
+  body_size h e = h ∙ ap (typed p) (sym (if_true (eqb n 1) _ _ (eq-eqb n 1 e)))
 
-  pub body-entries : r ≡ typed p (entriesOf b) → (n ≡ 1 → ⊥) → n ≤ 3 → r ≡ typed p (refusedBody n b)
-  unfolding refusedBody
-  body-entries h e l = h ∙ ap (typed p) (sym (if-false (eqb n 1) _ _ (ne_eqb n 1 e) ∙ if-true (leb n 3) _ _ (le-leb n 3 l)))
+  pub body_entries : r ≡ typed p (entries_of b) → (n ≡ 1 → ⊥) → n ≤ 3 → r ≡ typed p (refused_body n b)
+  unfolding refused_body
+  body_entries h e l = h ∙ ap (typed p) (sym (if_false (eqb n 1) _ _ (ne_eqb n 1 e) ∙ if_true (leb n 3) _ _ (le-leb n 3 l)))
 
-  pub body-parts : r ≡ typed p (parts_of b Verdict.Passed 0 []) → (n ≡ 1 → ⊥) → 3 < n → r ≡ typed p (refusedBody n b)
-  unfolding refusedBody
-  body-parts h e l = h ∙ ap (typed p) (sym (if-false (eqb n 1) _ _ (ne_eqb n 1 e) ∙ if-false (leb n 3) _ _ (lt-leb n 3 l)))
+  pub body_parts : r ≡ typed p (parts_of b Verdict.Passed 0 []) → (n ≡ 1 → ⊥) → 3 < n → r ≡ typed p (refused_body n b)
+  unfolding refused_body
+  body_parts h e l = h ∙ ap (typed p) (sym (if_false (eqb n 1) _ _ (ne_eqb n 1 e) ∙ if_false (leb n 3) _ _ (lt-leb n 3 l)))
 
 -- ---- the whole
 
-pub head-put : (p a r : Page) (why : Refusal) (place : ℕ) → r ≡ typed a (refusalWords why place) → a ≡ typed p (ascii "# ") → r ≡ typed p (refusedHead why place)
-unfolding refusedHead
-head-put p a r why place h g = typed-two p a r (ascii "# ") (refusalWords why place) g h
+pub head_put : (p a r : Page) (why : Refusal) (place : ℕ) → r ≡ typed a (refusal_words why place) → a ≡ typed p (ascii "# ") → r ≡ typed p (refused_head why place)
+unfolding refused_head
+head_put p a r why place h g = typed_two p a r (ascii "# ") (refusal_words why place) g h
 
-pub shown-refused : (p a r : Page) (b : List ℕ) (why : Refusal) (place n : ℕ) → r ≡ typed a (refusedBody n b) → a ≡ typed p (refusedHead why place)
+pub shown_refused : (p a r : Page) (b : List ℕ) (why : Refusal) (place n : ℕ) → r ≡ typed a (refused_body n b) → a ≡ typed p (refused_head why place)
     → n ≡ number_of why
-    → r ≡ typed p (shownAs (Verdict.Refused why place) b)
-unfolding shownAs
-shown-refused p a r b why place n h g e =
-    typed-two p a r (refusedHead why place) (refusedBody (number_of why) b) g (h ∙ ap (λ x. typed a (refusedBody x b)) e)
+    → r ≡ typed p (shown_as (Verdict.Refused why place) b)
+unfolding shown_as
+shown_refused p a r b why place n h g e =
+    typed_two p a r (refused_head why place) (refused_body (number_of why) b) g (h ∙ ap (λ x. typed a (refused_body x b)) e)
 
-pub shown-ran : (b rows : List ℕ) (s : Replayed) (p r : Page) → r ≡ typed p (parts_of b s.verdict s.state.head.accepted rows) → ranAs s rows ≡ ranOf Second b
-    → r ≡ typed p (shownAs Verdict.Passed b)
-unfolding shownAs
-shown-ran b rows s p r h e = h ∙ ap (λ x. typed p (parts_of b x.verdict x.state.head.accepted x.rows)) e
+pub shown_ran : (b rows : List ℕ) (s : Replayed) (p r : Page) → r ≡ typed p (parts_of b s.verdict s.state.head.accepted rows) → ran_as s rows ≡ ran_of Second b
+    → r ≡ typed p (shown_as Verdict.Passed b)
+unfolding shown_as
+shown_ran b rows s p r h e = h ∙ ap (λ x. typed p (parts_of b x.verdict x.state.head.accepted x.rows)) e
 
-checked-verdict : (b : List ℕ) (v : Verdict) → (checkedAs v b).verdict ≡ v
-unfolding checkedAs
-checked-verdict b Verdict.Passed = refl
-checked-verdict b (Verdict.Refused why place) = refl
+checked_verdict : (b : List ℕ) (v : Verdict) → (checked_as v b).verdict ≡ v
+unfolding checked_as
+checked_verdict b Verdict.Passed = refl
+checked_verdict b (Verdict.Refused why place) = refl
 
-module _ (b : List ℕ) (c : Checked) (h : c ≡ checkedOf b rowSpace) (p r : Page) where
-  told : (v : Verdict) → c.verdict ≡ v → shownOf b ≡ shownAs v b
-  unfolding shownOf
-  told v e = ap (λ x. shownAs x b) (sym (checked-verdict b (checkOf b rowSpace)) ∙ sym (ap (λ x. x.verdict) h) ∙ e)
+module _ (b : List ℕ) (c : Checked) (h : c ≡ checked_of b row_space) (p r : Page) where
+  told : (v : Verdict) → c.verdict ≡ v → shown_of b ≡ shown_as v b
+  unfolding shown_of
+  told v e = ap (λ x. shown_as x b) (sym (checked_verdict b (check_of b row_space)) ∙ sym (ap (λ x. x.verdict) h) ∙ e)
 
-  pub shown-accepted : r ≡ typed p (shownAs Verdict.Passed b) → c.verdict ≡ Verdict.Passed → r ≡ typed p (shownOf b)
-  shown-accepted g e = g ∙ ap (typed p) (sym (told Verdict.Passed e))
+  pub shown_accepted : r ≡ typed p (shown_as Verdict.Passed b) → c.verdict ≡ Verdict.Passed → r ≡ typed p (shown_of b)
+  shown_accepted g e = g ∙ ap (typed p) (sym (told Verdict.Passed e))
 
-  pub shown-not : (why : Refusal) (place : ℕ) → r ≡ typed p (shownAs (Verdict.Refused why place) b) → c.verdict ≡ Verdict.Refused why place
-      → r ≡ typed p (shownOf b)
-  shown-not why place g e = g ∙ ap (typed p) (sym (told (Verdict.Refused why place) e))
+  pub shown_not : (why : Refusal) (place : ℕ) → r ≡ typed p (shown_as (Verdict.Refused why place) b) → c.verdict ≡ Verdict.Refused why place
+      → r ≡ typed p (shown_of b)
+  shown_not why place g e = g ∙ ap (typed p) (sym (told (Verdict.Refused why place) e))

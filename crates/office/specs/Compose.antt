@@ -3,18 +3,18 @@ use Rattle.std.specs.Prelude.{List, [], ◌∷◌, ℕ, eqb, ltb, length}
 use Rattle.rules.specs.Numbers.Choice.{if◌then◌else◌}
 use Rattle.rules.specs.Numbers.Refusal.{number_of}
 use Rattle.rules.specs.Books.Plan.{most}
-use Rattle.rules.specs.Books.Write.{Wrote, writeOf}
+use Rattle.rules.specs.Books.Write.{Wrote, write_of}
 use Rattle.rules.specs.declared.refusal.Refusal.{Refusal}
 use Rattle.rules.specs.declared.answer.Verdict.{Verdict}
 use Rattle.page.specs.Says.{says}
-use Rattle.texts.specs.Lines.{lines_of, readLines, recordsOf, firstWrong, lineOfRecord}
+use Rattle.texts.specs.Lines.{lines_of, read_lines, records_of, first_wrong, line_of_record}
 use Rattle.texts.specs.declared.line.Line.{Line}
 use Rattle.texts.specs.declared.lines.First.{First}
-use Rattle.wording.specs.Mistakes.{mistakeOf, refusalWords, refusalAtLine}
+use Rattle.wording.specs.Mistakes.{mistake_of, refusal_words, refusal_at_line}
 
 -- the most bytes that a text may have
-abbrev pub textSpace : ℕ
-textSpace = 1_048_576
+abbrev pub text_space : ℕ
+text_space = 1_048_576
 
 -- the length of the book, 0 where there is none; the buffer after it was written; and the line that says why there is none
 pub record Composed : Type 0 where
@@ -27,49 +27,49 @@ abbrev pub unwritten : List ℕ → List ℕ → Composed
 unwritten buffer said = record { length = 0; bytes = buffer; said = said }
 
 -- the part that an entry of the contents belongs to; the entries count from 1
-unfoldable pub entryPart : ℕ → ℕ
-entryPart e = if eqb e 1 then 0 else if eqb e 2 then 1 else if eqb e 3 then 2 else 3
+unfoldable pub entry_part : ℕ → ℕ
+entry_part e = if eqb e 1 then 0 else if eqb e 2 then 1 else if eqb e 3 then 2 else 3
 
 -- the part and the record that a refusal names: for 2 the first record that is too many
-unfoldable pub refusedPart : ℕ → ℕ → ℕ
-refusedPart number place =
-    if eqb number 2 then entryPart place
+unfoldable pub refused_part : ℕ → ℕ → ℕ
+refused_part number place =
+    if eqb number 2 then entry_part place
     else if eqb number 4 then 0
     else if eqb number 5 then 1
     else if eqb number 7 then 1
     else if eqb number 8 then 3
     else 2
 
-unfoldable pub refusedRecord : ℕ → ℕ → ℕ
-refusedRecord number place = if eqb number 2 then most (entryPart place) else place
+unfoldable pub refused_record : ℕ → ℕ → ℕ
+refused_record number place = if eqb number 2 then most (entry_part place) else place
 
 -- a refusal, with a line where one can be named; and with the line of that record
-unfoldable pub refusedAt : ℕ → Refusal → ℕ → List ℕ
-refusedAt n why place = if eqb n 0 then refusalWords why place else refusalAtLine why place n
+unfoldable pub refused_at : ℕ → Refusal → ℕ → List ℕ
+refused_at n why place = if eqb n 0 then refusal_words why place else refusal_at_line why place n
 
-unfoldable pub refusedBy : List Line → Refusal → ℕ → List ℕ
-refusedBy lines why place = refusedAt (lineOfRecord (refusedPart (number_of why) place) (refusedRecord (number_of why) place) 0 lines) why place
+unfoldable pub refused_by : List Line → Refusal → ℕ → List ℕ
+refused_by lines why place = refused_at (line_of_record (refused_part (number_of why) place) (refused_record (number_of why) place) 0 lines) why place
 
 -- the records of a text's lines as their writer leaves them
 abbrev pub written : List (List ℕ) → List ℕ → Wrote
-written lines buffer = writeOf (recordsOf 0 lines) (recordsOf 1 lines) (recordsOf 2 lines) (recordsOf 3 lines) buffer
+written lines buffer = write_of (records_of 0 lines) (records_of 1 lines) (records_of 2 lines) (records_of 3 lines) buffer
 
-unfoldable pub composedAs : Verdict → List Line → Wrote → Composed
-composedAs Verdict.Passed lines w = record { length = w.length; bytes = w.bytes; said = [] }
-composedAs (Verdict.Refused why place) lines w = record { length = 0; bytes = w.bytes; said = refusedBy lines why place }
+unfoldable pub composed_as : Verdict → List Line → Wrote → Composed
+composed_as Verdict.Passed lines w = record { length = w.length; bytes = w.bytes; said = [] }
+composed_as (Verdict.Refused why place) lines w = record { length = 0; bytes = w.bytes; said = refused_by lines why place }
 
 -- a text without a mistake, and with one
-unfoldable pub composedRecords : List ℕ → List ℕ → Composed
-composedRecords text buffer = composedAs (written (lines_of text) buffer).verdict (readLines text) (written (lines_of text) buffer)
+unfoldable pub composed_records : List ℕ → List ℕ → Composed
+composed_records text buffer = composed_as (written (lines_of text) buffer).verdict (read_lines text) (written (lines_of text) buffer)
 
-unfoldable pub composedBy : First → List ℕ → List ℕ → Composed
-composedBy First.None text buffer = composedRecords text buffer
-composedBy (First.At n line) text buffer = unwritten buffer (mistakeOf n line)
+unfoldable pub composed_by : First → List ℕ → List ℕ → Composed
+composed_by First.None text buffer = composed_records text buffer
+composed_by (First.At n line) text buffer = unwritten buffer (mistake_of n line)
 
 -- a text that is too long
-unfoldable pub tooLong : List ℕ
-tooLong = says "the text has more than @ bytes\n" (textSpace ∷ [])
+unfoldable pub too_long : List ℕ
+too_long = says "the text has more than @ bytes\n" (text_space ∷ [])
 
-unfoldable pub composeOf : List ℕ → List ℕ → Composed
-composeOf text buffer =
-    if ltb textSpace (length text) then unwritten buffer tooLong else composedBy (firstWrong 0 (readLines text)) text buffer
+unfoldable pub compose_of : List ℕ → List ℕ → Composed
+compose_of text buffer =
+    if ltb text_space (length text) then unwritten buffer too_long else composed_by (first_wrong 0 (read_lines text)) text buffer

@@ -3,16 +3,16 @@ use Rattle.std.specs.Prelude.{List, [], ◌∷◌, ◌++◌, ℕ, zero, suc, ◌
 use Rattle.rules.specs.Numbers.Choice.{if◌then◌else◌}
 use Rattle.rules.specs.Numbers.Place.{at}
 use Rattle.rules.specs.Numbers.Refusal.{number_of}
-use Rattle.rules.specs.Books.Book.{checkOf}
+use Rattle.rules.specs.Books.Book.{check_of}
 use Rattle.rules.specs.declared.answer.Verdict.{Verdict}
 use Rattle.rules.specs.declared.refusal.Refusal.{Refusal}
 use Rattle.rules.specs.declared.protocol.Protocol.TheVariants.{Second}
 use Rattle.page.specs.Ascii.{ascii}
 use Rattle.page.specs.Says.{says}
-use Rattle.book.specs.Look.{entryIn, taskIn, lockIn, useIn, eventIn}
-use Rattle.wording.specs.Mistakes.{refusalWords}
-use Rattle.wording.specs.Records.{taskLine, lockLine, useLine, eventLine, ranComment, refusedComment, unreached, sizeLine, entryLine}
-use Rattle.office.specs.Ran.{rowSpace, ranOf}
+use Rattle.book.specs.Look.{entry_in, task_in, lock_in, use_in, event_in}
+use Rattle.wording.specs.Mistakes.{refusal_words}
+use Rattle.wording.specs.Records.{task_line, lock_line, use_line, event_line, ran_comment, refused_comment, unreached, size_line, entry_line}
+use Rattle.office.specs.Ran.{row_space, ran_of}
 
 -- the texts of f 0, f 1, .., f (n - 1), one after the other
 unfoldable pub each : (ℕ → List ℕ) → ℕ → List ℕ
@@ -20,75 +20,75 @@ each f zero = []
 each f (suc k) = each f k ++ f k
 
 -- the first n tasks, locks and uses
-unfoldable pub taskLines : List ℕ → ℕ → List ℕ
-taskLines b n = each (λ k. taskLine k (taskIn b k)) n
+unfoldable pub task_lines : List ℕ → ℕ → List ℕ
+task_lines b n = each (λ k. task_line k (task_in b k)) n
 
-unfoldable pub lockLines : List ℕ → ℕ → List ℕ
-lockLines b n = each (λ k. lockLine k (lockIn b k)) n
+unfoldable pub lock_lines : List ℕ → ℕ → List ℕ
+lock_lines b n = each (λ k. lock_line k (lock_in b k)) n
 
-unfoldable pub useLines : List ℕ → ℕ → List ℕ
-useLines b n = each (λ k. useLine k (useIn b k)) n
+unfoldable pub use_lines : List ℕ → ℕ → List ℕ
+use_lines b n = each (λ k. use_line k (use_in b k)) n
 
 -- an event with what came of it, in a run that ended with this verdict after so many accepted events, with these rows
-unfoldable pub stopComment : Verdict → ℕ → List ℕ
-stopComment Verdict.Passed n = unreached n
-stopComment (Verdict.Refused why place) n = refusedComment n why
+unfoldable pub stop_comment : Verdict → ℕ → List ℕ
+stop_comment Verdict.Passed n = unreached n
+stop_comment (Verdict.Refused why place) n = refused_comment n why
 
-unfoldable pub commentOf : Verdict → (accepted : ℕ) → (rows : List ℕ) → ℕ → List ℕ
-commentOf verdict accepted rows k =
-    if ltb k accepted then ranComment (k + 1) (at rows (k * 4)) (at rows (k * 4 + 1))
-    else if eqb k accepted then stopComment verdict (k + 1)
+unfoldable pub comment_of : Verdict → (accepted : ℕ) → (rows : List ℕ) → ℕ → List ℕ
+comment_of verdict accepted rows k =
+    if ltb k accepted then ran_comment (k + 1) (at rows (k * 4)) (at rows (k * 4 + 1))
+    else if eqb k accepted then stop_comment verdict (k + 1)
     else unreached (k + 1)
 
-unfoldable pub eventLines : List ℕ → Verdict → (accepted : ℕ) → (rows : List ℕ) → ℕ → List ℕ
-eventLines b verdict accepted rows n = each (λ k. eventLine (eventIn b k) (commentOf verdict accepted rows k)) n
+unfoldable pub event_lines : List ℕ → Verdict → (accepted : ℕ) → (rows : List ℕ) → ℕ → List ℕ
+event_lines b verdict accepted rows n = each (λ k. event_line (event_in b k) (comment_of verdict accepted rows k)) n
 
 -- the parts, each with a line that counts its records
-unfoldable pub taskPart : List ℕ → ℕ → List ℕ
-taskPart b n = says "# @ tasks: base, maximum\n" (n ∷ []) ++ taskLines b n
+unfoldable pub task_part : List ℕ → ℕ → List ℕ
+task_part b n = says "# @ tasks: base, maximum\n" (n ∷ []) ++ task_lines b n
 
-unfoldable pub lockPart : List ℕ → ℕ → List ℕ
-lockPart b n = says "# @ locks: ceiling, limit\n" (n ∷ []) ++ lockLines b n
+unfoldable pub lock_part : List ℕ → ℕ → List ℕ
+lock_part b n = says "# @ locks: ceiling, limit\n" (n ∷ []) ++ lock_lines b n
 
-unfoldable pub usePart : List ℕ → ℕ → List ℕ
-usePart b n = says "# @ uses: task, lock\n" (n ∷ []) ++ useLines b n
+unfoldable pub use_part : List ℕ → ℕ → List ℕ
+use_part b n = says "# @ uses: task, lock\n" (n ∷ []) ++ use_lines b n
 
-unfoldable pub eventPart : List ℕ → Verdict → (accepted : ℕ) → (rows : List ℕ) → ℕ → List ℕ
-eventPart b verdict accepted rows n = says "# @ events\n" (n ∷ []) ++ eventLines b verdict accepted rows n
+unfoldable pub event_part : List ℕ → Verdict → (accepted : ℕ) → (rows : List ℕ) → ℕ → List ℕ
+event_part b verdict accepted rows n = says "# @ events\n" (n ∷ []) ++ event_lines b verdict accepted rows n
 
 -- the first two, the last two, and all of them
-unfoldable pub firstParts : List ℕ → List ℕ
-firstParts b = taskPart b (entryIn b 0).count ++ lockPart b (entryIn b 1).count
+unfoldable pub first_parts : List ℕ → List ℕ
+first_parts b = task_part b (entry_in b 0).count ++ lock_part b (entry_in b 1).count
 
-unfoldable pub lastParts : List ℕ → Verdict → (accepted : ℕ) → (rows : List ℕ) → List ℕ
-lastParts b verdict accepted rows = usePart b (entryIn b 2).count ++ eventPart b verdict accepted rows (entryIn b 3).count
+unfoldable pub last_parts : List ℕ → Verdict → (accepted : ℕ) → (rows : List ℕ) → List ℕ
+last_parts b verdict accepted rows = use_part b (entry_in b 2).count ++ event_part b verdict accepted rows (entry_in b 3).count
 
 unfoldable pub parts_of : List ℕ → Verdict → (accepted : ℕ) → (rows : List ℕ) → List ℕ
-parts_of b verdict accepted rows = firstParts b ++ lastParts b verdict accepted rows
+parts_of b verdict accepted rows = first_parts b ++ last_parts b verdict accepted rows
 
 -- what can be read of a book whose contents are refused: its size and its entries
 unfoldable pub entry_of : List ℕ → ℕ → List ℕ
-entry_of b e = entryLine (e + 1) (entryIn b e).kind (entryIn b e).count (entryIn b e).offset
+entry_of b e = entry_line (e + 1) (entry_in b e).kind (entry_in b e).count (entry_in b e).offset
 
-unfoldable pub entryPair : List ℕ → ℕ → List ℕ
-entryPair b e = entry_of b e ++ entry_of b (e + 1)
+unfoldable pub entry_pair : List ℕ → ℕ → List ℕ
+entry_pair b e = entry_of b e ++ entry_of b (e + 1)
 
-unfoldable pub entriesOf : List ℕ → List ℕ
-entriesOf b = sizeLine (length b) ++ entryPair b 0 ++ entryPair b 2
+unfoldable pub entries_of : List ℕ → List ℕ
+entries_of b = size_line (length b) ++ entry_pair b 0 ++ entry_pair b 2
 
 -- of a book that this number refuses
-unfoldable pub refusedBody : ℕ → List ℕ → List ℕ
-refusedBody number b =
-    if eqb number 1 then sizeLine (length b)
-    else if leb number 3 then entriesOf b
+unfoldable pub refused_body : ℕ → List ℕ → List ℕ
+refused_body number b =
+    if eqb number 1 then size_line (length b)
+    else if leb number 3 then entries_of b
     else parts_of b Verdict.Passed 0 []
 
-unfoldable pub refusedHead : Refusal → ℕ → List ℕ
-refusedHead why place = ascii "# " ++ refusalWords why place
+unfoldable pub refused_head : Refusal → ℕ → List ℕ
+refused_head why place = ascii "# " ++ refusal_words why place
 
-unfoldable pub shownAs : Verdict → List ℕ → List ℕ
-shownAs Verdict.Passed b = parts_of b (ranOf Second b).verdict (ranOf Second b).state.head.accepted (ranOf Second b).rows
-shownAs (Verdict.Refused why place) b = refusedHead why place ++ refusedBody (number_of why) b
+unfoldable pub shown_as : Verdict → List ℕ → List ℕ
+shown_as Verdict.Passed b = parts_of b (ran_of Second b).verdict (ran_of Second b).state.head.accepted (ran_of Second b).rows
+shown_as (Verdict.Refused why place) b = refused_head why place ++ refused_body (number_of why) b
 
-unfoldable pub shownOf : List ℕ → List ℕ
-shownOf b = shownAs (checkOf b rowSpace) b
+unfoldable pub shown_of : List ℕ → List ℕ
+shown_of b = shown_as (check_of b row_space) b

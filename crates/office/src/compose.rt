@@ -1,11 +1,11 @@
 // RULES 19.5: the book of a text, or the line that says why there is none.
 ghost use Rattle.std.specs.Prelude.{◌≡◌, ◌+◌, ◌%◌, ◌≤◌, length, take};
-ghost use Rattle.rules.specs.Numbers.Capacity.{maxTasks, maxUses};
+ghost use Rattle.rules.specs.Numbers.Capacity.{max_tasks, max_uses};
 ghost use Rattle.rules.specs.Numbers.Place.{at, renewed};
-ghost use Rattle.rules.specs.Books.Write.{writeOf, wroteWith};
+ghost use Rattle.rules.specs.Books.Write.{write_of, wrote_with};
 ghost use Rattle.page.specs.Page.{page, typed};
-ghost use Rattle.texts.specs.Lines.{lines_of, readLines};
-ghost use Rattle.office.specs.Compose.{tooLong, entryPart, refusedPart, refusedRecord, refusedAt, refusedBy, written, composedRecords, composeOf};
+ghost use Rattle.texts.specs.Lines.{lines_of, read_lines};
+ghost use Rattle.office.specs.Compose.{too_long, entry_part, refused_part, refused_record, refused_at, refused_by, written, composed_records, compose_of};
 ghost use Rattle.office.specs.Answered.{answered, answer_of};
 ghost use Rattle.office.specs.Small.{Small};
 
@@ -59,7 +59,7 @@ fn write_front(
     out: &mut [u8],
 ) -> Written
     requires { (n ≤ length tasks.now) × (u ≤ length uses.now) }
-    ensures { wroteWith result out.new ≡ writeOf (take n tasks.now) locks.now (take u uses.now)
+    ensures { wrote_with result out.new ≡ write_of (take n tasks.now) locks.now (take u uses.now)
         events.now out.old }
 {
     write(&tasks[..n], locks, &uses[..u], events, out)
@@ -75,8 +75,8 @@ fn write_records(
 ) -> Written
     requires small { Small tasks.now }
     requires small_2 { Small uses.now }
-    requires tasks_len_bound { (length tasks.now ≤ maxTasks + 1) × (length uses.now ≤ maxUses + 1) }
-    ensures { wroteWith result out.new ≡ writeOf tasks.now locks.now uses.now events.now
+    requires tasks_len_bound { (length tasks.now ≤ max_tasks + 1) × (length uses.now ≤ max_uses + 1) }
+    ensures { wrote_with result out.new ≡ write_of tasks.now locks.now uses.now events.now
         out.old }
 {
     let mut narrow_tasks = [0u16; TASK_ROOM];
@@ -103,8 +103,8 @@ fn write_kept(
     requires n_in_bounds { (n ≤ length tasks.now) × (m ≤ length locks.now) × (u ≤ length uses.now) × (k ≤ length events.now) }
     requires small { Small (take n tasks.now) }
     requires small_2 { Small (take u uses.now) }
-    requires n_bound { (n ≤ maxTasks + 1) × (u ≤ maxUses + 1) }
-    ensures { wroteWith result out.new ≡ writeOf (take n tasks.now) (take m locks.now) (take u uses.now)
+    requires n_bound { (n ≤ max_tasks + 1) × (u ≤ max_uses + 1) }
+    ensures { wrote_with result out.new ≡ write_of (take n tasks.now) (take m locks.now) (take u uses.now)
         (take k events.now) out.old }
 {
     write_records(&tasks[..n], &locks[..m], &uses[..u], &events[..k], out)
@@ -112,7 +112,7 @@ fn write_kept(
 
 // The book of a text's records.
 fn write_text(text: &[u8], out: &mut [u8]) -> Written
-    ensures { wroteWith result out.new ≡ written (lines_of text.now) out.old }
+    ensures { wrote_with result out.new ≡ written (lines_of text.now) out.old }
 {
     let mut tasks = [0u32; TASK_ROOM];
     let n = collect(text, 0, &mut tasks);
@@ -127,7 +127,7 @@ fn write_text(text: &[u8], out: &mut [u8]) -> Written
 
 // The part that an entry of the contents belongs to.
 fn entry_part(e: usize) -> u8
-    ensures { result ≡ entryPart e }
+    ensures { result ≡ entry_part e }
 {
     if e == 1 {
         return 0;
@@ -143,7 +143,7 @@ fn entry_part(e: usize) -> u8
 
 // The part and the record that a refusal names.
 fn refused_part(number: u8, place: usize) -> u8
-    ensures { result ≡ refusedPart number place }
+    ensures { result ≡ refused_part number place }
 {
     if number == 2 {
         return entry_part(place);
@@ -164,7 +164,7 @@ fn refused_part(number: u8, place: usize) -> u8
 }
 
 fn refused_record(number: u8, place: usize) -> usize
-    ensures { result ≡ refusedRecord number place }
+    ensures { result ≡ refused_record number place }
 {
     if number == 2 {
         let part = entry_part(place);
@@ -175,7 +175,7 @@ fn refused_record(number: u8, place: usize) -> usize
 
 // A refusal, with its line where one can be named.
 fn put_refused_at(said: &mut [u8], n: usize, why: Refusal, place: usize) -> usize
-    ensures { page said.new result ≡ typed (page said.old 0) (refusedAt n why place) }
+    ensures { page said.new result ≡ typed (page said.old 0) (refused_at n why place) }
 {
     if n == 0 {
         return put_refusal(said, 0, why, place);
@@ -184,7 +184,7 @@ fn put_refused_at(said: &mut [u8], n: usize, why: Refusal, place: usize) -> usiz
 }
 
 fn put_refused_by(text: &[u8], said: &mut [u8], why: Refusal, place: usize) -> usize
-    ensures { page said.new result ≡ typed (page said.old 0) (refusedBy (readLines text.now) why place) }
+    ensures { page said.new result ≡ typed (page said.old 0) (refused_by (read_lines text.now) why place) }
 {
     let number = number(why);
     let part = refused_part(number, place);
@@ -196,7 +196,7 @@ fn put_refused_by(text: &[u8], said: &mut [u8], why: Refusal, place: usize) -> u
 // A text without a mistake.
 fn compose_records(text: &[u8], out: &mut [u8], said: &mut [u8]) -> Made
     ensures { answered result.length out.new (page said.new result.said)
-        ≡ answer_of (composedRecords text.now out.old) (page said.old 0) }
+        ≡ answer_of (composed_records text.now out.old) (page said.old 0) }
 {
     let written = write_text(text, out);
     let verdict = written.verdict;
@@ -213,7 +213,7 @@ fn compose_records(text: &[u8], out: &mut [u8], said: &mut [u8]) -> Made
 }
 
 fn put_too_long(said: &mut [u8]) -> usize
-    ensures { page said.new result ≡ typed (page said.old 0) tooLong }
+    ensures { page said.new result ≡ typed (page said.old 0) too_long }
 {
     let numbers = [TEXT_SPACE as u64];
     put_says(said, 0, b"the text has more than @ bytes\n", &numbers)
@@ -223,7 +223,7 @@ fn put_too_long(said: &mut [u8]) -> usize
 // bytes stay.
 pub fn compose(text: &[u8], out: &mut [u8], said: &mut [u8]) -> Made
     ensures { answered result.length out.new (page said.new result.said)
-        ≡ answer_of (composeOf text.now out.old) (page said.old 0) }
+        ≡ answer_of (compose_of text.now out.old) (page said.old 0) }
 {
     if text.len() > TEXT_SPACE {
         let n = put_too_long(said);

@@ -3,8 +3,8 @@ ghost use Rattle.std.specs.Prelude.{◌≡◌, ◌&&◌, ◌+◌, ◌-◌, ◌/�
 ghost use Rattle.rules.specs.Numbers.Place.{at};
 ghost use Rattle.rules.specs.Numbers.Row.{newest};
 ghost use Rattle.page.specs.Page.{page, typed};
-ghost use Rattle.office.specs.Explain.{callText, call_of, callLines, call_words, pastLock, facts_of, stopWords, entryPlace, recordWords, placeWords, bookWords};
-ghost use Rattle.office.specs.Explain.{ofBook, refusedWords, endWords, frontWords, explainedAs, explainedOf};
+ghost use Rattle.office.specs.Explain.{call_text, call_of, call_lines, call_words, past_lock, facts_of, stop_words, entry_place, record_words, place_words, book_words};
+ghost use Rattle.office.specs.Explain.{of_book, refused_words, end_words, front_words, explained_as, explained_of};
 
 use crate::entry::put_entry_of;
 use book::look::{event, lock, task, usage};
@@ -51,7 +51,7 @@ fn record_amount(w: u32) -> u64
 // The call of event k, by its row and by the row before it.
 fn put_call_line(out: &mut [u8], i: usize, b: &[u8], rows: &[u8], k: usize) -> usize
     requires { k + 1 < 2 ^ 64 }
-    ensures { page out.new result ≡ typed (page out.old i) (callText b.now rows.now k) }
+    ensures { page out.new result ≡ typed (page out.old i) (call_text b.now rows.now k) }
 {
     let next = k + 1;
     let ran = running(rows, before(k));
@@ -73,7 +73,7 @@ fn put_call_of(out: &mut [u8], i: usize, b: &[u8], rows: &[u8], k: usize) -> usi
 
 // Those of the first n events.
 fn put_calls(out: &mut [u8], i: usize, b: &[u8], rows: &[u8], n: usize) -> usize
-    ensures { page out.new result ≡ typed (page out.old i) (callLines b.now rows.now n) }
+    ensures { page out.new result ≡ typed (page out.old i) (call_lines b.now rows.now n) }
 {
     let mut place = i;
     let mut k: usize = 0;
@@ -159,7 +159,7 @@ fn is_past(owner: u64, limit: u64, units: u64, t: u64, amount: u64) -> bool
 // The least lock that task t has open and whose limit so many units more would pass.
 fn past_lock(limit: &[u16], owner: &[u8], units: &[u16], t: u64, amount: u64) -> usize
     requires { (t < 65536) × (amount < 65536) }
-    ensures { result ≡ pastLock limit.now owner.now units.now t amount }
+    ensures { result ≡ past_lock limit.now owner.now units.now t amount }
 {
     let mut l: usize = 0;
     while l < MAX_LOCKS {
@@ -217,7 +217,7 @@ fn past_of(
     amount: u64,
 ) -> usize
     requires { (t < 65536) × (amount < 65536) }
-    ensures { result ≡ pastLock limit owner units t amount }
+    ensures { result ≡ past_lock limit owner units t amount }
 {
     past_lock(&limit, &owner, &units, t, amount)
 }
@@ -253,7 +253,7 @@ fn facts(p: Plan, s: State, w: u32) -> Facts
 
 // The refusal of an event, which is the one after those that were accepted.
 fn put_stop_words(out: &mut [u8], i: usize, b: &[u8], p: Plan, s: State, why: Refusal) -> usize
-    ensures { page out.new result ≡ typed (page out.old i) (stopWords b.now p s why) }
+    ensures { page out.new result ≡ typed (page out.old i) (stop_words b.now p s why) }
 {
     let accepted = s.head.accepted;
     let w = event(b, accepted as usize);
@@ -263,7 +263,7 @@ fn put_stop_words(out: &mut [u8], i: usize, b: &[u8], p: Plan, s: State, why: Re
 
 // What stands at the place of 2 or 3.
 fn put_entry_place(out: &mut [u8], i: usize, b: &[u8], place: usize) -> usize
-    ensures { page out.new result ≡ typed (page out.old i) (entryPlace b.now place) }
+    ensures { page out.new result ≡ typed (page out.old i) (entry_place b.now place) }
 {
     if place > 4 {
         return put_size(out, i, b.len());
@@ -273,7 +273,7 @@ fn put_entry_place(out: &mut [u8], i: usize, b: &[u8], place: usize) -> usize
 
 // A record of the plan, or an event, by the number of its refusal.
 fn put_record_place(out: &mut [u8], i: usize, number: u8, b: &[u8], place: usize) -> usize
-    ensures { page out.new result ≡ typed (page out.old i) (recordWords number b.now place) }
+    ensures { page out.new result ≡ typed (page out.old i) (record_words number b.now place) }
 {
     if number == 4 {
         return put_task(out, i, place, task(b, place));
@@ -292,7 +292,7 @@ fn put_record_place(out: &mut [u8], i: usize, number: u8, b: &[u8], place: usize
 
 // What stands at the place of a refusal.
 fn put_place_words(out: &mut [u8], i: usize, number: u8, b: &[u8], place: usize) -> usize
-    ensures { page out.new result ≡ typed (page out.old i) (placeWords number b.now place) }
+    ensures { page out.new result ≡ typed (page out.old i) (place_words number b.now place) }
 {
     if number == 1 {
         return put_size(out, i, b.len());
@@ -304,7 +304,7 @@ fn put_place_words(out: &mut [u8], i: usize, number: u8, b: &[u8], place: usize)
 }
 
 fn put_book_words(out: &mut [u8], i: usize, b: &[u8], why: Refusal, place: usize) -> usize
-    ensures { page out.new result ≡ typed (page out.old i) (bookWords b.now why place) }
+    ensures { page out.new result ≡ typed (page out.old i) (book_words b.now why place) }
 {
     let after = put_refusal(out, i, why, place);
     put_place_words(out, after, number(why), b, place)
@@ -312,7 +312,7 @@ fn put_book_words(out: &mut [u8], i: usize, b: &[u8], why: Refusal, place: usize
 
 // 1 to 9 and 24 refuse a book, the others an event.
 fn of_book(number: u8) -> bool
-    ensures { result ≡ ofBook number }
+    ensures { result ≡ of_book number }
 {
     if number <= 9 {
         return true;
@@ -329,7 +329,7 @@ fn put_refused_words(
     why: Refusal,
     place: usize,
 ) -> usize
-    ensures { page out.new result ≡ typed (page out.old i) (refusedWords b.now p s why place) }
+    ensures { page out.new result ≡ typed (page out.old i) (refused_words b.now p s why place) }
 {
     if of_book(number(why)) {
         return put_book_words(out, i, b, why, place);
@@ -338,7 +338,7 @@ fn put_refused_words(
 }
 
 fn put_end_words(out: &mut [u8], i: usize, b: &[u8], p: Plan, s: State, verdict: Verdict) -> usize
-    ensures { page out.new result ≡ typed (page out.old i) (endWords b.now p s verdict) }
+    ensures { page out.new result ≡ typed (page out.old i) (end_words b.now p s verdict) }
 {
     match verdict {
         Verdict::Passed => i,
@@ -348,7 +348,7 @@ fn put_end_words(out: &mut [u8], i: usize, b: &[u8], p: Plan, s: State, verdict:
 
 // The heading and the calls.
 fn put_front(out: &mut [u8], i: usize, b: &[u8], rows: &[u8], accepted: u32, lazy: u32) -> usize
-    ensures { page out.new result ≡ typed (page out.old i) (frontWords b.now rows.now accepted lazy) }
+    ensures { page out.new result ≡ typed (page out.old i) (front_words b.now rows.now accepted lazy) }
 {
     let after = put_text(out, i, b"in words\n");
     put_call_words(out, after, b, rows, accepted as usize, lazy)
@@ -363,7 +363,7 @@ fn put_explained(
     s: State,
     verdict: Verdict,
 ) -> usize
-    ensures { page out.new result ≡ typed (page out.old i) (explainedAs b.now rows.now p s verdict) }
+    ensures { page out.new result ≡ typed (page out.old i) (explained_as b.now rows.now p s verdict) }
 {
     let after = put_front(out, i, b, rows, s.head.accepted, s.head.lazy);
     put_end_words(out, after, b, p, s, verdict)
@@ -371,7 +371,7 @@ fn put_explained(
 
 // The words for a book's replay, from place i of `out` on, cut where that ends; the answer is the place after them.
 pub fn explain(protocol: Protocol, b: &[u8], out: &mut [u8], i: usize) -> usize
-    ensures { page out.new result ≡ typed (page out.old i) (explainedOf protocol b.now) }
+    ensures { page out.new result ≡ typed (page out.old i) (explained_of protocol b.now) }
 {
     let mut rows = [0u8; ROW_SPACE];
     let replayed = replay(protocol, b, &mut rows);

@@ -4,10 +4,10 @@ ghost use Rattle.rules.specs.Numbers.Place.{stored};
 ghost use Rattle.rules.specs.declared.answer.Verdict.{Verdict};
 ghost use Rattle.page.specs.Page.{page, typed};
 ghost use Rattle.page.specs.Says.{filled};
-ghost use Rattle.book.specs.Look.{entryIn};
-ghost use Rattle.wording.specs.Records.{eventLine};
-ghost use Rattle.office.specs.Show.{taskLines, lockLines, useLines, stopComment, commentOf, eventLines};
-ghost use Rattle.office.specs.Show.{taskPart, lockPart, usePart, eventPart, firstParts, lastParts, parts_of, entryPair, entriesOf, refusedBody, refusedHead, shownAs, shownOf};
+ghost use Rattle.book.specs.Look.{entry_in};
+ghost use Rattle.wording.specs.Records.{event_line};
+ghost use Rattle.office.specs.Show.{task_lines, lock_lines, use_lines, stop_comment, comment_of, event_lines};
+ghost use Rattle.office.specs.Show.{task_part, lock_part, use_part, event_part, first_parts, last_parts, parts_of, entry_pair, entries_of, refused_body, refused_head, shown_as, shown_of};
 
 use crate::entry::put_entry_of;
 use book::look::{entry_at, event, lock, task, usage};
@@ -30,7 +30,7 @@ const ROW_SPACE: usize = MAX_EVENTS * 4;
 
 // The first n tasks.
 fn put_tasks(out: &mut [u8], i: usize, b: &[u8], n: usize) -> usize
-    ensures { page out.new result ≡ typed (page out.old i) (taskLines b.now n) }
+    ensures { page out.new result ≡ typed (page out.old i) (task_lines b.now n) }
 {
     let mut place = i;
     let mut k: usize = 0;
@@ -43,7 +43,7 @@ fn put_tasks(out: &mut [u8], i: usize, b: &[u8], n: usize) -> usize
 }
 
 fn put_locks(out: &mut [u8], i: usize, b: &[u8], n: usize) -> usize
-    ensures { page out.new result ≡ typed (page out.old i) (lockLines b.now n) }
+    ensures { page out.new result ≡ typed (page out.old i) (lock_lines b.now n) }
 {
     let mut place = i;
     let mut k: usize = 0;
@@ -56,7 +56,7 @@ fn put_locks(out: &mut [u8], i: usize, b: &[u8], n: usize) -> usize
 }
 
 fn put_uses(out: &mut [u8], i: usize, b: &[u8], n: usize) -> usize
-    ensures { page out.new result ≡ typed (page out.old i) (useLines b.now n) }
+    ensures { page out.new result ≡ typed (page out.old i) (use_lines b.now n) }
 {
     let mut place = i;
     let mut k: usize = 0;
@@ -70,7 +70,7 @@ fn put_uses(out: &mut [u8], i: usize, b: &[u8], n: usize) -> usize
 
 // The comment of the event at which a run ended.
 fn put_stop(out: &mut [u8], i: usize, verdict: Verdict, n: u64) -> usize
-    ensures { page out.new result ≡ typed (page out.old i) (stopComment verdict n) }
+    ensures { page out.new result ≡ typed (page out.old i) (stop_comment verdict n) }
 {
     match verdict {
         Verdict::Passed => put_unreached(out, i, n),
@@ -88,7 +88,7 @@ fn put_comment(
     k: usize,
 ) -> usize
     requires { k + 1 < 2 ^ 64 }
-    ensures { page out.new result ≡ typed (page out.old i) (commentOf verdict accepted rows.now k) }
+    ensures { page out.new result ≡ typed (page out.old i) (comment_of verdict accepted rows.now k) }
 {
     let next = k + 1;
     let n = next as u64;
@@ -114,7 +114,7 @@ fn put_commented(
     k: usize,
 ) -> usize
     requires { k + 1 < 2 ^ 64 }
-    ensures { page out.new result ≡ typed (page out.old i) (eventLine w (commentOf verdict accepted rows.now k)) }
+    ensures { page out.new result ≡ typed (page out.old i) (event_line w (comment_of verdict accepted rows.now k)) }
 {
     if number_fault(w) {
         return put_no_event(out, i, w);
@@ -133,7 +133,7 @@ fn put_events(
     rows: &[u8],
     n: usize,
 ) -> usize
-    ensures { page out.new result ≡ typed (page out.old i) (eventLines b.now verdict accepted rows.now n) }
+    ensures { page out.new result ≡ typed (page out.old i) (event_lines b.now verdict accepted rows.now n) }
 {
     let mut place = i;
     let mut k: usize = 0;
@@ -154,21 +154,21 @@ fn put_heading(out: &mut [u8], i: usize, text: &[u8], n: usize) -> usize
 }
 
 fn put_task_part(out: &mut [u8], i: usize, b: &[u8], n: usize) -> usize
-    ensures { page out.new result ≡ typed (page out.old i) (taskPart b.now n) }
+    ensures { page out.new result ≡ typed (page out.old i) (task_part b.now n) }
 {
     let after = put_heading(out, i, b"# @ tasks: base, maximum\n", n);
     put_tasks(out, after, b, n)
 }
 
 fn put_lock_part(out: &mut [u8], i: usize, b: &[u8], n: usize) -> usize
-    ensures { page out.new result ≡ typed (page out.old i) (lockPart b.now n) }
+    ensures { page out.new result ≡ typed (page out.old i) (lock_part b.now n) }
 {
     let after = put_heading(out, i, b"# @ locks: ceiling, limit\n", n);
     put_locks(out, after, b, n)
 }
 
 fn put_use_part(out: &mut [u8], i: usize, b: &[u8], n: usize) -> usize
-    ensures { page out.new result ≡ typed (page out.old i) (usePart b.now n) }
+    ensures { page out.new result ≡ typed (page out.old i) (use_part b.now n) }
 {
     let after = put_heading(out, i, b"# @ uses: task, lock\n", n);
     put_uses(out, after, b, n)
@@ -183,7 +183,7 @@ fn put_event_part(
     rows: &[u8],
     n: usize,
 ) -> usize
-    ensures { page out.new result ≡ typed (page out.old i) (eventPart b.now verdict accepted rows.now n) }
+    ensures { page out.new result ≡ typed (page out.old i) (event_part b.now verdict accepted rows.now n) }
 {
     let after = put_heading(out, i, b"# @ events\n", n);
     put_events(out, after, b, verdict, accepted, rows, n)
@@ -191,7 +191,7 @@ fn put_event_part(
 
 // How many records a part has.
 fn count(b: &[u8], e: usize) -> usize
-    ensures { result ≡ (entryIn b.now e).count }
+    ensures { result ≡ (entry_in b.now e).count }
 {
     let entry = entry_at(b, e);
     entry.count
@@ -199,7 +199,7 @@ fn count(b: &[u8], e: usize) -> usize
 
 // The plan's tasks and locks.
 fn put_first_parts(out: &mut [u8], i: usize, b: &[u8]) -> usize
-    ensures { page out.new result ≡ typed (page out.old i) (firstParts b.now) }
+    ensures { page out.new result ≡ typed (page out.old i) (first_parts b.now) }
 {
     let after = put_task_part(out, i, b, count(b, 0));
     put_lock_part(out, after, b, count(b, 1))
@@ -214,7 +214,7 @@ fn put_last_parts(
     accepted: usize,
     rows: &[u8],
 ) -> usize
-    ensures { page out.new result ≡ typed (page out.old i) (lastParts b.now verdict accepted rows.now) }
+    ensures { page out.new result ≡ typed (page out.old i) (last_parts b.now verdict accepted rows.now) }
 {
     let after = put_use_part(out, i, b, count(b, 2));
     put_event_part(out, after, b, verdict, accepted, rows, count(b, 3))
@@ -237,14 +237,14 @@ fn put_parts(
 // That one and the next.
 fn put_pair(out: &mut [u8], i: usize, b: &[u8], e: usize) -> usize
     requires { e < 3 }
-    ensures { page out.new result ≡ typed (page out.old i) (entryPair b.now e) }
+    ensures { page out.new result ≡ typed (page out.old i) (entry_pair b.now e) }
 {
     let after = put_entry_of(out, i, b, e);
     put_entry_of(out, after, b, e + 1)
 }
 
 fn put_entries(out: &mut [u8], i: usize, b: &[u8]) -> usize
-    ensures { page out.new result ≡ typed (page out.old i) (entriesOf b.now) }
+    ensures { page out.new result ≡ typed (page out.old i) (entries_of b.now) }
 {
     let first = put_size(out, i, b.len());
     let third = put_pair(out, first, b, 0);
@@ -253,7 +253,7 @@ fn put_entries(out: &mut [u8], i: usize, b: &[u8]) -> usize
 
 // What can be read of a book that this number refuses.
 fn put_refused_body(out: &mut [u8], i: usize, number: u8, b: &[u8]) -> usize
-    ensures { page out.new result ≡ typed (page out.old i) (refusedBody number b.now) }
+    ensures { page out.new result ≡ typed (page out.old i) (refused_body number b.now) }
 {
     if number == 1 {
         return put_size(out, i, b.len());
@@ -266,21 +266,21 @@ fn put_refused_body(out: &mut [u8], i: usize, number: u8, b: &[u8]) -> usize
 
 // The refusal, in a comment.
 fn put_refused_head(out: &mut [u8], why: Refusal, place: usize) -> usize
-    ensures { page out.new result ≡ typed (page out.old 0) (refusedHead why place) }
+    ensures { page out.new result ≡ typed (page out.old 0) (refused_head why place) }
 {
     let mark = put_text(out, 0, b"# ");
     put_refusal(out, mark, why, place)
 }
 
 fn put_refused_book(out: &mut [u8], b: &[u8], why: Refusal, place: usize) -> usize
-    ensures { page out.new result ≡ typed (page out.old 0) (shownAs (Verdict.Refused why place) b.now) }
+    ensures { page out.new result ≡ typed (page out.old 0) (shown_as (Verdict.Refused why place) b.now) }
 {
     let after = put_refused_head(out, why, place);
     put_refused_body(out, after, number(why), b)
 }
 
 fn put_accepted(out: &mut [u8], b: &[u8]) -> usize
-    ensures { page out.new result ≡ typed (page out.old 0) (shownAs Verdict.Passed b.now) }
+    ensures { page out.new result ≡ typed (page out.old 0) (shown_as Verdict.Passed b.now) }
 {
     let mut rows = [0u8; ROW_SPACE];
     let replayed = replay(Protocol::Second, b, &mut rows);
@@ -290,7 +290,7 @@ fn put_accepted(out: &mut [u8], b: &[u8]) -> usize
 }
 
 fn put_shown(out: &mut [u8], b: &[u8]) -> usize
-    ensures { page out.new result ≡ typed (page out.old 0) (shownOf b.now) }
+    ensures { page out.new result ≡ typed (page out.old 0) (shown_of b.now) }
 {
     let checked = book::check(b, ROW_SPACE);
     let verdict = checked.verdict;
@@ -302,8 +302,8 @@ fn put_shown(out: &mut [u8], b: &[u8]) -> usize
 
 // The text of a book at the start of `out`, cut where that ends, and how many bytes of it stand there.
 pub fn show(b: &[u8], out: &mut [u8]) -> usize
-    ensures out_after { out.new ≡ stored out.old 0 (shownOf b.now) }
-    ensures value { result ≡ min (length (shownOf b.now)) (length out.old) }
+    ensures out_after { out.new ≡ stored out.old 0 (shown_of b.now) }
+    ensures value { result ≡ min (length (shown_of b.now)) (length out.old) }
 {
     put_shown(out, b)
 }

@@ -7,13 +7,13 @@ use native.Mathlib.Omega.{arith}
 use lib.ListN.{length, take, replicate, length-take}
 use lib.Seq.{take-append_seam}
 use Rattle.io.specs.Counts.{IsPrefixLen}
-use Rattle.rules.specs.Numbers.Capacity.{maxEvents}
-use Rattle.rules.specs.Numbers.Answer.{verdictNumber, verdictPlace}
+use Rattle.rules.specs.Numbers.Capacity.{max_events}
+use Rattle.rules.specs.Numbers.Answer.{verdict_number, verdict_place}
 use Rattle.rules.specs.Numbers.Place.{at, stored}
 use Rattle.rules.specs.Books.Plan.{Obeys}
-use Rattle.rules.specs.Books.Book.{eventsOf, checkOf, checkedAs, checkedOf}
+use Rattle.rules.specs.Books.Book.{events_of, check_of, checked_as, checked_of}
 use Rattle.rules.specs.Schedulers.State.{fresh_of}
-use Rattle.rules.specs.Replays.Replay.{ranAs}
+use Rattle.rules.specs.Replays.Replay.{ran_as}
 use Rattle.rules.specs.Replays.Run.{Ran}
 use Rattle.rules.specs.Demands.Replayed.{RanUpTo}
 use Rattle.rules.specs.declared.plan.Plan.{Plan}
@@ -21,18 +21,18 @@ use Rattle.rules.specs.declared.protocol.Protocol.{Protocol}
 use Rattle.rules.specs.declared.event.Event.{Event}
 use Rattle.rules.specs.declared.answer.Verdict.{Verdict}
 use Rattle.rules.specs.declared.answer.Replayed.{Replayed}
-use Rattle.rules.proofs.Numbers.Choice.{lt-or-le}
-use Rattle.rules.proofs.Numbers.Stored.{stored-front}
-use Rattle.rules.proofs.Books.Obeyed.{few-tasks}
-use Rattle.rules.proofs.Numbers.Checks.{none-refused-at}
-use Rattle.rules.proofs.Books.Passes.{passed-contents, passed-obeys}
+use Rattle.rules.proofs.Numbers.Choice.{lt_or_le}
+use Rattle.rules.proofs.Numbers.Stored.{stored_front}
+use Rattle.rules.proofs.Books.Obeyed.{few_tasks}
+use Rattle.rules.proofs.Numbers.Checks.{none_refused_at}
+use Rattle.rules.proofs.Books.Passes.{passed_contents, passed_obeys}
 use Rattle.rules.proofs.Demands.Replayed.{replayed}
-use Rattle.rules.proofs.Demands.Sizes.{place-few, few-events, row_small, lazy-few, eager-few, bound-word}
-use Rattle.report.specs.Report.{reportOf}
-use Rattle.office.specs.Ran.{rowSpace, ranOf}
-use Rattle.orbeshuri.specs.Text.{reportSpace, text_of}
-use Rattle.orbeshuri.proofs.Written.{rows-room, reported, text-is, refused-text}
-use Rattle.orbeshuri.proofs.Length.{SmallAt, passed-long, stopped-long}
+use Rattle.rules.proofs.Demands.Sizes.{place_few, few_events, row_small, lazy_few, eager_few, bound_word}
+use Rattle.report.specs.Report.{report_of}
+use Rattle.office.specs.Ran.{row_space, ran_of}
+use Rattle.orbeshuri.specs.Text.{report_space, text_of}
+use Rattle.orbeshuri.proofs.Written.{rows_room, reported, text_is, refused_text}
+use Rattle.orbeshuri.proofs.Length.{SmallAt, passed_long, stopped_long}
 
 -- the first n of a list whose figures are below v
 front_below : (v : ℕ) → 0 < v → (n : ℕ) (xs : List ℕ) → ((i : ℕ) → at xs i < v) → (i : ℕ) → at (take n xs) i < v
@@ -42,12 +42,12 @@ front_below v o (suc n) (x ∷ xs) h zero = h 0
 front_below v o (suc n) (x ∷ xs) h (suc i) = front_below v o n xs (λ i. h (suc i)) i
 
 -- the report of a run
-module _ (pr : Protocol) {p : Plan} (O : Obeys p) (es : List Event) (few : length es ≤ maxEvents) (rows : List ℕ) (ran : Ran) (a : ℕ)
+module _ (pr : Protocol) {p : Plan} (O : Obeys p) (es : List Event) (few : length es ≤ max_events) (rows : List ℕ) (ran : Ran) (a : ℕ)
     (R : RanUpTo pr p es rows ran a) where
-  ran-fits : length (reportOf ran.verdict a ran.rows ran.state.head.lazy ran.state.head.eager (take p.tasks ran.state.delay))
-      ≤ reportSpace
-  unfolding verdictPlace
-  ran-fits = by ran.verdict place-small
+  ran_fits : length (report_of ran.verdict a ran.rows ran.state.head.lazy ran.state.head.eager (take p.tasks ran.state.delay))
+      ≤ report_space
+  unfolding verdict_place
+  ran_fits = by ran.verdict place_small
     where
       lazy : ℕ
       lazy = ran.state.head.lazy
@@ -61,65 +61,65 @@ module _ (pr : Protocol) {p : Plan} (O : Obeys p) (es : List Event) (few : lengt
       small : (k : ℕ) → k < a → SmallAt ran.rows k
       small k l = row_small O es k _ _ _ _ (R.written k l)
 
-      place-small : verdictPlace ran.verdict < 10 ^ 5
-      place-small = ⊎_elim
+      place_small : verdict_place ran.verdict < 10 ^ 5
+      place_small = ⊎_elim
           (λ (l : a < length es). omega (arith, R.place l))
-          (λ (l : length es ≤ a). rw (none-refused-at ran.verdict (R.passed.1 (omega (arith, R.within)))) (omega arith))
-          (lt-or-le a (length es))
+          (λ (l : length es ≤ a). rw (none_refused_at ran.verdict (R.passed.1 (omega (arith, R.within)))) (omega arith))
+          (lt_or_le a (length es))
 
-      by : (v : Verdict) → verdictPlace v < 10 ^ 5 → length (reportOf v a ran.rows lazy eager delays) ≤ reportSpace
+      by : (v : Verdict) → verdict_place v < 10 ^ 5 → length (report_of v a ran.rows lazy eager delays) ≤ report_space
       by Verdict.Passed h = omega (
         arith,
-        few-tasks O,
+        few_tasks O,
         length-take p.tasks ran.state.delay,
-        passed-long ran.rows a (omega (arith, R.within)) small lazy eager delays
-            (omega (arith, R.within, R.lazy, lazy-few pr p es a)) (omega (arith, R.within, R.eager, eager-few p es a))
-            (front_below (10 ^ 5) (omega arith) p.tasks ran.state.delay (λ t. omega (arith, R.bounded t, bound-word O t))),
+        passed_long ran.rows a (omega (arith, R.within)) small lazy eager delays
+            (omega (arith, R.within, R.lazy, lazy_few pr p es a)) (omega (arith, R.within, R.eager, eager_few p es a))
+            (front_below (10 ^ 5) (omega arith) p.tasks ran.state.delay (λ t. omega (arith, R.bounded t, bound_word O t))),
         R.within,
       )
       by (Verdict.Refused why place) h =
-          omega (arith, R.within, stopped-long ran.rows a (omega (arith, R.within)) small lazy eager delays why place h)
+          omega (arith, R.within, stopped_long ran.rows a (omega (arith, R.within)) small lazy eager delays why place h)
 
 -- the text of a book whose events run
-ran-text : (pr : Protocol) (b : List ℕ) → checkOf b rowSpace ≡ Verdict.Passed → length (text_of pr b) ≤ reportSpace
-unfolding checkedAs verdictNumber
-ran-text pr b e = rw e (ran-fits pr (passed-obeys b rowSpace e) (eventsOf b) (few-events b (passed-contents b rowSpace e)) (replicate rowSpace 0) (ranOf pr b)
-    (ranOf pr b).state.head.accepted ((replayed pr b (replicate rowSpace 0)).ran (rw rows-room (ap verdictNumber e))))
+ran_text : (pr : Protocol) (b : List ℕ) → check_of b row_space ≡ Verdict.Passed → length (text_of pr b) ≤ report_space
+unfolding checked_as verdict_number
+ran_text pr b e = rw e (ran_fits pr (passed_obeys b row_space e) (events_of b) (few_events b (passed_contents b row_space e)) (replicate row_space 0) (ran_of pr b)
+    (ran_of pr b).state.head.accepted ((replayed pr b (replicate row_space 0)).ran (rw rows_room (ap verdict_number e))))
 
 -- no text is longer than the buffer, whatever the book
-pub text-fits : (pr : Protocol) (b : List ℕ) → length (text_of pr b) ≤ reportSpace
-text-fits pr b = go (checkOf b rowSpace) refl
+pub text_fits : (pr : Protocol) (b : List ℕ) → length (text_of pr b) ≤ report_space
+text_fits pr b = go (check_of b row_space) refl
   where
-    go : (v : Verdict) → checkOf b rowSpace ≡ v → length (text_of pr b) ≤ reportSpace
-    go Verdict.Passed e = ran-text pr b e
-    go (Verdict.Refused why place) e = rw (refused-text pr b why place e)
+    go : (v : Verdict) → check_of b row_space ≡ v → length (text_of pr b) ≤ report_space
+    go Verdict.Passed e = ran_text pr b e
+    go (Verdict.Refused why place) e = rw (refused_text pr b why place e)
         (omega (
           arith,
-          stopped-long (replicate rowSpace 0) 0 (omega arith) (λ k l. absurd (omega arith)) 0 0 (take 0 fresh_of.delay) why place
-              (omega (arith, place-few b rowSpace why place e)),
+          stopped_long (replicate row_space 0) 0 (omega arith) (λ k l. absurd (omega arith)) 0 0 (take 0 fresh_of.delay) why place
+              (omega (arith, place_few b row_space why place e)),
         ))
 
 -- ---- so the whole of it stands at the front of the buffer
 
-front-whole : (out t : List ℕ) → length t ≤ length out → take (length t) (stored out 0 t) ≡ t
-front-whole out t h = ap (take (length t)) (stored-front out t h) ∙ take-append_seam t _
+front_whole : (out t : List ℕ) → length t ≤ length out → take (length t) (stored out 0 t) ≡ t
+front_whole out t h = ap (take (length t)) (stored_front out t h) ∙ take-append_seam t _
 
 -- the report of a replay, in a buffer with room for every text
-module _ (pr : Protocol) (b rows : List ℕ) (r : Replayed) (ran : ranAs r rows ≡ ranOf pr b)
-    (planned : r.plan ≡ (checkedOf b (length (replicate {A = ℕ} rowSpace 0))).plan)
-    (out : List ℕ) (room : reportSpace ≤ length out) (n : ℕ) (counted : n ≡ min (length (reported r rows)) (length out)) where
+module _ (pr : Protocol) (b rows : List ℕ) (r : Replayed) (ran : ran_as r rows ≡ ran_of pr b)
+    (planned : r.plan ≡ (checked_of b (length (replicate {A = ℕ} row_space 0))).plan)
+    (out : List ℕ) (room : report_space ≤ length out) (n : ℕ) (counted : n ≡ min (length (reported r rows)) (length out)) where
   pub whole_length : n ≡ length (text_of pr b)
-  whole_length = omega (arith, text-fits pr b, counted ∙ ap (λ (t : List ℕ). min (length t) (length out)) (text-is pr b rows r ran planned))
+  whole_length = omega (arith, text_fits pr b, counted ∙ ap (λ (t : List ℕ). min (length t) (length out)) (text_is pr b rows r ran planned))
 
-  pub whole-front : (after : List ℕ) → after ≡ stored out 0 (reported r rows) → take n after ≡ text_of pr b
-  whole-front after e =
-      rw (e ∙ ap (stored out 0) (text-is pr b rows r ran planned), whole_length) (front-whole out (text_of pr b) (omega (arith, text-fits pr b)))
+  pub whole_front : (after : List ℕ) → after ≡ stored out 0 (reported r rows) → take n after ≡ text_of pr b
+  whole_front after e =
+      rw (e ∙ ap (stored out 0) (text_is pr b rows r ran planned), whole_length) (front_whole out (text_of pr b) (omega (arith, text_fits pr b)))
 
   -- and what stands after it stays
-  pub whole-bytes : (after : List ℕ) → after ≡ stored out 0 (reported r rows) → after ≡ stored out 0 (text_of pr b)
-  whole-bytes after e = e ∙ ap (stored out 0) (text-is pr b rows r ran planned)
+  pub whole_bytes : (after : List ℕ) → after ≡ stored out 0 (reported r rows) → after ≡ stored out 0 (text_of pr b)
+  whole_bytes after e = e ∙ ap (stored out 0) (text_is pr b rows r ran planned)
 
   -- as a part of the buffer that is lent
-  pub whole-counts : (after : List ℕ) → after ≡ stored out 0 (reported r rows) → IsPrefixLen n after
-  whole-counts after e =
-      let fill : n ≡ length (take n after) = whole_length ∙ ap length (sym (whole-front after e)) in (omega (arith, length-take n after), fill)
+  pub whole_counts : (after : List ℕ) → after ≡ stored out 0 (reported r rows) → IsPrefixLen n after
+  whole_counts after e =
+      let fill : n ≡ length (take n after) = whole_length ∙ ap length (sym (whole_front after e)) in (omega (arith, length-take n after), fill)

@@ -1,20 +1,20 @@
 -- RULES 15.1: what the program writes for the bytes on its standard input: the report of the replay of that book, by the protocol that is asked for.
 -- Assumes nothing.
 use Rattle.std.specs.Prelude.{List, ℕ, take}
-use Rattle.rules.specs.Books.Book.{checkedOf}
+use Rattle.rules.specs.Books.Book.{checked_of}
 use Rattle.rules.specs.declared.protocol.Protocol.{Protocol}
-use Rattle.report.specs.Report.{reportOf}
-use Rattle.office.specs.Ran.{rowSpace, ranOf}
+use Rattle.report.specs.Report.{report_of}
+use Rattle.office.specs.Ran.{row_space, ran_of}
 
 -- RULES 15.7: as much of an input as the program reads: its buffer, `io::large_buffer`
-abbrev pub inputSpace : ℕ
-inputSpace = 65_536
+abbrev pub input_space : ℕ
+input_space = 65_536
 
 -- room for every text
-abbrev pub reportSpace : ℕ
-reportSpace = 262_144
+abbrev pub report_space : ℕ
+report_space = 262_144
 
 abbrev pub text_of : Protocol → List ℕ → List ℕ
 text_of pr b =
-    reportOf (ranOf pr b).verdict (ranOf pr b).state.head.accepted (ranOf pr b).rows (ranOf pr b).state.head.lazy (ranOf pr b).state.head.eager
-    (take (checkedOf b rowSpace).plan.tasks (ranOf pr b).state.delay)
+    report_of (ran_of pr b).verdict (ran_of pr b).state.head.accepted (ran_of pr b).rows (ran_of pr b).state.head.lazy (ran_of pr b).state.head.eager
+    (take (checked_of b row_space).plan.tasks (ran_of pr b).state.delay)

@@ -3,12 +3,12 @@
 mod words;
 
 ghost use Rattle.std.specs.Prelude.{◌≡◌, ◌≤◌, min, length, take};
-ghost use Rattle.rules.specs.Numbers.Capacity.{maxTasks};
+ghost use Rattle.rules.specs.Numbers.Capacity.{max_tasks};
 ghost use Rattle.rules.specs.Numbers.Place.{stored};
-ghost use Rattle.report.specs.Report.{reportOf};
+ghost use Rattle.report.specs.Report.{report_of};
 ghost use Rattle.io.specs.Counts.{IsPrefixLen};
-ghost use Rattle.office.specs.Explain.{explainedOf};
-ghost use Rattle.orbeshuri.specs.Text.{reportSpace, text_of};
+ghost use Rattle.office.specs.Explain.{explained_of};
+ghost use Rattle.orbeshuri.specs.Text.{report_space, text_of};
 
 use office::explain::explain;
 use office::space::text_room;
@@ -35,10 +35,10 @@ fn report_state(
     delay: [u16; MAX_TASKS],
     tasks: usize,
 ) -> usize
-    requires { tasks ≤ maxTasks }
-    ensures out_after { out.new ≡ stored out.old 0 (reportOf verdict head.accepted rows.now head.lazy head.eager
+    requires { tasks ≤ max_tasks }
+    ensures out_after { out.new ≡ stored out.old 0 (report_of verdict head.accepted rows.now head.lazy head.eager
         (take tasks delay)) }
-    ensures value { result ≡ min (length (reportOf verdict head.accepted rows.now head.lazy head.eager (take tasks delay)))
+    ensures value { result ≡ min (length (report_of verdict head.accepted rows.now head.lazy head.eager (take tasks delay)))
         (length out.old) }
 {
     let accepted = head.accepted as usize;
@@ -55,7 +55,7 @@ fn report_state(
 
 // The whole text for a book at the front of `out`, and how many bytes it has. The bytes after it stay.
 fn text(protocol: Protocol, book: &[u8], out: &mut [u8]) -> usize
-    requires { reportSpace ≤ length out.old }
+    requires { report_space ≤ length out.old }
     ensures value { result ≡ length (text_of protocol book.now) }
     ensures out_after { take result out.new ≡ text_of protocol book.now }
     ensures out_after_2 { out.new ≡ stored out.old 0 (text_of protocol book.now) }
@@ -72,7 +72,7 @@ fn text(protocol: Protocol, book: &[u8], out: &mut [u8]) -> usize
 
 // The words for a book at the front of `out`, and how many bytes they have.
 fn words_of(protocol: Protocol, book: &[u8], out: &mut [u8]) -> usize
-    ensures out_after { out.new ≡ stored out.old 0 (explainedOf protocol book.now) }
+    ensures out_after { out.new ≡ stored out.old 0 (explained_of protocol book.now) }
     ensures prefix_len { IsPrefixLen result out.new }
 {
     explain(protocol, book, out, 0)

@@ -1,7 +1,7 @@
 // The words that the program is started with: none for the second protocol, `first` for the first, and after that `explain`
 // where the replay is to be explained.
 ghost use Rattle.std.specs.Prelude.{◌≡◌};
-ghost use Rattle.orbeshuri.specs.Words.{byOne, byTwo, askedBy};
+ghost use Rattle.orbeshuri.specs.Words.{by_one, by_two, asked_by};
 
 use rules::protocol::Protocol;
 use texts::word::same;
@@ -15,7 +15,7 @@ pub enum Asked {
 }
 
 fn by_one(word: &[u8]) -> Asked
-    ensures { result ≡ byOne word.now }
+    ensures { result ≡ by_one word.now }
 {
     if same(word, b"first") {
         return Asked::By(Protocol::First);
@@ -27,7 +27,7 @@ fn by_one(word: &[u8]) -> Asked
 }
 
 fn by_two(one: &[u8], two: &[u8]) -> Asked
-    ensures { result ≡ byTwo one.now two.now }
+    ensures { result ≡ by_two one.now two.now }
 {
     if same(one, b"first") {
         if same(two, b"explain") {
@@ -40,7 +40,7 @@ fn by_two(one: &[u8], two: &[u8]) -> Asked
 
 // By how many words there are, the program's own name among them, and the first two after that name.
 pub fn asked_by(count: usize, one: &[u8], two: &[u8]) -> Asked
-    ensures { result ≡ askedBy count one.now two.now }
+    ensures { result ≡ asked_by count one.now two.now }
 {
     if count <= 1 {
         return Asked::By(Protocol::Second);

@@ -7,45 +7,45 @@ use native.Mathlib.Omega.{arith}
 use lib.Dec.{ltb}
 use lib.ListN.{length, set}
 use borrow.Author.Tests.{lt-ltb}
-use Rattle.rules.specs.Numbers.Capacity.{maxTasks, maxLocks}
+use Rattle.rules.specs.Numbers.Capacity.{max_tasks, max_locks}
 use Rattle.rules.specs.Numbers.Place.{at}
 use Rattle.rules.specs.Numbers.Choice.{if◌then◌else◌}
-use Rattle.rules.specs.Numbers.Mask.{withBit}
-use Rattle.rules.specs.Books.Load.{useTask, useLock, masksOf}
-use Rattle.rules.proofs.Numbers.Choice.{if-true}
+use Rattle.rules.specs.Numbers.Mask.{with_bit}
+use Rattle.rules.specs.Books.Load.{use_task, use_lock, masks_of}
+use Rattle.rules.proofs.Numbers.Choice.{if_true}
 use Rattle.plan.specs.Placed.{Placed}
 
 -- w is the use at place i
 module _ (n m i w : ℕ) (uses : List ℕ) (read : w ≡ at uses i) where
-  pub task-placed : Placed n m uses → i < length uses → useTask w < n
+  pub task_placed : Placed n m uses → i < length uses → use_task w < n
   unfolding Placed
-  task-placed h b = rw read (h i b).0
+  task_placed h b = rw read (h i b).0
 
-  pub lock-placed : Placed n m uses → i < length uses → useLock w < m
+  pub lock_placed : Placed n m uses → i < length uses → use_lock w < m
   unfolding Placed
-  lock-placed h b = rw read (h i b).1
+  lock_placed h b = rw read (h i b).1
 
 module _ (uses : List ℕ) where
   abbrev pub MasksSoFar : ℕ → List ℕ → Type 0
-  MasksSoFar i masks = (i ≤ length uses) × (masks ≡ masksOf uses i)
+  MasksSoFar i masks = (i ≤ length uses) × (masks ≡ masks_of uses i)
 
-  pub masks-start : (masks : List ℕ) → masks ≡ masksOf uses 0 → MasksSoFar 0 masks
-  masks-start masks e = (omega arith, e)
+  pub masks_start : (masks : List ℕ) → masks ≡ masks_of uses 0 → MasksSoFar 0 masks
+  masks_start masks e = (omega arith, e)
 
   -- w is the use at place i, t and l its ids, v the set with the lock
-  module _ (i w t l : ℕ) (read : w ≡ at uses i) (task : t ≡ useTask w) (lock : l ≡ useLock w) where
-    pub task-in : Placed maxTasks maxLocks uses → i < length uses → t < maxTasks
-    task-in h b = rw task (task-placed maxTasks maxLocks i w uses read h b)
+  module _ (i w t l : ℕ) (read : w ≡ at uses i) (task : t ≡ use_task w) (lock : l ≡ use_lock w) where
+    pub task_in_lem : Placed max_tasks max_locks uses → i < length uses → t < max_tasks
+    task_in_lem h b = rw task (task_placed max_tasks max_locks i w uses read h b)
 
-    pub lock-in : Placed maxTasks maxLocks uses → i < length uses → l < maxLocks
-    lock-in h b = rw lock (lock-placed maxTasks maxLocks i w uses read h b)
+    pub lock_in_lem : Placed max_tasks max_locks uses → i < length uses → l < max_locks
+    lock_in_lem h b = rw lock (lock_placed max_tasks max_locks i w uses read h b)
 
-    pub masks-next : (masks : List ℕ) (v : ℕ) → MasksSoFar i masks → i < length uses → Placed maxTasks maxLocks uses
-        → v ≡ (if ltb l maxLocks then withBit (at masks t) l else at masks t) → MasksSoFar (i + 1) (set masks t v)
-    unfolding masksOf
-    masks-next masks v e h u g =
-        let o : v ≡ withBit (at masks t) l = g ∙ if-true (ltb l maxLocks) (withBit (at masks t) l) (at masks t) (lt-ltb l maxLocks (lock-in u h)) in
+    pub masks_next : (masks : List ℕ) (v : ℕ) → MasksSoFar i masks → i < length uses → Placed max_tasks max_locks uses
+        → v ≡ (if ltb l max_locks then with_bit (at masks t) l else at masks t) → MasksSoFar (i + 1) (set masks t v)
+    unfolding masks_of
+    masks_next masks v e h u g =
+        let o : v ≡ with_bit (at masks t) l = g ∙ if_true (ltb l max_locks) (with_bit (at masks t) l) (at masks t) (lt-ltb l max_locks (lock_in_lem u h)) in
         (omega arith, rw (add-one i) (rw (o, task, lock, read, e.1)))
 
-  pub masks-end : (i : ℕ) (masks : List ℕ) → MasksSoFar i masks → length uses ≤ i → masks ≡ masksOf uses (length uses)
-  masks-end i masks e h = let q : i ≡ length uses = omega arith in e.1 ∙ ap (masksOf uses) q
+  pub masks_end : (i : ℕ) (masks : List ℕ) → MasksSoFar i masks → length uses ≤ i → masks ≡ masks_of uses (length uses)
+  masks_end i masks e h = let q : i ≡ length uses = omega arith in e.1 ∙ ap (masks_of uses) q

@@ -4,153 +4,153 @@ use mathlib.Core.List.{List}
 use Prim.Native.Nat.{ℕ, ◌+◌, ◌≤◌, ◌<◌}
 use native.Mathlib.Omega.{arith}
 use lib.ListN.{length, replicate}
-use Rattle.rules.specs.Numbers.Capacity.{maxTasks, maxLocks}
-use Rattle.rules.specs.Numbers.Place.{at, firstFrom, renewed, tabulate}
+use Rattle.rules.specs.Numbers.Capacity.{max_tasks, max_locks}
+use Rattle.rules.specs.Numbers.Place.{at, first_from, renewed, tabulate}
 use Rattle.rules.specs.Numbers.Choice.{if◌then◌else◌}
-use Rattle.rules.specs.Numbers.Refusal.{number_of, firstFault, checkFor}
-use Rattle.rules.specs.Books.Plan.{ceilingFault}
-use Rattle.rules.specs.Books.Load.{taskBase, taskMaximum, lockCeiling, lockLimit, countFaultOf, taskFaultAt, lockFaultAt, useFault, useAbove}
-use Rattle.rules.specs.Books.Load.{masksOf, plan_of, recordChecks, loadChecks, passedLoad, refusedLoad, loadedAs, load_of}
+use Rattle.rules.specs.Numbers.Refusal.{number_of, first_fault, check_for}
+use Rattle.rules.specs.Books.Plan.{ceiling_fault}
+use Rattle.rules.specs.Books.Load.{task_base, task_maximum, lock_ceiling, lock_limit, count_fault_of, task_fault_at, lock_fault_at, use_fault, use_above}
+use Rattle.rules.specs.Books.Load.{masks_of, plan_of, record_checks, load_checks, passed_load, refused_load, loaded_as, load_of}
 use Rattle.rules.specs.declared.plan.Plan.{Plan}
 use Rattle.rules.specs.declared.answer.Verdict.{Verdict}
 use Rattle.rules.specs.declared.answer.Loaded.{Loaded}
 use Rattle.rules.specs.declared.refusal.Refusal.{Refusal}
 use Rattle.rules.specs.declared.refusal.Refusal.TheVariants.{WrongCount, WrongTask, WrongLock, WrongUse, WrongCeiling, AboveMaximum}
-use Rattle.rules.proofs.Numbers.Place.{first-same, renewed-table, none-past}
-use Rattle.rules.proofs.Numbers.Checks.{Clean, clean-for, check-left, check-right, check-none, check-finds, check-passes}
-use Rattle.rules.proofs.Books.Loaded.{tasks-fit, locks-fit, use-known}
+use Rattle.rules.proofs.Numbers.Place.{first_same, renewed_table, none_past}
+use Rattle.rules.proofs.Numbers.Checks.{Clean, clean_for, check_left, check_right, check_none, check_finds, check_passes}
+use Rattle.rules.proofs.Books.Loaded.{tasks_fit, locks_fit, use_known}
 use Rattle.plan.specs.Placed.{Placed}
-use Rattle.plan.specs.Lent.{wrongCeiling}
-use Rattle.plan.proofs.Users.{ceiling-same}
+use Rattle.plan.specs.Lent.{wrong_ceiling}
+use Rattle.plan.proofs.Users.{ceiling_same}
 
 -- ---- the tables of the plan
 
 -- a table filled from the records has 0 past them
 table : (f : ℕ → ℕ) (n : ℕ) (xs : List ℕ) → f 0 ≡ 0 → length xs ≤ n → renewed (replicate n 0) (λ i. f (at xs i)) (length xs) ≡ tabulate n (λ i. f (at xs i))
-table f n xs z h = renewed-table (λ i. f (at xs i)) n (length xs) h (λ i l. ap f (sym (none-past xs (length xs) i refl l)) ∙ z)
+table f n xs z h = renewed_table (λ i. f (at xs i)) n (length xs) h (λ i l. ap f (sym (none_past xs (length xs) i refl l)) ∙ z)
 
-pub as-plan : (tasks locks uses base maximum ceiling limit masks : List ℕ) (few : (length tasks ≤ maxTasks) × (length locks ≤ maxLocks))
-    → base ≡ renewed (replicate maxTasks 0) (λ t. taskBase (at tasks t)) (length tasks)
-    → maximum ≡ renewed (replicate maxTasks 0) (λ t. taskMaximum (at tasks t)) (length tasks)
-    → ceiling ≡ renewed (replicate maxLocks 0) (λ l. lockCeiling (at locks l)) (length locks)
-    → limit ≡ renewed (replicate maxLocks 0) (λ l. lockLimit (at locks l)) (length locks)
-    → masks ≡ masksOf uses (length uses)
+pub as_plan : (tasks locks uses base maximum ceiling limit masks : List ℕ) (few : (length tasks ≤ max_tasks) × (length locks ≤ max_locks))
+    → base ≡ renewed (replicate max_tasks 0) (λ t. task_base (at tasks t)) (length tasks)
+    → maximum ≡ renewed (replicate max_tasks 0) (λ t. task_maximum (at tasks t)) (length tasks)
+    → ceiling ≡ renewed (replicate max_locks 0) (λ l. lock_ceiling (at locks l)) (length locks)
+    → limit ≡ renewed (replicate max_locks 0) (λ l. lock_limit (at locks l)) (length locks)
+    → masks ≡ masks_of uses (length uses)
     → ◌≡◌ {A = Plan}
     (record { tasks = length tasks; locks = length locks; base = base; maximum = maximum; ceiling = ceiling; limit = limit; uses = masks })
     (plan_of tasks locks uses)
 unfolding plan_of
-as-plan tasks locks uses base maximum ceiling limit masks few a b c d e = rw (
+as_plan tasks locks uses base maximum ceiling limit masks few a b c d e = rw (
   a,
   b,
   c,
   d,
   e,
-  table taskBase maxTasks tasks refl few.0,
-  table taskMaximum maxTasks tasks refl few.0,
-  table lockCeiling maxLocks locks refl few.1,
-  table lockLimit maxLocks locks refl few.1,
+  table task_base max_tasks tasks refl few.0,
+  table task_maximum max_tasks tasks refl few.0,
+  table lock_ceiling max_locks locks refl few.1,
+  table lock_limit max_locks locks refl few.1,
 )
 
 -- ---- 2, 4, 5 and 6, in this order
 
 -- e, t, l and u are their first offenders
-module _ (tasks locks uses : List ℕ) (e : ℕ) (count : e ≡ firstFrom (countFaultOf (length tasks) (length locks) (length uses)) 0 3) where
-  pub wrong-count : e < 3 → Verdict.Refused WrongCount (e + 1) ≡ firstFault (recordChecks tasks locks uses)
-  unfolding recordChecks
-  wrong-count h = sym (check-finds _ _ e count h ∙ ap (Verdict.Refused WrongCount) (omega arith))
+module _ (tasks locks uses : List ℕ) (e : ℕ) (count : e ≡ first_from (count_fault_of (length tasks) (length locks) (length uses)) 0 3) where
+  pub wrong_count : e < 3 → Verdict.Refused WrongCount (e + 1) ≡ first_fault (record_checks tasks locks uses)
+  unfolding record_checks
+  wrong_count h = sym (check_finds _ _ e count h ∙ ap (Verdict.Refused WrongCount) (omega arith))
 
-  module _ (counts : 3 ≤ e) (t : ℕ) (task : t ≡ firstFrom (taskFaultAt tasks) 0 (length tasks)) where
-    pub wrong-task : t < length tasks → Verdict.Refused WrongTask t ≡ firstFault (recordChecks tasks locks uses)
-    unfolding recordChecks
-    wrong-task h = sym (check-passes _ _ e count counts ∙ check-finds _ _ t task h ∙ ap (Verdict.Refused WrongTask) (omega arith))
+  module _ (counts : 3 ≤ e) (t : ℕ) (task : t ≡ first_from (task_fault_at tasks) 0 (length tasks)) where
+    pub wrong_task : t < length tasks → Verdict.Refused WrongTask t ≡ first_fault (record_checks tasks locks uses)
+    unfolding record_checks
+    wrong_task h = sym (check_passes _ _ e count counts ∙ check_finds _ _ t task h ∙ ap (Verdict.Refused WrongTask) (omega arith))
 
-    module _ (tasked : length tasks ≤ t) (l : ℕ) (lock : l ≡ firstFrom (lockFaultAt locks) 0 (length locks)) where
-      pub wrong-lock : l < length locks → Verdict.Refused WrongLock l ≡ firstFault (recordChecks tasks locks uses)
-      unfolding recordChecks
-      wrong-lock h = sym (check-passes _ _ e count counts ∙ check-passes _ _ t task tasked ∙ check-finds _ _ l lock h
+    module _ (tasked : length tasks ≤ t) (l : ℕ) (lock : l ≡ first_from (lock_fault_at locks) 0 (length locks)) where
+      pub wrong_lock : l < length locks → Verdict.Refused WrongLock l ≡ first_fault (record_checks tasks locks uses)
+      unfolding record_checks
+      wrong_lock h = sym (check_passes _ _ e count counts ∙ check_passes _ _ t task tasked ∙ check_finds _ _ l lock h
           ∙ ap (Verdict.Refused WrongLock) (omega arith))
 
-      module _ (locked : length locks ≤ l) (u : ℕ) (use' : u ≡ firstFrom (useFault (length tasks) (length locks) uses) 0 (length uses)) where
-        pub wrong-use : u < length uses → Verdict.Refused WrongUse u ≡ firstFault (recordChecks tasks locks uses)
-        unfolding recordChecks
-        wrong-use h = sym
-            (check-passes _ _ e count counts ∙ check-passes _ _ t task tasked ∙ check-passes _ _ l lock locked ∙ check-finds _ _ u use' h
+      module _ (locked : length locks ≤ l) (u : ℕ) (use' : u ≡ first_from (use_fault (length tasks) (length locks) uses) 0 (length uses)) where
+        pub wrong_use : u < length uses → Verdict.Refused WrongUse u ≡ first_fault (record_checks tasks locks uses)
+        unfolding record_checks
+        wrong_use h = sym
+            (check_passes _ _ e count counts ∙ check_passes _ _ t task tasked ∙ check_passes _ _ l lock locked ∙ check_finds _ _ u use' h
             ∙ ap (Verdict.Refused WrongUse) (omega arith))
 
-        pub no-wrong : length uses ≤ u → Verdict.Passed ≡ firstFault (recordChecks tasks locks uses)
-        unfolding recordChecks
-        no-wrong h = sym (check-passes _ _ e count counts ∙ check-passes _ _ t task tasked ∙ check-passes _ _ l lock locked ∙ check-passes _ _ u use' h
-            ∙ check-none)
+        pub no_wrong : length uses ≤ u → Verdict.Passed ≡ first_fault (record_checks tasks locks uses)
+        unfolding record_checks
+        no_wrong h = sym (check_passes _ _ e count counts ∙ check_passes _ _ t task tasked ∙ check_passes _ _ l lock locked ∙ check_passes _ _ u use' h
+            ∙ check_none)
 
 -- ---- then 7 and 24
 
 -- v is what the checks of the records say
-module _ (tasks locks uses : List ℕ) (v : Verdict) (said : v ≡ firstFault (recordChecks tasks locks uses)) where
+module _ (tasks locks uses : List ℕ) (v : Verdict) (said : v ≡ first_fault (record_checks tasks locks uses)) where
   abbrev p : Plan
   p = plan_of tasks locks uses
 
-  pub refused-record : (why : Refusal) (place : ℕ) (r : Loaded) → v ≡ Verdict.Refused why place → r ≡ refusedLoad why place → r ≡ load_of tasks locks uses
-  unfolding load_of loadedAs loadChecks
-  refused-record why place r e h = h ∙ ap (λ w. loadedAs w p) (sym (check-left (recordChecks tasks locks uses) _ why place (sym said ∙ e)))
+  pub refused_record_lem : (why : Refusal) (place : ℕ) (r : Loaded) → v ≡ Verdict.Refused why place → r ≡ refused_load why place → r ≡ load_of tasks locks uses
+  unfolding load_of loaded_as load_checks
+  refused_record_lem why place r e h = h ∙ ap (λ w. loaded_as w p) (sym (check_left (record_checks tasks locks uses) _ why place (sym said ∙ e)))
 
   module _ (passed : v ≡ Verdict.Passed) where
-    clean : (why : Refusal) → Clean (checkFor why (recordChecks tasks locks uses))
-    clean = clean-for (recordChecks tasks locks uses) (sym said ∙ passed)
+    clean : (why : Refusal) → Clean (check_for why (record_checks tasks locks uses))
+    clean = clean_for (record_checks tasks locks uses) (sym said ∙ passed)
 
-    pub few-tasks : length tasks ≤ maxTasks
-    unfolding recordChecks checkFor number_of if◌then◌else◌
-    few-tasks = tasks-fit (length tasks) (length locks) (length uses) (clean WrongCount 0 (omega arith))
+    pub few_tasks : length tasks ≤ max_tasks
+    unfolding record_checks check_for number_of if◌then◌else◌
+    few_tasks = tasks_fit (length tasks) (length locks) (length uses) (clean WrongCount 0 (omega arith))
 
-    pub few-locks : length locks ≤ maxLocks
-    unfolding recordChecks checkFor number_of if◌then◌else◌
-    few-locks = locks-fit (length tasks) (length locks) (length uses) (clean WrongCount 1 (omega arith))
+    pub few_locks : length locks ≤ max_locks
+    unfolding record_checks check_for number_of if◌then◌else◌
+    few_locks = locks_fit (length tasks) (length locks) (length uses) (clean WrongCount 1 (omega arith))
 
     pub known : Placed (length tasks) (length locks) uses
-    unfolding recordChecks checkFor number_of if◌then◌else◌ Placed
-    known i b = use-known (length tasks) (length locks) uses i (clean WrongUse i b)
+    unfolding record_checks check_for number_of if◌then◌else◌ Placed
+    known i b = use_known (length tasks) (length locks) uses i (clean WrongUse i b)
 
-    pub placed : Placed maxTasks maxLocks uses
+    pub placed : Placed max_tasks max_locks uses
     unfolding Placed
-    placed i b = let (t, l) = known i b in (omega (arith, few-tasks), omega (arith, few-locks))
+    placed i b = let (t, l) = known i b in (omega (arith, few_tasks), omega (arith, few_locks))
 
     -- q is the plan as built, and c its first lock of a wrong ceiling
     module _ (q : Plan) (built : q ≡ p) where
-      pub plan-tasks : q.tasks ≤ maxTasks
+      pub plan_tasks : q.tasks ≤ max_tasks
       unfolding plan_of
-      plan-tasks = rw built few-tasks
+      plan_tasks = rw built few_tasks
 
-      pub plan-locks : q.locks ≤ maxLocks
+      pub plan_locks : q.locks ≤ max_locks
       unfolding plan_of
-      plan-locks = rw built few-locks
+      plan_locks = rw built few_locks
 
-      module _ (c : ℕ) (ceiling : c ≡ firstFrom (wrongCeiling q.tasks q.base q.ceiling q.uses) 0 q.locks) where
-        first : c ≡ firstFrom (ceilingFault p) 0 (length locks)
+      module _ (c : ℕ) (ceiling : c ≡ first_from (wrong_ceiling q.tasks q.base q.ceiling q.uses) 0 q.locks) where
+        first : c ≡ first_from (ceiling_fault p) 0 (length locks)
         unfolding plan_of
         first =
-            ceiling ∙ ap (λ w. firstFrom (wrongCeiling w.tasks w.base w.ceiling w.uses) 0 w.locks) built
-            ∙ first-same _ _ 0 (length locks) (λ l a h. ceiling-same p l)
+            ceiling ∙ ap (λ w. first_from (wrong_ceiling w.tasks w.base w.ceiling w.uses) 0 w.locks) built
+            ∙ first_same _ _ 0 (length locks) (λ l a h. ceiling_same p l)
 
-        pub wrong-ceiling : (r : Loaded) → c < length locks → r ≡ refusedLoad WrongCeiling c → r ≡ load_of tasks locks uses
-        unfolding load_of loadedAs loadChecks
-        wrong-ceiling r h g =
+        pub wrong_ceiling_lem : (r : Loaded) → c < length locks → r ≡ refused_load WrongCeiling c → r ≡ load_of tasks locks uses
+        unfolding load_of loaded_as load_checks
+        wrong_ceiling_lem r h g =
             g
-            ∙ ap (λ w. loadedAs w p)
-            (sym (check-right (recordChecks tasks locks uses) _ (sym said ∙ passed) ∙ check-finds _ _ c first h
+            ∙ ap (λ w. loaded_as w p)
+            (sym (check_right (record_checks tasks locks uses) _ (sym said ∙ passed) ∙ check_finds _ _ c first h
             ∙ ap (Verdict.Refused WrongCeiling) (omega arith)))
 
         -- u is the first use of a lock above its task's maximum
-        module _ (right : length locks ≤ c) (u : ℕ) (above : u ≡ firstFrom (useAbove tasks locks uses) 0 (length uses)) where
-          pub wrong-maximum : (r : Loaded) → u < length uses → r ≡ refusedLoad AboveMaximum u → r ≡ load_of tasks locks uses
-          unfolding load_of loadedAs loadChecks
-          wrong-maximum r h g =
+        module _ (right : length locks ≤ c) (u : ℕ) (above : u ≡ first_from (use_above tasks locks uses) 0 (length uses)) where
+          pub wrong_maximum : (r : Loaded) → u < length uses → r ≡ refused_load AboveMaximum u → r ≡ load_of tasks locks uses
+          unfolding load_of loaded_as load_checks
+          wrong_maximum r h g =
               g
-              ∙ ap (λ w. loadedAs w p)
-              (sym (check-right (recordChecks tasks locks uses) _ (sym said ∙ passed) ∙ check-passes _ _ c first right ∙ check-finds _ _ u above h
+              ∙ ap (λ w. loaded_as w p)
+              (sym (check_right (record_checks tasks locks uses) _ (sym said ∙ passed) ∙ check_passes _ _ c first right ∙ check_finds _ _ u above h
               ∙ ap (Verdict.Refused AboveMaximum) (omega arith)))
 
-          pub all_right : (r : Loaded) → length uses ≤ u → r ≡ passedLoad q → r ≡ load_of tasks locks uses
-          unfolding load_of loadedAs loadChecks
+          pub all_right : (r : Loaded) → length uses ≤ u → r ≡ passed_load q → r ≡ load_of tasks locks uses
+          unfolding load_of loaded_as load_checks
           all_right r h g =
-              g ∙ ap passedLoad built
-              ∙ ap (λ w. loadedAs w p)
-              (sym (check-right (recordChecks tasks locks uses) _ (sym said ∙ passed) ∙ check-passes _ _ c first right ∙ check-passes _ _ u above h ∙ check-none))
+              g ∙ ap passed_load built
+              ∙ ap (λ w. loaded_as w p)
+              (sym (check_right (record_checks tasks locks uses) _ (sym said ∙ passed) ∙ check_passes _ _ c first right ∙ check_passes _ _ u above h ∙ check_none))

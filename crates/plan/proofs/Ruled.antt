@@ -9,126 +9,126 @@ use lib.Dec.{eqb, ltb}
 use lib.ListN.{drop}
 use lib.Pow.{pow-lt}
 use borrow.Author.Tests.{eq-eqb, ne_eqb, lt-ltb, le-ltb, ltb-false}
-use Rattle.rules.proofs.Numbers.Choice.{or-false, all-next}
-use Rattle.rules.specs.Numbers.Capacity.{maxTasks, maxLocks}
-use Rattle.rules.specs.Numbers.Choice.{if◌then◌else◌, allTrue}
-use Rattle.rules.specs.Books.Plan.{most, countFault, taskFault, lockFault, declares, aboveFault}
-use Rattle.rules.specs.Numbers.Mask.{hasBit}
+use Rattle.rules.proofs.Numbers.Choice.{or_false, all_next}
+use Rattle.rules.specs.Numbers.Capacity.{max_tasks, max_locks}
+use Rattle.rules.specs.Numbers.Choice.{if◌then◌else◌, all_true}
+use Rattle.rules.specs.Books.Plan.{most, count_fault, task_fault, lock_fault, declares, above_fault}
+use Rattle.rules.specs.Numbers.Mask.{has_bit}
 use Rattle.rules.specs.Numbers.Place.{at, every, zeros}
-use Rattle.rules.specs.Soundness.SoundTest.{taskObeys, lockObeys, spareObeys, obeys}
+use Rattle.rules.specs.Soundness.SoundTest.{task_obeys, lock_obeys, spare_obeys, obeys}
 use Rattle.rules.specs.declared.plan.Plan.{Plan}
-use Rattle.plan.specs.Lent.{usersTop, sharedBy, above_by, taskBy, lockBy, spareBy, partsBy}
-use Rattle.plan.proofs.Users.{ceiling-said, ceiling-same}
+use Rattle.plan.specs.Lent.{users_top, shared_by, above_by, task_by, lock_by, spare_by, parts_by}
+use Rattle.plan.proofs.Users.{ceiling_said, ceiling_same}
 
-last : (t : Bool) → t ≡ allTrue (t ∷ [])
-unfolding allTrue if◌then◌else◌
+last : (t : Bool) → t ≡ all_true (t ∷ [])
+unfolding all_true if◌then◌else◌
 last true = refl
 last false = refl
 
 -- counts that pass
-pub tasks-fit : (r : Bool) (n : ℕ) → r ≡ countFault 0 n → r ≡ false → n ≤ maxTasks
-unfolding countFault most if◌then◌else◌
-tasks-fit r n d e = ltb-false maxTasks n (or-false (eqb n 0) (ltb maxTasks n) (sym d ∙ e)).1
+pub tasks_fit : (r : Bool) (n : ℕ) → r ≡ count_fault 0 n → r ≡ false → n ≤ max_tasks
+unfolding count_fault most if◌then◌else◌
+tasks_fit r n d e = ltb-false max_tasks n (or_false (eqb n 0) (ltb max_tasks n) (sym d ∙ e)).1
 
-pub locks-fit : (r : Bool) (m : ℕ) → r ≡ countFault 1 m → r ≡ false → m ≤ maxLocks
-unfolding countFault most if◌then◌else◌
-locks-fit r m d e = ltb-false maxLocks m (sym d ∙ e)
+pub locks_fit : (r : Bool) (m : ℕ) → r ≡ count_fault 1 m → r ≡ false → m ≤ max_locks
+unfolding count_fault most if◌then◌else◌
+locks_fit r m d e = ltb-false max_locks m (sym d ∙ e)
 
 -- a task with base b, maximum c and set of locks u, where there are m locks
 module _ (b c u m : ℕ) where
-  abbrev taskAll : Bool
-  taskAll = allTrue (not (taskFault b c) ∷ ltb b (2 ^ 8) ∷ ltb c (2 ^ 8) ∷ ltb u (2 ^ m) ∷ [])
+  abbrev task_all : Bool
+  task_all = all_true (not (task_fault b c) ∷ ltb b (2 ^ 8) ∷ ltb c (2 ^ 8) ∷ ltb u (2 ^ m) ∷ [])
 
-  pub task-unbased : b ≡ 0 → false ≡ taskAll
-  unfolding taskFault allTrue if◌then◌else◌
-  task-unbased e = rw (eq-eqb b 0 e)
+  pub task_unbased : b ≡ 0 → false ≡ task_all
+  unfolding task_fault all_true if◌then◌else◌
+  task_unbased e = rw (eq-eqb b 0 e)
 
-  pub task-below : (b ≡ 0 → ⊥) → c < b → false ≡ taskAll
-  unfolding taskFault allTrue if◌then◌else◌
-  task-below n h = rw (ne_eqb b 0 n, lt-ltb c b h)
+  pub task_below : (b ≡ 0 → ⊥) → c < b → false ≡ task_all
+  unfolding task_fault all_true if◌then◌else◌
+  task_below n h = rw (ne_eqb b 0 n, lt-ltb c b h)
 
-  pub task-based : (b ≡ 0 → ⊥) → b ≤ c → b < 2 ^ 8 → c < 2 ^ 8 → m ≤ maxLocks → ltb u (1 * 2 ^ m % 2 ^ 64) ≡ taskAll
-  unfolding taskFault allTrue if◌then◌else◌
-  task-based n o h k l =
+  pub task_based : (b ≡ 0 → ⊥) → b ≤ c → b < 2 ^ 8 → c < 2 ^ 8 → m ≤ max_locks → ltb u (1 * 2 ^ m % 2 ^ 64) ≡ task_all
+  unfolding task_fault all_true if◌then◌else◌
+  task_based n o h k l =
       let q : 2 ^ m < 2 ^ 64 = (let k : m < 64 = omega arith in pow-lt k) in
       rw (ne_eqb b 0 n, le-ltb c b o, lt-ltb b (2 ^ 8) h, lt-ltb c (2 ^ 8) k, one-mul (2 ^ m), mod-eq_of_lt q) (last (ltb u (2 ^ m)))
 
 -- a lock with ceiling c and limit u; w says that its ceiling is wrong, and v that it is above a user's maximum
 module _ (c u : ℕ) (w v : Bool) where
-  abbrev lockAll : Bool
-  lockAll = allTrue (not (lockFault c 0 u) ∷ ltb c (2 ^ 8) ∷ ltb u (2 ^ 16) ∷ not w ∷ not v ∷ [])
+  abbrev lock_all : Bool
+  lock_all = all_true (not (lock_fault c 0 u) ∷ ltb c (2 ^ 8) ∷ ltb u (2 ^ 16) ∷ not w ∷ not v ∷ [])
 
-  pub lock-unceiled : c ≡ 0 → false ≡ lockAll
-  unfolding lockFault allTrue if◌then◌else◌
-  lock-unceiled e = rw (eq-eqb c 0 e)
+  pub lock_unceiled : c ≡ 0 → false ≡ lock_all
+  unfolding lock_fault all_true if◌then◌else◌
+  lock_unceiled e = rw (eq-eqb c 0 e)
 
-  pub lock-unlimited : (c ≡ 0 → ⊥) → u ≡ 0 → false ≡ lockAll
-  unfolding lockFault allTrue if◌then◌else◌
-  lock-unlimited n e = rw (ne_eqb c 0 n, eq-eqb u 0 e)
+  pub lock_unlimited : (c ≡ 0 → ⊥) → u ≡ 0 → false ≡ lock_all
+  unfolding lock_fault all_true if◌then◌else◌
+  lock_unlimited n e = rw (ne_eqb c 0 n, eq-eqb u 0 e)
 
   module _ (n : c ≡ 0 → ⊥) (z : u ≡ 0 → ⊥) (a : c < 2 ^ 8) (b : u < 2 ^ 16) where
-    pub lock-wrong : w ≡ true → false ≡ lockAll
-    unfolding lockFault allTrue if◌then◌else◌
-    lock-wrong e = rw (ne_eqb c 0 n, ne_eqb u 0 z, lt-ltb c (2 ^ 8) a, lt-ltb u (2 ^ 16) b, e)
+    pub lock_wrong : w ≡ true → false ≡ lock_all
+    unfolding lock_fault all_true if◌then◌else◌
+    lock_wrong e = rw (ne_eqb c 0 n, ne_eqb u 0 z, lt-ltb c (2 ^ 8) a, lt-ltb u (2 ^ 16) b, e)
 
-    pub lock-limited : w ≡ false → not v ≡ lockAll
-    unfolding lockFault allTrue if◌then◌else◌
-    lock-limited e = rw (ne_eqb c 0 n, ne_eqb u 0 z, lt-ltb c (2 ^ 8) a, lt-ltb u (2 ^ 16) b, e) (last (not v))
+    pub lock_limited : w ≡ false → not v ≡ lock_all
+    unfolding lock_fault all_true if◌then◌else◌
+    lock_limited e = rw (ne_eqb c 0 n, ne_eqb u 0 z, lt-ltb c (2 ^ 8) a, lt-ltb u (2 ^ 16) b, e) (last (not v))
 
 -- the test of lock l, of ceiling c and limit u; top and v are what its users say, and w is what 7 says
-pub lock-tested : (n shared l c u : ℕ) (base maximum ceiling limit uses : List ℕ) (top : ℕ) (w v r : Bool) → shared ≡ sharedBy n uses
-    → c ≡ at ceiling l → u ≡ at limit l → top ≡ usersTop n base uses l → v ≡ above_by n maximum c uses l
-    → w ≡ (not (hasBit shared l) || not (eqb c top))
-    → r ≡ allTrue (not (lockFault c 0 u) ∷ ltb c (2 ^ 8) ∷ ltb u (2 ^ 16) ∷ not w ∷ not v ∷ [])
-    → r ≡ lockBy n base maximum ceiling limit uses l
-unfolding lockBy
-lock-tested n shared l c u base maximum ceiling limit uses top w v r found b k t o e d =
-    d ∙ rw (ceiling-said n shared l base ceiling uses found c top w b t e, o, b, k)
+pub lock_tested : (n shared l c u : ℕ) (base maximum ceiling limit uses : List ℕ) (top : ℕ) (w v r : Bool) → shared ≡ shared_by n uses
+    → c ≡ at ceiling l → u ≡ at limit l → top ≡ users_top n base uses l → v ≡ above_by n maximum c uses l
+    → w ≡ (not (has_bit shared l) || not (eqb c top))
+    → r ≡ all_true (not (lock_fault c 0 u) ∷ ltb c (2 ^ 8) ∷ ltb u (2 ^ 16) ∷ not w ∷ not v ∷ [])
+    → r ≡ lock_by n base maximum ceiling limit uses l
+unfolding lock_by
+lock_tested n shared l c u base maximum ceiling limit uses top w v r found b k t o e d =
+    d ∙ rw (ceiling_said n shared l base ceiling uses found c top w b t e, o, b, k)
 
 -- the places past the last task and the last lock
-pub spare-parts : (n m : ℕ) (base maximum ceiling limit uses : List ℕ) (r a b c d e : Bool) → r ≡ allTrue (a ∷ b ∷ c ∷ d ∷ e ∷ [])
+pub spare_parts : (n m : ℕ) (base maximum ceiling limit uses : List ℕ) (r a b c d e : Bool) → r ≡ all_true (a ∷ b ∷ c ∷ d ∷ e ∷ [])
     → a ≡ zeros (drop n base) → b ≡ zeros (drop n maximum) → c ≡ zeros (drop n uses) → d ≡ zeros (drop m ceiling) → e ≡ zeros (drop m limit)
-    → r ≡ spareBy n m base maximum ceiling limit uses
-unfolding spareBy
-spare-parts n m base maximum ceiling limit uses r a b c d e q A B C D E = rw (← A, ← B, ← C, ← D, ← E) q
+    → r ≡ spare_by n m base maximum ceiling limit uses
+unfolding spare_by
+spare_parts n m base maximum ceiling limit uses r a b c d e q A B C D E = rw (← A, ← B, ← C, ← D, ← E) q
 
 -- ---- the whole plan
 
 -- what is the same below n is the same for every one of them
-every-same : (f g : ℕ → Bool) (n : ℕ) → ((x : ℕ) → x < n → f x ≡ g x) → every f n ≡ every g n
+every_same : (f g : ℕ → Bool) (n : ℕ) → ((x : ℕ) → x < n → f x ≡ g x) → every f n ≡ every g n
 unfolding every
-every-same f g zero h = refl
-every-same f g (suc k) h = rw (every-same f g k (λ x l. h x (omega arith)), h k (omega arith))
+every_same f g zero h = refl
+every_same f g (suc k) h = rw (every_same f g k (λ x l. h x (omega arith)), h k (omega arith))
 
 module _ (p : Plan) where
   -- the tests of this plan, by its arrays
-  abbrev lockHere : ℕ → Bool
-  lockHere = lockBy p.tasks p.base p.maximum p.ceiling p.limit p.uses
+  abbrev lock_here : ℕ → Bool
+  lock_here = lock_by p.tasks p.base p.maximum p.ceiling p.limit p.uses
 
   abbrev parts : Bool
-  parts = partsBy p.tasks p.locks p.base p.maximum p.ceiling p.limit p.uses
+  parts = parts_by p.tasks p.locks p.base p.maximum p.ceiling p.limit p.uses
 
-  task-same : (t : ℕ) → taskBy p.locks p.base p.maximum p.uses t ≡ taskObeys p t
-  unfolding taskBy taskObeys
-  task-same t = refl
+  task_same : (t : ℕ) → task_by p.locks p.base p.maximum p.uses t ≡ task_obeys p t
+  unfolding task_by task_obeys
+  task_same t = refl
 
-  lock-same : (l : ℕ) → lockHere l ≡ lockObeys p l
-  unfolding lockBy lockObeys above_by aboveFault declares
-  lock-same l = rw (ceiling-same p l)
+  lock_same : (l : ℕ) → lock_here l ≡ lock_obeys p l
+  unfolding lock_by lock_obeys above_by above_fault declares
+  lock_same l = rw (ceiling_same p l)
 
-  spare-same : spareBy p.tasks p.locks p.base p.maximum p.ceiling p.limit p.uses ≡ spareObeys p
-  unfolding spareBy spareObeys
-  spare-same = refl
+  spare_same : spare_by p.tasks p.locks p.base p.maximum p.ceiling p.limit p.uses ≡ spare_obeys p
+  unfolding spare_by spare_obeys
+  spare_same = refl
 
-  parts_same : parts ≡ allTrue (every (taskObeys p) p.tasks ∷ every (lockObeys p) p.locks ∷ spareObeys p ∷ [])
-  unfolding partsBy
+  parts_same : parts ≡ all_true (every (task_obeys p) p.tasks ∷ every (lock_obeys p) p.locks ∷ spare_obeys p ∷ [])
+  unfolding parts_by
   parts_same = rw (
-    every-same (taskBy p.locks p.base p.maximum p.uses) (taskObeys p) p.tasks (λ t h. task-same t),
-    every-same lockHere (lockObeys p) p.locks (λ l h. lock-same l),
-    spare-same,
+    every_same (task_by p.locks p.base p.maximum p.uses) (task_obeys p) p.tasks (λ t h. task_same t),
+    every_same lock_here (lock_obeys p) p.locks (λ l h. lock_same l),
+    spare_same,
   )
 
   -- a and b say what 2 says of the counts
-  pub parts-obey : (a b r : Bool) → a ≡ countFault 0 p.tasks → a ≡ false → b ≡ countFault 1 p.locks → b ≡ false → r ≡ parts → r ≡ obeys p
+  pub parts_obey : (a b r : Bool) → a ≡ count_fault 0 p.tasks → a ≡ false → b ≡ count_fault 1 p.locks → b ≡ false → r ≡ parts → r ≡ obeys p
   unfolding obeys
-  parts-obey a b r d e g h q = all-next _ r _ (ap not (sym d ∙ e)) (all-next _ r _ (ap not (sym g ∙ h)) (q ∙ parts_same))
+  parts_obey a b r d e g h q = all_next _ r _ (ap not (sym d ∙ e)) (all_next _ r _ (ap not (sym g ∙ h)) (q ∙ parts_same))

@@ -1,9 +1,9 @@
 // The plan of records that pass 2 and 4 to 6.
 ghost use Rattle.std.specs.Prelude.{◌≡◌, ◌≤◌, length};
 ghost use Rattle.rules.specs.Numbers.Place.{at, renewed};
-ghost use Rattle.rules.specs.Numbers.Capacity.{maxTasks, maxLocks};
+ghost use Rattle.rules.specs.Numbers.Capacity.{max_tasks, max_locks};
 ghost use Rattle.plan.specs.Placed.{Placed};
-ghost use Rattle.rules.specs.Books.Load.{taskBase, taskMaximum, lockCeiling, lockLimit, masksOf, plan_of, refusedLoad, passedLoad};
+ghost use Rattle.rules.specs.Books.Load.{task_base, task_maximum, lock_ceiling, lock_limit, masks_of, plan_of, refused_load, passed_load};
 
 use crate::record::{lock_ceiling, lock_limit, task_base, task_maximum, use_lock, use_task};
 use figures::mask::with_bit;
@@ -14,7 +14,7 @@ use rules::refusal::Refusal;
 
 // The blank plan beside a refusal.
 pub fn refused(why: Refusal, place: usize) -> Loaded
-    ensures { result ≡ refusedLoad why place }
+    ensures { result ≡ refused_load why place }
 {
     let plan = blank();
     Loaded {
@@ -24,7 +24,7 @@ pub fn refused(why: Refusal, place: usize) -> Loaded
 }
 
 pub fn loaded(plan: Plan) -> Loaded
-    ensures { result ≡ passedLoad plan }
+    ensures { result ≡ passed_load plan }
 {
     Loaded {
         verdict: Verdict::Passed,
@@ -33,9 +33,9 @@ pub fn loaded(plan: Plan) -> Loaded
 }
 
 fn fill_tasks(tasks: &[u16], base: &mut [u8; MAX_TASKS], maximum: &mut [u8; MAX_TASKS])
-    requires { length tasks.now ≤ maxTasks }
-    ensures { (base.new ≡ renewed base.old (λ t. taskBase (at tasks.now t)) (length tasks.now))
-        × (maximum.new ≡ renewed maximum.old (λ t. taskMaximum (at tasks.now t)) (length tasks.now)) }
+    requires { length tasks.now ≤ max_tasks }
+    ensures { (base.new ≡ renewed base.old (λ t. task_base (at tasks.now t)) (length tasks.now))
+        × (maximum.new ≡ renewed maximum.old (λ t. task_maximum (at tasks.now t)) (length tasks.now)) }
 {
     let mut t: usize = 0;
     while t < tasks.len() {
@@ -47,9 +47,9 @@ fn fill_tasks(tasks: &[u16], base: &mut [u8; MAX_TASKS], maximum: &mut [u8; MAX_
 }
 
 fn fill_locks(locks: &[u32], ceiling: &mut [u8; MAX_LOCKS], limit: &mut [u16; MAX_LOCKS])
-    requires { length locks.now ≤ maxLocks }
-    ensures { (ceiling.new ≡ renewed ceiling.old (λ l. lockCeiling (at locks.now l)) (length locks.now))
-        × (limit.new ≡ renewed limit.old (λ l. lockLimit (at locks.now l)) (length locks.now)) }
+    requires { length locks.now ≤ max_locks }
+    ensures { (ceiling.new ≡ renewed ceiling.old (λ l. lock_ceiling (at locks.now l)) (length locks.now))
+        × (limit.new ≡ renewed limit.old (λ l. lock_limit (at locks.now l)) (length locks.now)) }
 {
     let mut l: usize = 0;
     while l < locks.len() {
@@ -61,9 +61,9 @@ fn fill_locks(locks: &[u32], ceiling: &mut [u8; MAX_LOCKS], limit: &mut [u16; MA
 }
 
 fn fill_masks(uses: &[u16], masks: &mut [u32; MAX_TASKS])
-    requires masks_value { masks.old ≡ masksOf uses.now 0 }
-    requires placed { Placed maxTasks maxLocks uses.now }
-    ensures { masks.new ≡ masksOf uses.now (length uses.now) }
+    requires masks_value { masks.old ≡ masks_of uses.now 0 }
+    requires placed { Placed max_tasks max_locks uses.now }
+    ensures { masks.new ≡ masks_of uses.now (length uses.now) }
 {
     let mut i: usize = 0;
     while i < uses.len() {
@@ -77,8 +77,8 @@ fn fill_masks(uses: &[u16], masks: &mut [u32; MAX_TASKS])
 }
 
 pub fn built(tasks: &[u16], locks: &[u32], uses: &[u16]) -> Plan
-    requires tasks_len_bound { (length tasks.now ≤ maxTasks) × (length locks.now ≤ maxLocks) }
-    requires placed { Placed maxTasks maxLocks uses.now }
+    requires tasks_len_bound { (length tasks.now ≤ max_tasks) × (length locks.now ≤ max_locks) }
+    requires placed { Placed max_tasks max_locks uses.now }
     ensures { result ≡ plan_of tasks.now locks.now uses.now }
 {
     let mut base = [0u8; MAX_TASKS];

@@ -1,6 +1,6 @@
 // 2: how many records an entry may have. Entries are 0 tasks, 1 locks, 2 uses, 3 events.
 ghost use Rattle.std.specs.Prelude.{◌≡◌};
-ghost use Rattle.rules.specs.Books.Plan.{most, countFault};
+ghost use Rattle.rules.specs.Books.Plan.{most, count_fault};
 
 use rules::capacity::{MAX_EVENTS, MAX_LOCKS, MAX_TASKS, MAX_USES};
 
@@ -22,7 +22,7 @@ pub fn most_of(e: usize) -> usize
 
 // Whether n records are out of range for entry e.
 pub fn count_fault(e: usize, n: usize) -> bool
-    ensures { result ≡ countFault e n }
+    ensures { result ≡ count_fault e n }
 {
     if n == 0 {
         return e == 0;

@@ -1,11 +1,11 @@
 // The first offender of 2, 4, 5 and 6; where there is none, the number of records.
 ghost use Rattle.std.specs.Prelude.{◌≡◌, ◌<◌, eqb, length};
 ghost use Rattle.rules.specs.Numbers.Choice.{if◌then◌else◌};
-ghost use Rattle.rules.specs.Numbers.Place.{firstFrom};
-ghost use Rattle.rules.specs.Books.Plan.{taskFault, lockFault};
-ghost use Rattle.rules.specs.Books.Load.{taskBase, taskMaximum, lockCeiling, lockSecond, lockLimit, useKey};
-ghost use Rattle.rules.specs.Books.Load.{countFaultOf, taskFaultAt, lockFaultAt, useFault, recordChecks};
-ghost use Rattle.rules.specs.Numbers.Refusal.{firstFault};
+ghost use Rattle.rules.specs.Numbers.Place.{first_from};
+ghost use Rattle.rules.specs.Books.Plan.{task_fault, lock_fault};
+ghost use Rattle.rules.specs.Books.Load.{task_base, task_maximum, lock_ceiling, lock_second, lock_limit, use_key};
+ghost use Rattle.rules.specs.Books.Load.{count_fault_of, task_fault_at, lock_fault_at, use_fault, record_checks};
+ghost use Rattle.rules.specs.Numbers.Refusal.{first_fault};
 
 use crate::count::count_fault;
 use crate::record::{
@@ -27,7 +27,7 @@ fn count_of(n: usize, m: usize, u: usize, e: usize) -> usize
 }
 
 fn first_count(n: usize, m: usize, u: usize) -> usize
-    ensures { result ≡ firstFrom (countFaultOf n m u) 0 3 }
+    ensures { result ≡ first_from (count_fault_of n m u) 0 3 }
 {
     let mut e: usize = 0;
     while e < 3 {
@@ -41,7 +41,7 @@ fn first_count(n: usize, m: usize, u: usize) -> usize
 }
 
 fn task_fault(w: u16) -> bool
-    ensures { result ≡ taskFault (taskBase w) (taskMaximum w) }
+    ensures { result ≡ task_fault (task_base w) (task_maximum w) }
 {
     let base = task_base(w);
     if base == 0 {
@@ -51,7 +51,7 @@ fn task_fault(w: u16) -> bool
 }
 
 fn first_task(tasks: &[u16]) -> usize
-    ensures { result ≡ firstFrom (taskFaultAt tasks.now) 0 (length tasks.now) }
+    ensures { result ≡ first_from (task_fault_at tasks.now) 0 (length tasks.now) }
 {
     let mut i: usize = 0;
     while i < tasks.len() {
@@ -64,7 +64,7 @@ fn first_task(tasks: &[u16]) -> usize
 }
 
 fn lock_fault(w: u32) -> bool
-    ensures { result ≡ lockFault (lockCeiling w) (lockSecond w) (lockLimit w) }
+    ensures { result ≡ lock_fault (lock_ceiling w) (lock_second w) (lock_limit w) }
 {
     if lock_ceiling(w) == 0 {
         return true;
@@ -76,7 +76,7 @@ fn lock_fault(w: u32) -> bool
 }
 
 fn first_lock(locks: &[u32]) -> usize
-    ensures { result ≡ firstFrom (lockFaultAt locks.now) 0 (length locks.now) }
+    ensures { result ≡ first_from (lock_fault_at locks.now) 0 (length locks.now) }
 {
     let mut i: usize = 0;
     while i < locks.len() {
@@ -89,7 +89,7 @@ fn first_lock(locks: &[u32]) -> usize
 }
 
 fn use_key(w: u16) -> u16
-    ensures { result ≡ useKey w }
+    ensures { result ≡ use_key w }
 {
     let task = use_task(w) as u16;
     let lock = use_lock(w) as u16;
@@ -98,7 +98,7 @@ fn use_key(w: u16) -> u16
 
 fn use_fault(n: usize, m: usize, uses: &[u16], i: usize) -> bool
     requires { i < length uses.now }
-    ensures { result ≡ useFault n m uses.now i }
+    ensures { result ≡ use_fault n m uses.now i }
 {
     let w = uses[i];
     let task = use_task(w) as usize;
@@ -117,7 +117,7 @@ fn use_fault(n: usize, m: usize, uses: &[u16], i: usize) -> bool
 }
 
 fn first_use(n: usize, m: usize, uses: &[u16]) -> usize
-    ensures { result ≡ firstFrom (useFault n m uses.now) 0 (length uses.now) }
+    ensures { result ≡ first_from (use_fault n m uses.now) 0 (length uses.now) }
 {
     let mut i: usize = 0;
     while i < uses.len() {
@@ -131,7 +131,7 @@ fn first_use(n: usize, m: usize, uses: &[u16]) -> usize
 
 // 2, 4, 5 and 6, in this order, each at its first offender.
 pub fn first_record(tasks: &[u16], locks: &[u32], uses: &[u16]) -> Verdict
-    ensures { result ≡ firstFault (recordChecks tasks.now locks.now uses.now) }
+    ensures { result ≡ first_fault (record_checks tasks.now locks.now uses.now) }
 {
     let n = tasks.len();
     let m = locks.len();

@@ -11,7 +11,7 @@ mod walk;
 
 ghost use Rattle.std.specs.Prelude.{◌≡◌};
 ghost use Rattle.rules.specs.Books.Load.{load_of};
-ghost use Rattle.rules.specs.Demands.Bound.{boundOf};
+ghost use Rattle.rules.specs.Demands.Bound.{bound_of};
 ghost use Rattle.rules.specs.Soundness.SoundTest as SoundTest;
 
 use rules::answer::{Loaded, Verdict};
@@ -43,7 +43,7 @@ pub fn load(tasks: &[u16], locks: &[u32], uses: &[u16]) -> Loaded
 
 // The bound on the delay of task t: the greatest limit of a lock that may hold it up.
 pub fn bound(p: Plan, t: usize) -> u16
-    ensures { result ≡ boundOf p t }
+    ensures { result ≡ bound_of p t }
 {
     let b = lower::base_of(p, t);
     lower::longest(p, b)

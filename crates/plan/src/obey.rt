@@ -1,11 +1,11 @@
 // Whether a plan that is handed in obeys 4 to 7 and 24, and holds 0 in its unused places. Each test is
 // lent the arrays that it asks.
 ghost use Rattle.std.specs.Prelude.{◌≡◌, not, [], ◌∷◌, ◌≤◌, ◌<◌, ◌^◌, ltb};
-ghost use Rattle.rules.specs.Numbers.Capacity.{maxLocks, maxTasks};
-ghost use Rattle.rules.specs.Numbers.Choice.{allTrue};
+ghost use Rattle.rules.specs.Numbers.Capacity.{max_locks, max_tasks};
+ghost use Rattle.rules.specs.Numbers.Choice.{all_true};
 ghost use Rattle.rules.specs.Numbers.Place.{every};
-ghost use Rattle.rules.specs.Books.Plan.{lockFault, taskFault};
-ghost use Rattle.plan.specs.Lent.{lockBy, partsBy, sharedBy, spareBy, taskBy};
+ghost use Rattle.rules.specs.Books.Plan.{lock_fault, task_fault};
+ghost use Rattle.plan.specs.Lent.{lock_by, parts_by, shared_by, spare_by, task_by};
 
 use crate::ceilings::{other_ceiling, shared_locks};
 use crate::walk::users_of;
@@ -14,8 +14,8 @@ use figures::spare::{spare8, spare16, spare32};
 use rules::capacity::{MAX_LOCKS, MAX_TASKS};
 
 fn legal_task(base: u8, maximum: u8, uses: u32, m: usize) -> bool
-    requires { m ≤ maxLocks }
-    ensures { result ≡ allTrue (not (taskFault base maximum) ∷ ltb base (2 ^ 8) ∷ ltb maximum (2 ^ 8) ∷ ltb uses (2 ^ m) ∷ []) }
+    requires { m ≤ max_locks }
+    ensures { result ≡ all_true (not (task_fault base maximum) ∷ ltb base (2 ^ 8) ∷ ltb maximum (2 ^ 8) ∷ ltb uses (2 ^ m) ∷ []) }
 {
     if base == 0 {
         return false;
@@ -34,8 +34,8 @@ fn tasks_obey(
     maximum: &[u8; MAX_TASKS],
     uses: &[u32; MAX_TASKS],
 ) -> bool
-    requires { (n ≤ maxTasks) × (m ≤ maxLocks) }
-    ensures { result ≡ every (taskBy m base.now maximum.now uses.now) n }
+    requires { (n ≤ max_tasks) × (m ≤ max_locks) }
+    ensures { result ≡ every (task_by m base.now maximum.now uses.now) n }
 {
     let mut t: usize = 0;
     while t < n {
@@ -48,7 +48,7 @@ fn tasks_obey(
 }
 
 fn legal_lock(ceiling: u8, limit: u16, wrong: bool, above: bool) -> bool
-    ensures { result ≡ allTrue (not (lockFault ceiling 0 limit) ∷ ltb ceiling (2 ^ 8) ∷ ltb limit (2 ^ 16) ∷ not wrong ∷ not above ∷ []) }
+    ensures { result ≡ all_true (not (lock_fault ceiling 0 limit) ∷ ltb ceiling (2 ^ 8) ∷ ltb limit (2 ^ 16) ∷ not wrong ∷ not above ∷ []) }
 {
     if ceiling == 0 {
         return false;
@@ -72,9 +72,9 @@ fn lock_obeys(
     uses: &[u32; MAX_TASKS],
     l: usize,
 ) -> bool
-    requires n_le_max_tasks { (n ≤ maxTasks) × (l < maxLocks) }
-    requires shared_value { shared ≡ sharedBy n uses.now }
-    ensures { result ≡ lockBy n base.now maximum.now ceiling.now limit.now uses.now l }
+    requires n_le_max_tasks { (n ≤ max_tasks) × (l < max_locks) }
+    requires shared_value { shared ≡ shared_by n uses.now }
+    ensures { result ≡ lock_by n base.now maximum.now ceiling.now limit.now uses.now l }
 {
     let c = ceiling[l];
     let users = users_of(n, base, maximum, c, uses, l as u8);
@@ -91,8 +91,8 @@ fn locks_obey(
     limit: &[u16; MAX_LOCKS],
     uses: &[u32; MAX_TASKS],
 ) -> bool
-    requires { (n ≤ maxTasks) × (m ≤ maxLocks) }
-    ensures { result ≡ every (lockBy n base.now maximum.now ceiling.now limit.now uses.now) m }
+    requires { (n ≤ max_tasks) × (m ≤ max_locks) }
+    ensures { result ≡ every (lock_by n base.now maximum.now ceiling.now limit.now uses.now) m }
 {
     let shared = shared_locks(n, uses);
     let mut l: usize = 0;
@@ -114,7 +114,7 @@ fn spare_obeys(
     limit: &[u16; MAX_LOCKS],
     uses: &[u32; MAX_TASKS],
 ) -> bool
-    ensures { result ≡ spareBy n m base.now maximum.now ceiling.now limit.now uses.now }
+    ensures { result ≡ spare_by n m base.now maximum.now ceiling.now limit.now uses.now }
 {
     all_five(
         spare8(base, n),
@@ -135,8 +135,8 @@ pub fn parts_obey<'a>(
     limit: &'a [u16; MAX_LOCKS],
     uses: &'a [u32; MAX_TASKS],
 ) -> bool
-    requires { (n ≤ maxTasks) × (m ≤ maxLocks) }
-    ensures { result ≡ partsBy n m base.now maximum.now ceiling.now limit.now uses.now }
+    requires { (n ≤ max_tasks) × (m ≤ max_locks) }
+    ensures { result ≡ parts_by n m base.now maximum.now ceiling.now limit.now uses.now }
 {
     if !tasks_obey(n, m, base, maximum, uses) {
         return false;

@@ -1,8 +1,8 @@
 // 7 and 24 of a plan that comes with a state, for one lock: all that its users say of it, in one walk over
 // the tasks.
 ghost use Rattle.std.specs.Prelude.{◌≡◌, ◌-◌, ◌≤◌, ◌<◌};
-ghost use Rattle.rules.specs.Numbers.Capacity.{maxTasks};
-ghost use Rattle.plan.specs.Lent.{above_by, usersTop};
+ghost use Rattle.rules.specs.Numbers.Capacity.{max_tasks};
+ghost use Rattle.plan.specs.Lent.{above_by, users_top};
 
 use crate::ceilings::if_user;
 use figures::number::greater_byte;
@@ -32,8 +32,8 @@ pub fn users_of(
     uses: &[u32; MAX_TASKS],
     l: u8,
 ) -> Users
-    requires { n ≤ maxTasks }
-    ensures { (result.top ≡ usersTop n base.now uses.now l)
+    requires { n ≤ max_tasks }
+    ensures { (result.top ≡ users_top n base.now uses.now l)
         × (result.above ≡ above_by n maximum.now ceiling uses.now l) }
 {
     let room = gap_of(ceiling);

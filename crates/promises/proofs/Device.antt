@@ -6,19 +6,19 @@ use Prim.Native.Nat.{ℕ}
 use contract.Lifetimes.{Lfts}
 use lib.ListN.{length}
 use Rattle.rules.specs.Numbers.Choice.{if◌then◌else◌}
-use Rattle.rules.specs.Books.Event.{eventOf}
-use Rattle.rules.specs.Books.Write.{Wrote, wroteWith}
-use Rattle.rules.specs.Books.Book.{checkedOf}
-use Rattle.rules.specs.Schedulers.Protocol.{protocolNamed}
+use Rattle.rules.specs.Books.Event.{event_of}
+use Rattle.rules.specs.Books.Write.{Wrote, wrote_with}
+use Rattle.rules.specs.Books.Book.{checked_of}
+use Rattle.rules.specs.Schedulers.Protocol.{protocol_named}
 use Rattle.rules.specs.Replays.Run.{Ran}
-use Rattle.rules.specs.Replays.Replay.{ranAs, replayOf}
+use Rattle.rules.specs.Replays.Replay.{ran_as, replay_of}
 use Rattle.rules.specs.declared.plan.Plan.{Plan}
 use Rattle.rules.specs.declared.state.State.{State}
 use Rattle.rules.specs.declared.answer.Checked.{Checked}
 use Rattle.rules.specs.declared.answer.Stepped.{Stepped}
 use Rattle.rules.specs.declared.answer.Replayed.{Replayed}
 use Rattle.rules.specs.declared.answer.Written.{Written}
-use Rattle.device.specs.Device.{checkSpelled, writeSpelled, jobSpelled, replaySpelled, stepSpelled, noEvent, notStepped}
+use Rattle.device.specs.Device.{check_spelled, write_spelled, job_spelled, replay_spelled, step_spelled, no_event, not_stepped}
 use Rattle.device.specs.declared.check.DeviceCheck.{DeviceCheck}
 use Rattle.device.specs.declared.replay.DeviceReplay.{DeviceReplay}
 use Rattle.device.specs.declared.step.DeviceStep.{DeviceStep}
@@ -37,39 +37,39 @@ use Rattle.device.proofs.step.recorder_step.Reads as recorder-step
 use Rattle.device.proofs.write.recorder_write.Reads as recorder-write
 use Rattle.device.proofs.job.recorder_read_job.Reads as recorder-read-job
 
-pub check-for-host : (κs : Lfts 1) (a : _) (b c : _) (r : DeviceCheck) (q : Checked) → recorder-check.Post κs a r b → check.Post κs a q c → r ≡ checkSpelled q
-check-for-host κs a b c r q h k = h ∙ ap checkSpelled (sym k)
+pub check_for_host : (κs : Lfts 1) (a : _) (b c : _) (r : DeviceCheck) (q : Checked) → recorder-check.Post κs a r b → check.Post κs a q c → r ≡ check_spelled q
+check_for_host κs a b c r q h k = h ∙ ap check_spelled (sym k)
 
 -- the number that the host names stands for the protocol
-pub replay-for-host : (κs : Lfts 2) (a : _) (b : _) (r : DeviceReplay) (c : _) (d : _) (q : Replayed) → recorder-replay.Post κs a r b → replay.Post κs c q d
-    → c.0 ≡ protocolNamed a.0 → c.1.0.now ≡ a.1.0.now → c.1.1.0.now ≡ a.1.1.0.now
-    → (r ≡ replaySpelled q.verdict q.plan q.state) × (b.1.1.0.now ≡ d.1.1.0.now)
-replay-for-host κs a b r c d q h k by book rows =
-    let ran : ranAs q d.1.1.0.now ≡ replayOf (protocolNamed a.0) a.1.0.now a.1.1.0.now =
-    k.0 ∙ (λ i. replayOf (by i) (book i) (rows i)) in
-    let plan : q.plan ≡ (checkedOf a.1.0.now (length a.1.1.0.now)).plan = k.1 ∙ (λ i. (checkedOf (book i) (length (rows i))).plan) in (
-      h.0 ∙ (λ i. let out : Ran = sym ran i in replaySpelled out.verdict (sym plan i) out.state),
+pub replay_for_host : (κs : Lfts 2) (a : _) (b : _) (r : DeviceReplay) (c : _) (d : _) (q : Replayed) → recorder-replay.Post κs a r b → replay.Post κs c q d
+    → c.0 ≡ protocol_named a.0 → c.1.0.now ≡ a.1.0.now → c.1.1.0.now ≡ a.1.1.0.now
+    → (r ≡ replay_spelled q.verdict q.plan q.state) × (b.1.1.0.now ≡ d.1.1.0.now)
+replay_for_host κs a b r c d q h k by book rows =
+    let ran : ran_as q d.1.1.0.now ≡ replay_of (protocol_named a.0) a.1.0.now a.1.1.0.now =
+    k.0 ∙ (λ i. replay_of (by i) (book i) (rows i)) in
+    let plan : q.plan ≡ (checked_of a.1.0.now (length a.1.1.0.now)).plan = k.1 ∙ (λ i. (checked_of (book i) (length (rows i))).plan) in (
+      h.0 ∙ (λ i. let out : Ran = sym ran i in replay_spelled out.verdict (sym plan i) out.state),
       h.1 ∙ ap (λ (out : Ran). out.rows) (sym ran),
     )
 
-pub write-for-host : (κs : Lfts 5) (a : _) (b c : _) (r : DeviceWrite) (q : Written) → recorder-write.Post κs a r b → write.Post κs a q c
-    → (r ≡ writeSpelled (wroteWith q c.1.1.1.1.0.now)) × (b.1.1.1.1.0.now ≡ c.1.1.1.1.0.now)
-write-for-host κs a b c r q h k = (h.0 ∙ ap writeSpelled (sym k), h.1 ∙ ap (λ (w : Wrote). w.bytes) (sym k))
+pub write_for_host : (κs : Lfts 5) (a : _) (b c : _) (r : DeviceWrite) (q : Written) → recorder-write.Post κs a r b → write.Post κs a q c
+    → (r ≡ write_spelled (wrote_with q c.1.1.1.1.0.now)) × (b.1.1.1.1.0.now ≡ c.1.1.1.1.0.now)
+write_for_host κs a b c r q h k = (h.0 ∙ ap write_spelled (sym k), h.1 ∙ ap (λ (w : Wrote). w.bytes) (sym k))
 
-pub job-for-host : (κs : Lfts 2) (a : _) (b c : _) (r : DeviceJob) (q : Job) → recorder-read-job.Post κs a r b → read-job.Post κs a q c
-    → (r ≡ jobSpelled q) × (b.1.0.now ≡ c.1.0.now)
-job-for-host κs a b c r q h k = (h.0 ∙ ap (λ (x : ReadInto). jobSpelled x.answer) (sym k), h.1 ∙ ap (λ (x : ReadInto). x.space) (sym k))
+pub job_for_host : (κs : Lfts 2) (a : _) (b c : _) (r : DeviceJob) (q : Job) → recorder-read-job.Post κs a r b → read-job.Post κs a q c
+    → (r ≡ job_spelled q) × (b.1.0.now ≡ c.1.0.now)
+job_for_host κs a b c r q h k = (h.0 ∙ ap (λ (x : ReadInto). job_spelled x.answer) (sym k), h.1 ∙ ap (λ (x : ReadInto). x.space) (sym k))
 
 module _ (number : ℕ) (p : Plan) (s : State) (kind id amount : ℕ) (r : DeviceStep)
     (h : recorder-step.Post tt (number, (p, (s, (kind, (id, (amount, tt)))))) r (number, (p, (s, (kind, (id, (amount, tt))))))) where
   -- numbers that are an event's
-  pub step-for-host : (q : Stepped) → noEvent kind id amount ≡ false
-      → step.Post tt (protocolNamed number, (p, (s, (eventOf kind id amount, tt)))) q (protocolNamed number, (p, (s, (eventOf kind id amount, tt))))
-      → r ≡ stepSpelled q
+  pub step_for_host : (q : Stepped) → no_event kind id amount ≡ false
+      → step.Post tt (protocol_named number, (p, (s, (event_of kind id amount, tt)))) q (protocol_named number, (p, (s, (event_of kind id amount, tt))))
+      → r ≡ step_spelled q
   unfolding if◌then◌else◌
-  step-for-host q e k = h ∙ rw e (ap stepSpelled (sym k))
+  step_for_host q e k = h ∙ rw e (ap step_spelled (sym k))
 
   -- and others, which are refused with 8 and leave the state
-  pub no-step-for-host : noEvent kind id amount ≡ true → r ≡ notStepped s
+  pub no_step_for_host : no_event kind id amount ≡ true → r ≡ not_stepped s
   unfolding if◌then◌else◌
-  no-step-for-host e = h ∙ rw e refl
+  no_step_for_host e = h ∙ rw e refl

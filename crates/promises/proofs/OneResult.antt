@@ -6,10 +6,10 @@ use mathlib.Core.List.{List}
 use Prim.Native.Nat.{ℕ, ◌≤◌}
 use contract.Lifetimes.{Lfts}
 use lib.ListN.{replicate}
-use Rattle.rules.specs.Numbers.Capacity.{maxTasks}
-use Rattle.rules.specs.Books.Write.{Wrote, wroteWith}
+use Rattle.rules.specs.Numbers.Capacity.{max_tasks}
+use Rattle.rules.specs.Books.Write.{Wrote, wrote_with}
 use Rattle.rules.specs.Replays.Run.{Ran}
-use Rattle.rules.specs.Replays.Replay.{ranAs}
+use Rattle.rules.specs.Replays.Replay.{ran_as}
 use Rattle.rules.specs.declared.plan.Plan.{Plan}
 use Rattle.rules.specs.declared.protocol.Protocol.{Protocol}
 use Rattle.rules.specs.declared.state.State.{State}
@@ -28,8 +28,8 @@ use Rattle.device.specs.declared.replay.DeviceReplay.{DeviceReplay}
 use Rattle.device.specs.declared.write.DeviceWrite.{DeviceWrite}
 use Rattle.device.specs.declared.job.DeviceJob.{DeviceJob}
 use Rattle.tournament.specs.Tree.{places, tree_of}
-use Rattle.tournament.specs.Keys.{tournamentOf}
-use Rattle.kernel.specs.Lent.{steppedAs}
+use Rattle.tournament.specs.Keys.{tournament_of}
+use Rattle.kernel.specs.Lent.{stepped_as}
 use Rattle.kernel.specs.declared.acted.Acted.{Acted}
 use Rattle.scheduler.proofs.replay.Reads as replay
 use Rattle.report.proofs.report.Reads as report
@@ -61,7 +61,7 @@ use Rattle.figures.proofs.number.least.Reads as least
 use Rattle.figures.proofs.priority.kernel_of.Reads as kernel-of
 use Rattle.figures.proofs.priority.kernel_byte.Reads as kernel-byte
 use Rattle.figures.proofs.priority.user_of.Reads as user-of
-use Rattle.figures.proofs.priority.user_byte.Reads as user-byte
+use Rattle.figures.proofs.priority.user_byte.Reads as user_byte
 use Rattle.figures.proofs.priority.shown.Reads as shown
 use Rattle.figures.proofs.priority.recorded.Reads as recorded
 use Rattle.figures.proofs.priority.above.Reads as above
@@ -96,7 +96,7 @@ use Rattle.plan.proofs.bound.Reads as bound
 use Rattle.plan.proofs.obeys.Reads as obeys
 use Rattle.book.proofs.check.Reads as check
 use Rattle.book.proofs.record.event_fault.Reads as event-fault
-use Rattle.book.proofs.record.event_of.Reads as event-of
+use Rattle.book.proofs.record.event_of.Reads as event_of_lem
 use Rattle.book.proofs.cursor.cursor.Reads as cursor
 use Rattle.book.proofs.reader.read.Reads as read
 use Rattle.book.proofs.reader.read_in.Reads as read-in
@@ -108,284 +108,284 @@ use Rattle.device.proofs.step.recorder_fresh.Reads as recorder-fresh
 use Rattle.device.proofs.step.recorder_step.Reads as recorder-step
 
 -- priorities of one kind are equal where their numbers are
-same-kernel : (r q : KernelPriority) → r.0 ≡ q.0 → r ≡ q
-same-kernel r q e = λ i. record { 0 = e i }
+same_kernel : (r q : KernelPriority) → r.0 ≡ q.0 → r ≡ q
+same_kernel r q e = λ i. record { 0 = e i }
 
-same-user : (r q : UserPriority) → r.0 ≡ q.0 → r ≡ q
-same-user r q e = λ i. record { 0 = e i }
+same_user : (r q : UserPriority) → r.0 ≡ q.0 → r ≡ q
+same_user r q e = λ i. record { 0 = e i }
 
 -- ---- the refusals, the answers and the states of `rules`
 
 pub one_number : (a : _) (b c : _) (r q : ℕ) → number.Post tt a r b → number.Post tt a q c → r ≡ q
 one_number a b c r q h k = h ∙ sym k
 
-pub one-protocol-number : (a : _) (b c : _) (r q : ℕ) → protocol-number.Post tt a r b → protocol-number.Post tt a q c → r ≡ q
-one-protocol-number a b c r q h k = h ∙ sym k
+pub one_protocol_number : (a : _) (b c : _) (r q : ℕ) → protocol-number.Post tt a r b → protocol-number.Post tt a q c → r ≡ q
+one_protocol_number a b c r q h k = h ∙ sym k
 
-pub one-named : (a : _) (b c : _) (r q : Protocol) → named.Post tt a r b → named.Post tt a q c → r ≡ q
-one-named a b c r q h k = h ∙ sym k
+pub one_named : (a : _) (b c : _) (r q : Protocol) → named.Post tt a r b → named.Post tt a q c → r ≡ q
+one_named a b c r q h k = h ∙ sym k
 
-pub one-verdict-number : (a : _) (b c : _) (r q : ℕ) → verdict-number.Post tt a r b → verdict-number.Post tt a q c → r ≡ q
-one-verdict-number a b c r q h k = h ∙ sym k
+pub one_verdict_number : (a : _) (b c : _) (r q : ℕ) → verdict-number.Post tt a r b → verdict-number.Post tt a q c → r ≡ q
+one_verdict_number a b c r q h k = h ∙ sym k
 
-pub one-verdict-place : (a : _) (b c : _) (r q : ℕ) → verdict-place.Post tt a r b → verdict-place.Post tt a q c → r ≡ q
-one-verdict-place a b c r q h k = h ∙ sym k
+pub one_verdict_place : (a : _) (b c : _) (r q : ℕ) → verdict-place.Post tt a r b → verdict-place.Post tt a q c → r ≡ q
+one_verdict_place a b c r q h k = h ∙ sym k
 
-pub one-answer-number : (a : _) (b c : _) (r q : ℕ) → answer-number.Post tt a r b → answer-number.Post tt a q c → r ≡ q
-one-answer-number a b c r q h k = h ∙ sym k
+pub one_answer_number : (a : _) (b c : _) (r q : ℕ) → answer-number.Post tt a r b → answer-number.Post tt a q c → r ≡ q
+one_answer_number a b c r q h k = h ∙ sym k
 
-pub one-answer-calls : (a : _) (b c : _) (r q : ℕ) → answer-calls.Post tt a r b → answer-calls.Post tt a q c → r ≡ q
-one-answer-calls a b c r q h k = h ∙ sym k
+pub one_answer_calls : (a : _) (b c : _) (r q : ℕ) → answer-calls.Post tt a r b → answer-calls.Post tt a q c → r ≡ q
+one_answer_calls a b c r q h k = h ∙ sym k
 
-pub one-blank : (a : _) (b c : _) (r q : Plan) → blank.Post tt a r b → blank.Post tt a q c → r ≡ q
-one-blank a b c r q h k = h ∙ sym k
+pub one_blank : (a : _) (b c : _) (r q : Plan) → blank.Post tt a r b → blank.Post tt a q c → r ≡ q
+one_blank a b c r q h k = h ∙ sym k
 
-pub one-fresh : (a : _) (b c : _) (r q : State) → fresh.Post tt a r b → fresh.Post tt a q c → r ≡ q
-one-fresh a b c r q h k = h ∙ sym k
+pub one_fresh : (a : _) (b c : _) (r q : State) → fresh.Post tt a r b → fresh.Post tt a q c → r ≡ q
+one_fresh a b c r q h k = h ∙ sym k
 
 -- ---- the numbers of `figures`: tests that all hold, sets of locks, widths, the two kinds of priority, rows, and the rest of a table
 
-pub one-all-five : (a : _) (b c : _) (r q : Bool) → all-five.Post tt a r b → all-five.Post tt a q c → r ≡ q
-one-all-five a b c r q h k = h ∙ sym k
+pub one_all_five : (a : _) (b c : _) (r q : Bool) → all-five.Post tt a r b → all-five.Post tt a q c → r ≡ q
+one_all_five a b c r q h k = h ∙ sym k
 
-pub one-all-six : (a : _) (b c : _) (r q : Bool) → all-six.Post tt a r b → all-six.Post tt a q c → r ≡ q
-one-all-six a b c r q h k = h ∙ sym k
+pub one_all_six : (a : _) (b c : _) (r q : Bool) → all-six.Post tt a r b → all-six.Post tt a q c → r ≡ q
+one_all_six a b c r q h k = h ∙ sym k
 
-pub one-all-eight : (a : _) (b c : _) (r q : Bool) → all-eight.Post tt a r b → all-eight.Post tt a q c → r ≡ q
-one-all-eight a b c r q h k = h ∙ sym k
+pub one_all_eight : (a : _) (b c : _) (r q : Bool) → all-eight.Post tt a r b → all-eight.Post tt a q c → r ≡ q
+one_all_eight a b c r q h k = h ∙ sym k
 
-pub one-has-bit : (a : _) (b c : _) (r q : Bool) → has-bit.Post tt a r b → has-bit.Post tt a q c → r ≡ q
-one-has-bit a b c r q h k = h ∙ sym k
+pub one_has_bit : (a : _) (b c : _) (r q : Bool) → has-bit.Post tt a r b → has-bit.Post tt a q c → r ≡ q
+one_has_bit a b c r q h k = h ∙ sym k
 
-pub one-with-bit : (a : _) (b c : _) (r q : ℕ) → with-bit.Post tt a r b → with-bit.Post tt a q c → r ≡ q
-one-with-bit a b c r q h k = h ∙ sym k
+pub one_with_bit : (a : _) (b c : _) (r q : ℕ) → with-bit.Post tt a r b → with-bit.Post tt a q c → r ≡ q
+one_with_bit a b c r q h k = h ∙ sym k
 
-pub one-place-of : (a : _) (b c : _) (r q : ℕ) → place_of.Post tt a r b → place_of.Post tt a q c → r ≡ q
-one-place-of a b c r q h k = h.0 ∙ sym k.0
+pub one_place_of : (a : _) (b c : _) (r q : ℕ) → place_of.Post tt a r b → place_of.Post tt a q c → r ≡ q
+one_place_of a b c r q h k = h.0 ∙ sym k.0
 
-pub one-wide-byte : (a : _) (b c : _) (r q : ℕ) → wide-byte.Post tt a r b → wide-byte.Post tt a q c → r ≡ q
-one-wide-byte a b c r q h k = h.0 ∙ sym k.0
+pub one_wide_byte : (a : _) (b c : _) (r q : ℕ) → wide-byte.Post tt a r b → wide-byte.Post tt a q c → r ≡ q
+one_wide_byte a b c r q h k = h.0 ∙ sym k.0
 
-pub one-wide-word : (a : _) (b c : _) (r q : ℕ) → wide_word.Post tt a r b → wide_word.Post tt a q c → r ≡ q
-one-wide-word a b c r q h k = h.0 ∙ sym k.0
+pub one_wide_word : (a : _) (b c : _) (r q : ℕ) → wide_word.Post tt a r b → wide_word.Post tt a q c → r ≡ q
+one_wide_word a b c r q h k = h.0 ∙ sym k.0
 
-pub one-greater-byte : (a : _) (b c : _) (r q : ℕ) → greater-byte.Post tt a r b → greater-byte.Post tt a q c → r ≡ q
-one-greater-byte a b c r q h k = h ∙ sym k
+pub one_greater_byte : (a : _) (b c : _) (r q : ℕ) → greater-byte.Post tt a r b → greater-byte.Post tt a q c → r ≡ q
+one_greater_byte a b c r q h k = h ∙ sym k
 
-pub one-greater-word : (a : _) (b c : _) (r q : ℕ) → greater-word.Post tt a r b → greater-word.Post tt a q c → r ≡ q
-one-greater-word a b c r q h k = h ∙ sym k
+pub one_greater_word : (a : _) (b c : _) (r q : ℕ) → greater-word.Post tt a r b → greater-word.Post tt a q c → r ≡ q
+one_greater_word a b c r q h k = h ∙ sym k
 
-pub one-least : (a : _) (b c : _) (r q : ℕ) → least.Post tt a r b → least.Post tt a q c → r ≡ q
-one-least a b c r q h k = h ∙ sym k
+pub one_least : (a : _) (b c : _) (r q : ℕ) → least.Post tt a r b → least.Post tt a q c → r ≡ q
+one_least a b c r q h k = h ∙ sym k
 
-pub one-kernel-of : (a : _) (b c : _) (r q : KernelPriority) → kernel-of.Post tt a r b → kernel-of.Post tt a q c → r ≡ q
-one-kernel-of a b c r q h k = same-kernel r q (h ∙ sym k)
+pub one_kernel_of : (a : _) (b c : _) (r q : KernelPriority) → kernel-of.Post tt a r b → kernel-of.Post tt a q c → r ≡ q
+one_kernel_of a b c r q h k = same_kernel r q (h ∙ sym k)
 
-pub one-kernel-byte : (a : _) (b c : _) (r q : ℕ) → kernel-byte.Post tt a r b → kernel-byte.Post tt a q c → r ≡ q
-one-kernel-byte a b c r q h k = h ∙ sym k
+pub one_kernel_byte : (a : _) (b c : _) (r q : ℕ) → kernel-byte.Post tt a r b → kernel-byte.Post tt a q c → r ≡ q
+one_kernel_byte a b c r q h k = h ∙ sym k
 
-pub one-user-of : (a : _) (b c : _) (r q : UserPriority) → user-of.Post tt a r b → user-of.Post tt a q c → r ≡ q
-one-user-of a b c r q h k = same-user r q (h ∙ sym k)
+pub one_user_of : (a : _) (b c : _) (r q : UserPriority) → user-of.Post tt a r b → user-of.Post tt a q c → r ≡ q
+one_user_of a b c r q h k = same_user r q (h ∙ sym k)
 
-pub one-user-byte : (a : _) (b c : _) (r q : ℕ) → user-byte.Post tt a r b → user-byte.Post tt a q c → r ≡ q
-one-user-byte a b c r q h k = h ∙ sym k
+pub one_user_byte : (a : _) (b c : _) (r q : ℕ) → user_byte.Post tt a r b → user_byte.Post tt a q c → r ≡ q
+one_user_byte a b c r q h k = h ∙ sym k
 
-pub one-shown : (a : _) (b c : _) (r q : UserPriority) → shown.Post tt a r b → shown.Post tt a q c → r ≡ q
-one-shown a b c r q h k = same-user r q (h ∙ sym k)
+pub one_shown : (a : _) (b c : _) (r q : UserPriority) → shown.Post tt a r b → shown.Post tt a q c → r ≡ q
+one_shown a b c r q h k = same_user r q (h ∙ sym k)
 
-pub one-recorded : (a : _) (b c : _) (r q : KernelPriority) → recorded.Post tt a r b → recorded.Post tt a q c → r ≡ q
-one-recorded a b c r q h k = same-kernel r q (h ∙ sym k)
+pub one_recorded : (a : _) (b c : _) (r q : KernelPriority) → recorded.Post tt a r b → recorded.Post tt a q c → r ≡ q
+one_recorded a b c r q h k = same_kernel r q (h ∙ sym k)
 
-pub one-above : (a : _) (b c : _) (r q : Bool) → above.Post tt a r b → above.Post tt a q c → r ≡ q
-one-above a b c r q h k = h ∙ sym k
+pub one_above : (a : _) (b c : _) (r q : Bool) → above.Post tt a r b → above.Post tt a q c → r ≡ q
+one_above a b c r q h k = h ∙ sym k
 
 pub one_at_most : (a : _) (b c : _) (r q : Bool) → at_most.Post tt a r b → at_most.Post tt a q c → r ≡ q
 one_at_most a b c r q h k = h ∙ sym k
 
-pub one-exceeds : (a : _) (b c : _) (r q : Bool) → exceeds.Post tt a r b → exceeds.Post tt a q c → r ≡ q
-one-exceeds a b c r q h k = h ∙ sym k
+pub one_exceeds : (a : _) (b c : _) (r q : Bool) → exceeds.Post tt a r b → exceeds.Post tt a q c → r ≡ q
+one_exceeds a b c r q h k = h ∙ sym k
 
-pub one-calls-for : (a : _) (b c : _) (r q : Bool) → calls-for.Post tt a r b → calls-for.Post tt a q c → r ≡ q
-one-calls-for a b c r q h k = h ∙ sym k
+pub one_calls_for : (a : _) (b c : _) (r q : Bool) → calls-for.Post tt a r b → calls-for.Post tt a q c → r ≡ q
+one_calls_for a b c r q h k = h ∙ sym k
 
-pub one-cut-to : (a : _) (b c : _) (r q : UserPriority) → cut-to.Post tt a r b → cut-to.Post tt a q c → r ≡ q
-one-cut-to a b c r q h k = same-user r q (h ∙ sym k)
+pub one_cut_to : (a : _) (b c : _) (r q : UserPriority) → cut-to.Post tt a r b → cut-to.Post tt a q c → r ≡ q
+one_cut_to a b c r q h k = same_user r q (h ∙ sym k)
 
-pub one-raised : (a : _) (b c : _) (r q : UserPriority) → raised.Post tt a r b → raised.Post tt a q c → r ≡ q
-one-raised a b c r q h k = same-user r q (h ∙ sym k)
+pub one_raised : (a : _) (b c : _) (r q : UserPriority) → raised.Post tt a r b → raised.Post tt a q c → r ≡ q
+one_raised a b c r q h k = same_user r q (h ∙ sym k)
 
-pub one-higher : (a : _) (b c : _) (r q : KernelPriority) → higher.Post tt a r b → higher.Post tt a q c → r ≡ q
-one-higher a b c r q h k = same-kernel r q (h ∙ sym k)
+pub one_higher : (a : _) (b c : _) (r q : KernelPriority) → higher.Post tt a r b → higher.Post tt a q c → r ≡ q
+one_higher a b c r q h k = same_kernel r q (h ∙ sym k)
 
-pub one-same-word : (a : _) (b c : _) (r q : Bool) → same_word.Post tt a r b → same_word.Post tt a q c → r ≡ q
-one-same-word a b c r q h k = h ∙ sym k
+pub one_same_word : (a : _) (b c : _) (r q : Bool) → same_word.Post tt a r b → same_word.Post tt a q c → r ≡ q
+one_same_word a b c r q h k = h ∙ sym k
 
-pub one-same-record : (a : _) (b c : _) (r q : Bool) → same-record.Post tt a r b → same-record.Post tt a q c → r ≡ q
-one-same-record a b c r q h k = h ∙ sym k
+pub one_same_record : (a : _) (b c : _) (r q : Bool) → same-record.Post tt a r b → same-record.Post tt a q c → r ≡ q
+one_same_record a b c r q h k = h ∙ sym k
 
-pub one-newest-of : (a : _) (b c : _) (r q : ℕ) → newest-of.Post tt a r b → newest-of.Post tt a q c → r ≡ q
-one-newest-of a b c r q h k = h ∙ sym k
+pub one_newest_of : (a : _) (b c : _) (r q : ℕ) → newest-of.Post tt a r b → newest-of.Post tt a q c → r ≡ q
+one_newest_of a b c r q h k = h ∙ sym k
 
-pub one-under-of : (a : _) (b c : _) (r q : ℕ) → under_of.Post tt a r b → under_of.Post tt a q c → r ≡ q
-one-under-of a b c r q h k = h ∙ sym k
+pub one_under_of : (a : _) (b c : _) (r q : ℕ) → under_of.Post tt a r b → under_of.Post tt a q c → r ≡ q
+one_under_of a b c r q h k = h ∙ sym k
 
-pub one-push-on : (a : _) (b c : _) (r q : ℕ) → push-on.Post tt a r b → push-on.Post tt a q c → r ≡ q
-one-push-on a b c r q h k = h.0 ∙ sym k.0
+pub one_push_on : (a : _) (b c : _) (r q : ℕ) → push-on.Post tt a r b → push-on.Post tt a q c → r ≡ q
+one_push_on a b c r q h k = h.0 ∙ sym k.0
 
-pub one-has-lock : (a : _) (b c : _) (r q : Bool) → has-lock.Post tt a r b → has-lock.Post tt a q c → r ≡ q
-one-has-lock a b c r q h k = h ∙ sym k
+pub one_has_lock : (a : _) (b c : _) (r q : Bool) → has-lock.Post tt a r b → has-lock.Post tt a q c → r ≡ q
+one_has_lock a b c r q h k = h ∙ sym k
 
-pub one-newest-word : (a : _) (b c : _) (r q : UserPriority) → newest-word.Post tt a r b → newest-word.Post tt a q c → r ≡ q
-one-newest-word a b c r q h k = same-user r q (h ∙ sym k)
+pub one_newest_word : (a : _) (b c : _) (r q : UserPriority) → newest-word.Post tt a r b → newest-word.Post tt a q c → r ≡ q
+one_newest_word a b c r q h k = same_user r q (h ∙ sym k)
 
-pub one-push-word : (a : _) (b c : _) (r q : ℕ) → push-word.Post tt a r b → push-word.Post tt a q c → r ≡ q
-one-push-word a b c r q h k = h.0 ∙ sym k.0
+pub one_push_word : (a : _) (b c : _) (r q : ℕ) → push-word.Post tt a r b → push-word.Post tt a q c → r ≡ q
+one_push_word a b c r q h k = h.0 ∙ sym k.0
 
-pub one-spare8 : (κs : Lfts 1) (a : _) (b c : _) (r q : Bool) → spare8.Post κs a r b → spare8.Post κs a q c → r ≡ q
-one-spare8 κs a b c r q h k = h ∙ sym k
+pub one_spare8 : (κs : Lfts 1) (a : _) (b c : _) (r q : Bool) → spare8.Post κs a r b → spare8.Post κs a q c → r ≡ q
+one_spare8 κs a b c r q h k = h ∙ sym k
 
-pub one-spare16 : (κs : Lfts 1) (a : _) (b c : _) (r q : Bool) → spare16.Post κs a r b → spare16.Post κs a q c → r ≡ q
-one-spare16 κs a b c r q h k = h ∙ sym k
+pub one_spare16 : (κs : Lfts 1) (a : _) (b c : _) (r q : Bool) → spare16.Post κs a r b → spare16.Post κs a q c → r ≡ q
+one_spare16 κs a b c r q h k = h ∙ sym k
 
-pub one-spare32 : (κs : Lfts 1) (a : _) (b c : _) (r q : Bool) → spare32.Post κs a r b → spare32.Post κs a q c → r ≡ q
-one-spare32 κs a b c r q h k = h ∙ sym k
+pub one_spare32 : (κs : Lfts 1) (a : _) (b c : _) (r q : Bool) → spare32.Post κs a r b → spare32.Post κs a q c → r ≡ q
+one_spare32 κs a b c r q h k = h ∙ sym k
 
-pub one-spare64 : (κs : Lfts 1) (a : _) (b c : _) (r q : Bool) → spare64.Post κs a r b → spare64.Post κs a q c → r ≡ q
-one-spare64 κs a b c r q h k = h ∙ sym k
+pub one_spare64 : (κs : Lfts 1) (a : _) (b c : _) (r q : Bool) → spare64.Post κs a r b → spare64.Post κs a q c → r ≡ q
+one_spare64 κs a b c r q h k = h ∙ sym k
 
 -- ---- the plan
 
-pub one-count-fault : (a : _) (b c : _) (r q : Bool) → count-fault.Post tt a r b → count-fault.Post tt a q c → r ≡ q
-one-count-fault a b c r q h k = h ∙ sym k
+pub one_count_fault : (a : _) (b c : _) (r q : Bool) → count-fault.Post tt a r b → count-fault.Post tt a q c → r ≡ q
+one_count_fault a b c r q h k = h ∙ sym k
 
-pub one-load : (κs : Lfts 3) (a : _) (b c : _) (r q : Loaded) → load.Post κs a r b → load.Post κs a q c → r ≡ q
-one-load κs a b c r q h k = h ∙ sym k
+pub one_load : (κs : Lfts 3) (a : _) (b c : _) (r q : Loaded) → load.Post κs a r b → load.Post κs a q c → r ≡ q
+one_load κs a b c r q h k = h ∙ sym k
 
-pub one-bound : (a : _) (b c : _) (r q : ℕ) → bound.Post tt a r b → bound.Post tt a q c → r ≡ q
-one-bound a b c r q h k = h ∙ sym k
+pub one_bound : (a : _) (b c : _) (r q : ℕ) → bound.Post tt a r b → bound.Post tt a q c → r ≡ q
+one_bound a b c r q h k = h ∙ sym k
 
-pub one-obeys : (a : _) (b c : _) (r q : Bool) → obeys.Post tt a r b → obeys.Post tt a q c → r ≡ q
-one-obeys a b c r q h k = h ∙ sym k
+pub one_obeys : (a : _) (b c : _) (r q : Bool) → obeys.Post tt a r b → obeys.Post tt a q c → r ≡ q
+one_obeys a b c r q h k = h ∙ sym k
 
 -- ---- the book and its reader
 
-pub one-check : (κs : Lfts 1) (a : _) (b c : _) (r q : Checked) → check.Post κs a r b → check.Post κs a q c → r ≡ q
-one-check κs a b c r q h k = h ∙ sym k
+pub one_check : (κs : Lfts 1) (a : _) (b c : _) (r q : Checked) → check.Post κs a r b → check.Post κs a q c → r ≡ q
+one_check κs a b c r q h k = h ∙ sym k
 
-pub one-event-fault : (a : _) (b c : _) (r q : Bool) → event-fault.Post tt a r b → event-fault.Post tt a q c → r ≡ q
-one-event-fault a b c r q h k = h ∙ sym k
+pub one_event_fault : (a : _) (b c : _) (r q : Bool) → event-fault.Post tt a r b → event-fault.Post tt a q c → r ≡ q
+one_event_fault a b c r q h k = h ∙ sym k
 
-pub one-event-of : (a : _) (b c : _) (r q : Event) → event-of.Post tt a r b → event-of.Post tt a q c → r ≡ q
-one-event-of a b c r q h k = h ∙ sym k
+pub one_event_of : (a : _) (b c : _) (r q : Event) → event_of_lem.Post tt a r b → event_of_lem.Post tt a q c → r ≡ q
+one_event_of a b c r q h k = h ∙ sym k
 
-pub one-cursor : (κs : Lfts 1) (a : _) (b c : _) (r q : Found) → cursor.Post κs a r b → cursor.Post κs a q c → r ≡ q
-one-cursor κs a b c r q h k = h ∙ sym k
+pub one_cursor : (κs : Lfts 1) (a : _) (b c : _) (r q : Found) → cursor.Post κs a r b → cursor.Post κs a q c → r ≡ q
+one_cursor κs a b c r q h k = h ∙ sym k
 
-pub one-read : (κs : Lfts 1) (a : _) (b c : _) (r q : Found) → read.Post κs a r b → read.Post κs a q c → r ≡ q
-one-read κs a b c r q h k = h ∙ sym k
+pub one_read : (κs : Lfts 1) (a : _) (b c : _) (r q : Found) → read.Post κs a r b → read.Post κs a q c → r ≡ q
+one_read κs a b c r q h k = h ∙ sym k
 
-pub one-read-in : (κs : Lfts 1) (a : _) (b c : _) (r q : Found) → read-in.Post κs a r b → read-in.Post κs a q c → r ≡ q
-one-read-in κs a b c r q h k = h ∙ sym k
+pub one_read_in : (κs : Lfts 1) (a : _) (b c : _) (r q : Found) → read-in.Post κs a r b → read-in.Post κs a q c → r ≡ q
+one_read_in κs a b c r q h k = h ∙ sym k
 
 -- ---- soundness and the step
 
-pub one-sound : (a : _) (b c : _) (r q : Bool) → sound.Post tt a r b → sound.Post tt a q c → r ≡ q
-one-sound a b c r q h k = h ∙ sym k
+pub one_sound : (a : _) (b c : _) (r q : Bool) → sound.Post tt a r b → sound.Post tt a q c → r ≡ q
+one_sound a b c r q h k = h ∙ sym k
 
-pub one-step : (a : _) (b c : _) (r q : Stepped) → step.Post tt a r b → step.Post tt a q c → r ≡ q
-one-step a b c r q h k = h ∙ sym k
+pub one_step : (a : _) (b c : _) (r q : Stepped) → step.Post tt a r b → step.Post tt a q c → r ≡ q
+one_step a b c r q h k = h ∙ sym k
 
 -- ---- what a host in another language calls
 
-pub one-recorder-check : (κs : Lfts 1) (a : _) (b c : _) (r q : DeviceCheck) → recorder-check.Post κs a r b → recorder-check.Post κs a q c → r ≡ q
-one-recorder-check κs a b c r q h k = h ∙ sym k
+pub one_recorder_check : (κs : Lfts 1) (a : _) (b c : _) (r q : DeviceCheck) → recorder-check.Post κs a r b → recorder-check.Post κs a q c → r ≡ q
+one_recorder_check κs a b c r q h k = h ∙ sym k
 
-pub one-recorder-bound : (κs : Lfts 1) (a : _) (b c : _) (r q : ℕ) → recorder-bound.Post κs a r b → recorder-bound.Post κs a q c → r ≡ q
-one-recorder-bound κs a b c r q h k = h ∙ sym k
+pub one_recorder_bound : (κs : Lfts 1) (a : _) (b c : _) (r q : ℕ) → recorder-bound.Post κs a r b → recorder-bound.Post κs a q c → r ≡ q
+one_recorder_bound κs a b c r q h k = h ∙ sym k
 
-pub one-recorder-fresh : (a : _) (b c : _) (r q : State) → recorder-fresh.Post tt a r b → recorder-fresh.Post tt a q c → r ≡ q
-one-recorder-fresh a b c r q h k = h ∙ sym k
+pub one_recorder_fresh : (a : _) (b c : _) (r q : State) → recorder-fresh.Post tt a r b → recorder-fresh.Post tt a q c → r ≡ q
+one_recorder_fresh a b c r q h k = h ∙ sym k
 
-pub one-recorder-step : (a : _) (b c : _) (r q : DeviceStep) → recorder-step.Post tt a r b → recorder-step.Post tt a q c → r ≡ q
-one-recorder-step a b c r q h k = h ∙ sym k
+pub one_recorder_step : (a : _) (b c : _) (r q : DeviceStep) → recorder-step.Post tt a r b → recorder-step.Post tt a q c → r ≡ q
+one_recorder_step a b c r q h k = h ∙ sym k
 
 -- ---- what lends memory to be written: every byte that was lent is determined too
 
-same-ran : (r q : Replayed) (x y : List ℕ) (ran : Ran) (p : Plan) → ranAs r x ≡ ran → ranAs q y ≡ ran → r.plan ≡ p → q.plan ≡ p → (r ≡ q) × (x ≡ y)
-same-ran r q x y ran p h k u v =
-    let e : ranAs r x ≡ ranAs q y = h ∙ sym k in
+same_ran : (r q : Replayed) (x y : List ℕ) (ran : Ran) (p : Plan) → ran_as r x ≡ ran → ran_as q y ≡ ran → r.plan ≡ p → q.plan ≡ p → (r ≡ q) × (x ≡ y)
+same_ran r q x y ran p h k u v =
+    let e : ran_as r x ≡ ran_as q y = h ∙ sym k in
     let z : r.plan ≡ q.plan = u ∙ sym v in
     ((λ i. record { verdict = (e i).verdict; plan = z i; state = (e i).state }), ap (λ (w : Ran). w.rows) e)
 
-pub one-replay : (κs : Lfts 2) (a : _) (b c : _) (r q : Replayed) → replay.Post κs a r b → replay.Post κs a q c
+pub one_replay : (κs : Lfts 2) (a : _) (b c : _) (r q : Replayed) → replay.Post κs a r b → replay.Post κs a q c
     → (r ≡ q) × (b.1.1.0.now ≡ c.1.1.0.now)
-one-replay κs a b c r q h k = same-ran r q _ _ _ _ h.0 k.0 h.1 k.1
+one_replay κs a b c r q h k = same_ran r q _ _ _ _ h.0 k.0 h.1 k.1
 
-pub one-recorder-replay : (κs : Lfts 2) (a : _) (b c : _) (r q : DeviceReplay) → recorder-replay.Post κs a r b → recorder-replay.Post κs a q c
+pub one_recorder_replay : (κs : Lfts 2) (a : _) (b c : _) (r q : DeviceReplay) → recorder-replay.Post κs a r b → recorder-replay.Post κs a q c
     → (r ≡ q) × (b.1.1.0.now ≡ c.1.1.0.now)
-one-recorder-replay κs a b c r q h k = (h.0 ∙ sym k.0, h.1 ∙ sym k.1)
+one_recorder_replay κs a b c r q h k = (h.0 ∙ sym k.0, h.1 ∙ sym k.1)
 
-same-written : (r q : Written) (x y : List ℕ) (wrote : Wrote) → wroteWith r x ≡ wrote → wroteWith q y ≡ wrote → (r ≡ q) × (x ≡ y)
-same-written r q x y wrote h k =
-    let e : wroteWith r x ≡ wroteWith q y = h ∙ sym k in
+same_written : (r q : Written) (x y : List ℕ) (wrote : Wrote) → wrote_with r x ≡ wrote → wrote_with q y ≡ wrote → (r ≡ q) × (x ≡ y)
+same_written r q x y wrote h k =
+    let e : wrote_with r x ≡ wrote_with q y = h ∙ sym k in
     ((λ i. record { verdict = (e i).verdict; length = (e i).length }), ap (λ (w : Wrote). w.bytes) e)
 
-pub one-write : (κs : Lfts 5) (a : _) (b c : _) (r q : Written) → write.Post κs a r b → write.Post κs a q c
+pub one_write : (κs : Lfts 5) (a : _) (b c : _) (r q : Written) → write.Post κs a r b → write.Post κs a q c
     → (r ≡ q) × (b.1.1.1.1.0.now ≡ c.1.1.1.1.0.now)
-one-write κs a b c r q h k = same-written r q _ _ _ h k
+one_write κs a b c r q h k = same_written r q _ _ _ h k
 
-pub one-recorder-write : (κs : Lfts 5) (a : _) (b c : _) (r q : DeviceWrite) → recorder-write.Post κs a r b → recorder-write.Post κs a q c
+pub one_recorder_write : (κs : Lfts 5) (a : _) (b c : _) (r q : DeviceWrite) → recorder-write.Post κs a r b → recorder-write.Post κs a q c
     → (r ≡ q) × (b.1.1.1.1.0.now ≡ c.1.1.1.1.0.now)
-one-recorder-write κs a b c r q h k = (h.0 ∙ sym k.0, h.1 ∙ sym k.1)
+one_recorder_write κs a b c r q h k = (h.0 ∙ sym k.0, h.1 ∙ sym k.1)
 
-pub one-recorder-read-job : (κs : Lfts 2) (a : _) (b c : _) (r q : DeviceJob) → recorder-read-job.Post κs a r b → recorder-read-job.Post κs a q c
+pub one_recorder_read_job : (κs : Lfts 2) (a : _) (b c : _) (r q : DeviceJob) → recorder-read-job.Post κs a r b → recorder-read-job.Post κs a q c
     → (r ≡ q) × (b.1.0.now ≡ c.1.0.now)
-one-recorder-read-job κs a b c r q h k = (h.0 ∙ sym k.0, h.1 ∙ sym k.1)
+one_recorder_read_job κs a b c r q h k = (h.0 ∙ sym k.0, h.1 ∙ sym k.1)
 
-pub one-report : (κs : Lfts 3) (a : _) (b c : _) (r q : ℕ) → report.Post κs a r b → report.Post κs a q c → (r ≡ q) × (b.0.now ≡ c.0.now)
-one-report κs a b c r q h k = (h.1 ∙ sym k.1, h.0 ∙ sym k.0)
+pub one_report : (κs : Lfts 3) (a : _) (b c : _) (r q : ℕ) → report.Post κs a r b → report.Post κs a q c → (r ≡ q) × (b.0.now ≡ c.0.now)
+one_report κs a b c r q h k = (h.1 ∙ sym k.1, h.0 ∙ sym k.0)
 
 -- ---- the tournament
 
-pub one-greater : (a : _) (b c : _) (r q : ℕ) → greater.Post tt a r b → greater.Post tt a q c → r ≡ q
-one-greater a b c r q h k = h ∙ sym k
+pub one_greater : (a : _) (b c : _) (r q : ℕ) → greater.Post tt a r b → greater.Post tt a q c → r ≡ q
+one_greater a b c r q h k = h ∙ sym k
 
-pub one-key-of : (a : _) (b c : _) (r q : ℕ) → key_of.Post tt a r b → key_of.Post tt a q c → r ≡ q
-one-key-of a b c r q h k = h ∙ sym k
+pub one_key_of : (a : _) (b c : _) (r q : ℕ) → key_of.Post tt a r b → key_of.Post tt a q c → r ≡ q
+one_key_of a b c r q h k = h ∙ sym k
 
-pub one-who-of : (a : _) (b c : _) (r q : ℕ) → who-of.Post tt a r b → who-of.Post tt a q c → r ≡ q
-one-who-of a b c r q h k = h ∙ sym k
+pub one_who_of : (a : _) (b c : _) (r q : ℕ) → who-of.Post tt a r b → who-of.Post tt a q c → r ≡ q
+one_who_of a b c r q h k = h ∙ sym k
 
-pub one-word-of : (a : _) (b c : _) (r q : ℕ) → word_of.Post tt a r b → word_of.Post tt a q c → r ≡ q
-one-word-of a b c r q h k = h ∙ sym k
+pub one_word_of : (a : _) (b c : _) (r q : ℕ) → word_of.Post tt a r b → word_of.Post tt a q c → r ≡ q
+one_word_of a b c r q h k = h ∙ sym k
 
-pub one-top : (κs : Lfts 1) (a : _) (b c : _) (r q : ℕ) → top.Post κs a r b → top.Post κs a q c → r ≡ q
-one-top κs a b c r q h k = h ∙ sym k
+pub one_top : (κs : Lfts 1) (a : _) (b c : _) (r q : ℕ) → top.Post κs a r b → top.Post κs a q c → r ≡ q
+one_top κs a b c r q h k = h ∙ sym k
 
-pub one-put : (κs : Lfts 1) (a : _) (b c : _) (r q : ℕ) → put.Post κs a r b → put.Post κs a q c
-    → (f : ℕ → ℕ) → a.1.0 ≤ maxTasks → a.0.now ≡ tree_of a.1.0 f
+pub one_put : (κs : Lfts 1) (a : _) (b c : _) (r q : ℕ) → put.Post κs a r b → put.Post κs a q c
+    → (f : ℕ → ℕ) → a.1.0 ≤ max_tasks → a.0.now ≡ tree_of a.1.0 f
     → (r ≡ q) × (b.0.now ≡ c.0.now)
-one-put κs a b c r q h k f few e = (h.1 f few e ∙ sym (k.1 f few e), h.0 f few e ∙ sym (k.0 f few e))
+one_put κs a b c r q h k f few e = (h.1 f few e ∙ sym (k.1 f few e), h.0 f few e ∙ sym (k.0 f few e))
 
-pub one-build : (κs : Lfts 3) (a : _) (b c : _) (r q : _) → build.Post κs a r b → build.Post κs a q c
-    → a.0 ≤ maxTasks → a.1.1.1.0.now ≡ replicate places 0
+pub one_build : (κs : Lfts 3) (a : _) (b c : _) (r q : _) → build.Post κs a r b → build.Post κs a q c
+    → a.0 ≤ max_tasks → a.1.1.1.0.now ≡ replicate places 0
     → b.1.1.1.0.now ≡ c.1.1.1.0.now
-one-build κs a b c r q h k few e = h few e ∙ sym (k few e)
+one_build κs a b c r q h k few e = h few e ∙ sym (k few e)
 
 -- the answer, the head and every array that the act was lent to change, put together as a step; and the tournament
-pub one-act : (κs : Lfts 14) (a : _) (b c : _) (r q : Acted) → act.Post κs a r b → act.Post κs a q c
-    → (steppedAs r b.1.1.1.1.1.1.1.1.1.0.now b.1.1.1.1.1.1.1.1.1.1.0.now b.1.1.1.1.1.1.1.1.1.1.1.0.now
+pub one_act : (κs : Lfts 14) (a : _) (b c : _) (r q : Acted) → act.Post κs a r b → act.Post κs a q c
+    → (stepped_as r b.1.1.1.1.1.1.1.1.1.0.now b.1.1.1.1.1.1.1.1.1.1.0.now b.1.1.1.1.1.1.1.1.1.1.1.0.now
     b.1.1.1.1.1.1.1.1.1.1.1.1.0.now b.1.1.1.1.1.1.1.1.1.1.1.1.1.0.now
     b.1.1.1.1.1.1.1.1.1.1.1.1.1.1.0.now b.1.1.1.1.1.1.1.1.1.1.1.1.1.1.1.0.now
     b.1.1.1.1.1.1.1.1.1.1.1.1.1.1.1.1.0.now
-    ≡ steppedAs q c.1.1.1.1.1.1.1.1.1.0.now c.1.1.1.1.1.1.1.1.1.1.0.now c.1.1.1.1.1.1.1.1.1.1.1.0.now
+    ≡ stepped_as q c.1.1.1.1.1.1.1.1.1.0.now c.1.1.1.1.1.1.1.1.1.1.0.now c.1.1.1.1.1.1.1.1.1.1.1.0.now
     c.1.1.1.1.1.1.1.1.1.1.1.1.0.now c.1.1.1.1.1.1.1.1.1.1.1.1.1.0.now
     c.1.1.1.1.1.1.1.1.1.1.1.1.1.1.0.now c.1.1.1.1.1.1.1.1.1.1.1.1.1.1.1.0.now
     c.1.1.1.1.1.1.1.1.1.1.1.1.1.1.1.1.0.now)
     × (b.1.1.1.1.1.1.1.1.1.1.1.1.1.1.1.1.1.0.now ≡ c.1.1.1.1.1.1.1.1.1.1.1.1.1.1.1.1.1.0.now)
-one-act κs a b c r q h k = (
+one_act κs a b c r q h k = (
   h.0 ∙ sym k.0,
-  h.1 ∙ ap₂ (tournamentOf a.1.1.0) (ap (λ (x : Stepped). x.state.released) (h.0 ∙ sym k.0))
+  h.1 ∙ ap₂ (tournament_of a.1.1.0) (ap (λ (x : Stepped). x.state.released) (h.0 ∙ sym k.0))
       (ap (λ (x : Stepped). x.state.kept) (h.0 ∙ sym k.0))
       ∙ sym k.1,
 )

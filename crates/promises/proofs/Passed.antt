@@ -3,23 +3,23 @@ use mathlib.Core.Path.{◌≡◌, sym, ◌∙◌, ap}
 use mathlib.Core.List.{List}
 use Prim.Native.Nat.{ℕ}
 use lib.ListN.{drop}
-use Rattle.rules.specs.Numbers.Answer.{verdictNumber}
-use Rattle.rules.specs.Books.Book.{planIn, eventBody, checkOf, checkedAs, checkedOf}
+use Rattle.rules.specs.Numbers.Answer.{verdict_number}
+use Rattle.rules.specs.Books.Book.{plan_in, event_body, check_of, checked_as, checked_of}
 use Rattle.rules.specs.declared.answer.Checked.{Checked}
 use Rattle.rules.specs.declared.answer.Verdict.{Verdict}
-use Rattle.rules.proofs.Books.Passes.{verdict-held, check-passes}
+use Rattle.rules.proofs.Books.Passes.{verdict_held, check_passes}
 
-module _ (b : List ℕ) (room : ℕ) (c : Checked) (h : c ≡ checkedOf b room) (e : verdictNumber c.verdict ≡ 0) where
-  pub number_is : verdictNumber (checkOf b room) ≡ 0
-  number_is = ap verdictNumber (sym (verdict-held (checkOf b room) b)) ∙ ap (λ (x : Checked). verdictNumber x.verdict) (sym h) ∙ e
+module _ (b : List ℕ) (room : ℕ) (c : Checked) (h : c ≡ checked_of b room) (e : verdict_number c.verdict ≡ 0) where
+  pub number_is : verdict_number (check_of b room) ≡ 0
+  number_is = ap verdict_number (sym (verdict_held (check_of b room) b)) ∙ ap (λ (x : Checked). verdict_number x.verdict) (sym h) ∙ e
 
-  passed : c ≡ checkedAs Verdict.Passed b
-  passed = h ∙ ap (λ v. checkedAs v b) (check-passes b room number_is)
+  passed : c ≡ checked_as Verdict.Passed b
+  passed = h ∙ ap (λ v. checked_as v b) (check_passes b room number_is)
 
-  pub plan-is : c.plan ≡ planIn b
-  unfolding checkedAs
-  plan-is = ap (λ (x : Checked). x.plan) passed
+  pub plan_is : c.plan ≡ plan_in b
+  unfolding checked_as
+  plan_is = ap (λ (x : Checked). x.plan) passed
 
-  pub body_is : drop c.events b ≡ eventBody b
-  unfolding checkedAs
+  pub body_is : drop c.events b ≡ event_body b
+  unfolding checked_as
   body_is = ap (λ (x : Checked). drop x.events b) passed

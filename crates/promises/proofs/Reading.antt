@@ -11,11 +11,11 @@ use types.Logic.{Logic}
 use contract.Lifetimes.{Lfts}
 use contract.Monad.{Fun, fact, fact_mono}
 use lib.ListN.{drop}
-use Rattle.rules.specs.Numbers.Answer.{verdictNumber}
-use Rattle.rules.specs.Books.Book.{found_at, checkedOf}
+use Rattle.rules.specs.Numbers.Answer.{verdict_number}
+use Rattle.rules.specs.Books.Book.{found_at, checked_of}
 use Rattle.rules.specs.declared.answer.Checked.{Checked}
 use Rattle.rules.specs.declared.answer.Found.{Found}
-use Rattle.rules.proofs.Books.Passes.{check-passes}
+use Rattle.rules.proofs.Books.Passes.{check_passes}
 use Rattle.book.specs.Reader.{ReadAt}
 use Rattle.book.specs.declared.reader.Reader.{Reader}
 use Rattle.book.proofs.EventWalk.{walks}
@@ -26,27 +26,27 @@ use Rattle.book.specs.contracts.reader.next as next
 use Rattle.promises.proofs.Passed.{number_is, body_is}
 
 -- what stands at place k of the event body of an accepted book
-module _ (b : List ℕ) (room : ℕ) (c : Checked) (h : c ≡ checkedOf b room) (e : verdictNumber c.verdict ≡ 0) where
-  pub found-at : (body : List ℕ) (k : ℕ) (r : Found) → body ≡ drop c.events b → r ≡ found_at body k → ReadAt b k r
-  found-at body k r same f =
-      subst (ReadAt b k) (sym (f ∙ ap (λ x. found_at x k) (same ∙ body_is b room c h e))) (walks b room (check-passes b room (number_is b room c h e)) k)
+module _ (b : List ℕ) (room : ℕ) (c : Checked) (h : c ≡ checked_of b room) (e : verdict_number c.verdict ≡ 0) where
+  pub found_at_lem : (body : List ℕ) (k : ℕ) (r : Found) → body ≡ drop c.events b → r ≡ found_at body k → ReadAt b k r
+  found_at_lem body k r same f =
+      subst (ReadAt b k) (sym (f ∙ ap (λ x. found_at x k) (same ∙ body_is b room c h e))) (walks b room (check_passes b room (number_is b room c h e)) k)
 
-module _ (κs : Lfts 1) (a : _) (b : _) (c : Checked) (h : check.Post κs a c b) (e : verdictNumber c.verdict ≡ 0) where
+module _ (κs : Lfts 1) (a : _) (b : _) (c : Checked) (h : check.Post κs a c b) (e : verdict_number c.verdict ≡ 0) where
   -- of the body, which starts where the check says
-  pub read-finds : (κs' : Lfts 1) (lent : _) (left : _) (r : Found) → read.Post κs' lent r left → lent.0.now ≡ drop c.events a.0.now
+  pub read_finds : (κs' : Lfts 1) (lent : _) (left : _) (r : Found) → read.Post κs' lent r left → lent.0.now ≡ drop c.events a.0.now
       → ReadAt a.0.now lent.1.0 r
-  read-finds κs' lent left r q same = found-at a.0.now a.1.0 c h e lent.0.now lent.1.0 r same q
+  read_finds κs' lent left r q same = found_at_lem a.0.now a.1.0 c h e lent.0.now lent.1.0 r same q
 
   -- of the whole book and the start of its body
-  pub read-in-finds : (κs' : Lfts 1) (lent : _) (left : _) (r : Found) → read-in.Post κs' lent r left → lent.0.now ≡ a.0.now → lent.1.0 ≡ c.events
+  pub read_in_finds : (κs' : Lfts 1) (lent : _) (left : _) (r : Found) → read-in.Post κs' lent r left → lent.0.now ≡ a.0.now → lent.1.0 ≡ c.events
       → ReadAt a.0.now lent.1.1.0 r
-  read-in-finds κs' lent left r q same start =
-      found-at a.0.now a.1.0 c h e (drop lent.1.0 lent.0.now) lent.1.1.0 r (λ i. drop (start i) (same i)) q
+  read_in_finds κs' lent left r q same start =
+      found_at_lem a.0.now a.1.0 c h e (drop lent.1.0 lent.0.now) lent.1.1.0 r (λ i. drop (start i) (same i)) q
 
   -- of a reader that holds the body, by what the clause of `next` says
-  pub next-finds : {M : Type 1} {𝓤 : Ura M} (𝓛 : Logic 𝓤) (mem : Memory → SProp 𝓤) (run : Routine → Fun 𝓤) (κs' : Lfts 1) (reader : Reader)
+  pub next_finds : {M : Type 1} {𝓤 : Ura M} (𝓛 : Logic 𝓤) (mem : Memory → SProp 𝓤) (run : Routine → Fun 𝓤) (κs' : Lfts 1) (reader : Reader)
       (left : _) (r : Found) → reader.body.now ≡ drop c.events a.0.now
       → ent 𝓤 ((next.clauses 𝓛 mem run κs' (reader, tt)).ensures tt r left) (fact 𝓤 (ReadAt a.0.now reader.place r))
-  next-finds {𝓤 = 𝓤} 𝓛 mem run κs' reader left r same =
+  next_finds {𝓤 = 𝓤} 𝓛 mem run κs' reader left r same =
       fact_mono 𝓤 (r ≡ found_at reader.body.now reader.place) (ReadAt a.0.now reader.place r)
-      (found-at a.0.now a.1.0 c h e reader.body.now reader.place r same)
+      (found_at_lem a.0.now a.1.0 c h e reader.body.now reader.place r same)

@@ -13,10 +13,10 @@ use Rattle.rules.specs.Books.Book.{found_at}
 use Rattle.rules.specs.Books.Load.{load_of}
 use Rattle.rules.specs.declared.answer.Found.{Found}
 use Rattle.rules.specs.declared.answer.Loaded.{Loaded}
-use Rattle.book.specs.Reader.{readerAt}
+use Rattle.book.specs.Reader.{reader_at}
 use Rattle.book.specs.declared.reader.Reader.{Reader}
-use Rattle.device.specs.Table.{numbersOf}
-use Rattle.device.specs.Device.{loadSpelled}
+use Rattle.device.specs.Table.{numbers_of}
+use Rattle.device.specs.Device.{load_spelled}
 use Rattle.device.specs.declared.load.DeviceLoad.{DeviceLoad}
 use Rattle.book.specs.contracts.reader.next as next
 use Rattle.book.specs.contracts.reader.moved as moved
@@ -30,38 +30,38 @@ both 𝓤 φ ψ χ f = needs 𝓤 ψ (fact 𝓤 φ) (λ y. fact_mono 𝓤 φ χ 
 module _ {M : Type 1} {𝓤 : Ura M} (𝓛 : Logic 𝓤) (mem : Memory → SProp 𝓤) (run : Routine → Fun 𝓤) where
   -- ---- the reader of a lent book
 
-  pub next-says : (κs : Lfts 1) (a : _) (r : Found) (e : _)
+  pub next_says : (κs : Lfts 1) (a : _) (r : Found) (e : _)
       → (next.clauses 𝓛 mem run κs a).ensures tt r e ≡ fact 𝓤 (r ≡ found_at a.0.body.now a.0.place)
-  next-says κs a r e = refl
+  next_says κs a r e = refl
 
-  pub one-next : (κs : Lfts 1) (a : _) (r q : Found) (e f : _)
+  pub one_next : (κs : Lfts 1) (a : _) (r q : Found) (e f : _)
       → ent 𝓤 (sep 𝓤 ((next.clauses 𝓛 mem run κs a).ensures tt r e) ((next.clauses 𝓛 mem run κs a).ensures tt q f)) (fact 𝓤 (r ≡ q))
-  one-next κs a r q e f = both 𝓤 _ _ (r ≡ q) (λ h k. h ∙ sym k)
+  one_next κs a r q e f = both 𝓤 _ _ (r ≡ q) (λ h k. h ∙ sym k)
 
-  pub moved-says : (κs : Lfts 1) (a : _) (r : Reader) (e : _)
-      → (moved.clauses 𝓛 mem run κs a).ensures tt r e ≡ fact 𝓤 (r ≡ readerAt a.0 a.1.0)
-  moved-says κs a r e = refl
+  pub moved_says : (κs : Lfts 1) (a : _) (r : Reader) (e : _)
+      → (moved.clauses 𝓛 mem run κs a).ensures tt r e ≡ fact 𝓤 (r ≡ reader_at a.0 a.1.0)
+  moved_says κs a r e = refl
 
-  pub one-moved : (κs : Lfts 1) (a : _) (r q : Reader) (e f : _)
+  pub one_moved : (κs : Lfts 1) (a : _) (r q : Reader) (e f : _)
       → ent 𝓤 (sep 𝓤 ((moved.clauses 𝓛 mem run κs a).ensures tt r e) ((moved.clauses 𝓛 mem run κs a).ensures tt q f)) (fact 𝓤 (r ≡ q))
-  one-moved κs a r q e f = both 𝓤 _ _ (r ≡ q) (λ h k. h ∙ sym k)
+  one_moved κs a r q e f = both 𝓤 _ _ (r ≡ q) (λ h k. h ∙ sym k)
 
   -- ---- the load of a lent table of task records
 
-  pub load-table-says : (κs : Lfts 3) (a : _) (r : Loaded) (e : _)
-      → (load-table.clauses 𝓛 mem run κs a).ensures tt r e ≡ fact 𝓤 (r ≡ load_of (numbersOf a.0.now) a.1.0.now a.1.1.0.now)
-  load-table-says κs a r e = refl
+  pub load_table_says : (κs : Lfts 3) (a : _) (r : Loaded) (e : _)
+      → (load-table.clauses 𝓛 mem run κs a).ensures tt r e ≡ fact 𝓤 (r ≡ load_of (numbers_of a.0.now) a.1.0.now a.1.1.0.now)
+  load_table_says κs a r e = refl
 
-  pub one-load-table : (κs : Lfts 3) (a : _) (r q : Loaded) (e f : _)
+  pub one_load_table : (κs : Lfts 3) (a : _) (r q : Loaded) (e f : _)
       → ent 𝓤 (sep 𝓤 ((load-table.clauses 𝓛 mem run κs a).ensures tt r e) ((load-table.clauses 𝓛 mem run κs a).ensures tt q f)) (fact 𝓤 (r ≡ q))
-  one-load-table κs a r q e f = both 𝓤 _ _ (r ≡ q) (λ h k. h ∙ sym k)
+  one_load_table κs a r q e f = both 𝓤 _ _ (r ≡ q) (λ h k. h ∙ sym k)
 
-  pub recorder-load-table-says : (κs : Lfts 3) (a : _) (r : DeviceLoad) (e : _)
+  pub recorder_load_table_says : (κs : Lfts 3) (a : _) (r : DeviceLoad) (e : _)
       → (recorder-load-table.clauses 𝓛 mem run κs a).ensures tt r e
-      ≡ fact 𝓤 (r ≡ loadSpelled (load_of (numbersOf a.0.now) a.1.0.now a.1.1.0.now))
-  recorder-load-table-says κs a r e = refl
+      ≡ fact 𝓤 (r ≡ load_spelled (load_of (numbers_of a.0.now) a.1.0.now a.1.1.0.now))
+  recorder_load_table_says κs a r e = refl
 
-  pub one-recorder-load-table : (κs : Lfts 3) (a : _) (r q : DeviceLoad) (e f : _)
+  pub one_recorder_load_table : (κs : Lfts 3) (a : _) (r q : DeviceLoad) (e f : _)
       → ent 𝓤 (sep 𝓤 ((recorder-load-table.clauses 𝓛 mem run κs a).ensures tt r e) ((recorder-load-table.clauses 𝓛 mem run κs a).ensures tt q f))
       (fact 𝓤 (r ≡ q))
-  one-recorder-load-table κs a r q e f = both 𝓤 _ _ (r ≡ q) (λ h k. h ∙ sym k)
+  one_recorder_load_table κs a r q e f = both 𝓤 _ _ (r ≡ q) (λ h k. h ∙ sym k)

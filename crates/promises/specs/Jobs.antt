@@ -2,8 +2,8 @@
 use Rattle.std.specs.Prelude.{◌≡◌, List, ℕ, ◌*◌, ◌≤◌, ◌<◌, length}
 use Rattle.rules.specs.declared.answer.Verdict.{Verdict}
 use Rattle.rules.specs.declared.refusal.Refusal.TheVariants.{WrongJob, ShortSpace}
-use Rattle.jobs.specs.Grammar.{Body, levels, Good, text_of, eventsOf}
-use Rattle.jobs.specs.Job.{withEvents}
+use Rattle.jobs.specs.Grammar.{Body, levels, Good, text_of, events_of}
+use Rattle.jobs.specs.Job.{with_events}
 use Rattle.jobs.specs.Promised.{Place}
 use Rattle.jobs.specs.declared.Job.{Job}
 
@@ -13,10 +13,10 @@ RefusedWith v space r after = (r.verdict ≡ v) × (r.events ≡ 0) × (after �
 
 pub record JobRead (text space : List ℕ) (r : Job) (after : List ℕ) : Type 0 where
   -- the text of a body, with space enough: its events, and after them what stood there
-  pub written : (b : Body) → Good levels b → text_of b ≡ text → length (eventsOf b) * 4 ≤ length space
-      → (r.verdict ≡ Verdict.Passed) × (r.events ≡ length (eventsOf b)) × (after ≡ withEvents (eventsOf b) space)
+  pub written : (b : Body) → Good levels b → text_of b ≡ text → length (events_of b) * 4 ≤ length space
+      → (r.verdict ≡ Verdict.Passed) × (r.events ≡ length (events_of b)) × (after ≡ with_events (events_of b) space)
   -- with too little: 26
-  pub noSpace : (b : Body) → Good levels b → text_of b ≡ text → length space < length (eventsOf b) * 4 → RefusedWith (Verdict.Refused ShortSpace 0) space r after
+  pub no_space : (b : Body) → Good levels b → text_of b ≡ text → length space < length (events_of b) * 4 → RefusedWith (Verdict.Refused ShortSpace 0) space r after
   -- no body's text: 25, at its place
   pub unfit : ((b : Body) → Good levels b → text_of b ≡ text → ⊥) → (n : ℕ) × Place text n × RefusedWith (Verdict.Refused WrongJob n) space r after
   -- what is accepted is a body's text, and where 25 is given its place is the one

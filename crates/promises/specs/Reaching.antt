@@ -2,8 +2,8 @@
 use Rattle.std.specs.Prelude.{◌≡◌, List, ℕ, ◌*◌, ◌≤◌, length}
 use contract.Lifetimes.{Lfts}
 use Rattle.rules.specs.Numbers.Place.{at}
-use Rattle.rules.specs.Numbers.Answer.{verdictNumber}
-use Rattle.rules.specs.Books.Book.{planIn, eventsOf}
+use Rattle.rules.specs.Numbers.Answer.{verdict_number}
+use Rattle.rules.specs.Books.Book.{plan_in, events_of}
 use Rattle.rules.specs.Books.Bytes.{Bytes}
 use Rattle.rules.specs.Demands.Job.{Job}
 use Rattle.rules.specs.declared.protocol.Protocol.{Protocol}
@@ -14,11 +14,11 @@ use Rattle.scheduler.proofs.replay.Reads as replay
 -- reports n for its delay
 pub record Reaching (pr : Protocol) (b : List ℕ) (t n : ℕ) : Type 0 where
   pub book : List ℕ
-  pub plan : planIn book ≡ planIn b
+  pub plan : plan_in book ≡ plan_in b
   pub bytes : Bytes b → Bytes book
   pub released : ℕ
-  pub job : Job (planIn b) (eventsOf book) t released (length (eventsOf book))
+  pub job : Job (plan_in b) (events_of book) t released (length (events_of book))
   pub accepts : (κs : Lfts 2) (lent : _) (left : _) (r : Replayed) → replay.Post κs lent r left → lent.0 ≡ pr → lent.1.0.now ≡ book
-      → length (eventsOf book) * 4 ≤ length lent.1.1.0.now → verdictNumber r.verdict ≡ 0
+      → length (events_of book) * 4 ≤ length lent.1.1.0.now → verdict_number r.verdict ≡ 0
   pub reports : (κs : Lfts 2) (lent : _) (left : _) (r : Replayed) → replay.Post κs lent r left → lent.0 ≡ pr → lent.1.0.now ≡ book
-      → length (eventsOf book) * 4 ≤ length lent.1.1.0.now → at r.state.delay t ≡ n
+      → length (events_of book) * 4 ≤ length lent.1.1.0.now → at r.state.delay t ≡ n

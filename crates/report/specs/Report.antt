@@ -71,28 +71,28 @@ unfoldable pub runner : ℕ → List ℕ
 runner t = if eqb t nobody then dash else digits t
 
 -- the row of the event k: running task, user word, next word, call
-unfoldable pub rowWords : List ℕ → ℕ → List (List ℕ)
-rowWords rows k = runner (at rows (k * 4)) ∷ digits (at rows (k * 4 + 1)) ∷ digits (at rows (k * 4 + 2)) ∷ digits (at rows (k * 4 + 3)) ∷ []
+unfoldable pub row_words : List ℕ → ℕ → List (List ℕ)
+row_words rows k = runner (at rows (k * 4)) ∷ digits (at rows (k * 4 + 1)) ∷ digits (at rows (k * 4 + 2)) ∷ digits (at rows (k * 4 + 3)) ∷ []
 
 -- the line of the event k: its number counts from 1
 unfoldable pub row_line : List ℕ → ℕ → List ℕ
-row_line rows k = line (digits (k + 1)) (rowWords rows k)
+row_line rows k = line (digits (k + 1)) (row_words rows k)
 
 -- the lines of the first n events
 unfoldable pub row_lines : List ℕ → ℕ → List ℕ
 row_lines rows zero = []
 row_lines rows (suc k) = row_lines rows k ++ row_line rows k
 
-unfoldable pub callsLine : ℕ → ℕ → List ℕ
-callsLine lazy eager = line calls (digits lazy ∷ digits eager ∷ [])
+unfoldable pub calls_line : ℕ → ℕ → List ℕ
+calls_line lazy eager = line calls (digits lazy ∷ digits eager ∷ [])
 
-unfoldable pub delayedLine : List ℕ → List ℕ
-delayedLine delays = line delayed (map digits delays)
+unfoldable pub delayed_line : List ℕ → List ℕ
+delayed_line delays = line delayed (map digits delays)
 
-unfoldable pub refusedLine : Refusal → ℕ → List ℕ
-refusedLine why place = line refused (digits (number_of why) ∷ digits place ∷ [])
+unfoldable pub refused_line : Refusal → ℕ → List ℕ
+refused_line why place = line refused (digits (number_of why) ∷ digits place ∷ [])
 
 -- the whole report: it ends with the calls and the delays, or with the refusal
-unfoldable pub reportOf : Verdict → ℕ → List ℕ → ℕ → ℕ → List ℕ → List ℕ
-reportOf Verdict.Passed accepted rows lazy eager delays = header ++ row_lines rows accepted ++ callsLine lazy eager ++ delayedLine delays
-reportOf (Verdict.Refused why place) accepted rows lazy eager delays = header ++ row_lines rows accepted ++ refusedLine why place
+unfoldable pub report_of : Verdict → ℕ → List ℕ → ℕ → ℕ → List ℕ → List ℕ
+report_of Verdict.Passed accepted rows lazy eager delays = header ++ row_lines rows accepted ++ calls_line lazy eager ++ delayed_line delays
+report_of (Verdict.Refused why place) accepted rows lazy eager delays = header ++ row_lines rows accepted ++ refused_line why place

@@ -4,9 +4,9 @@ use Rattle.rules.specs.Numbers.Choice.{if◌then◌else◌}
 use Rattle.rules.specs.Numbers.Refusal.{number_of}
 use Rattle.rules.specs.declared.refusal.Refusal.TheVariants.{PastLimit}
 use Rattle.rules.specs.declared.answer.Verdict.{Verdict}
-use Rattle.page.specs.Decimal.{digitsIn, digits}
-use Rattle.report.specs.Report.{spaced, line, header, runner, rowWords}
-use Rattle.report.specs.Report.{row_line, row_lines, callsLine, delayedLine, refusedLine, reportOf}
+use Rattle.page.specs.Decimal.{digits_in, digits}
+use Rattle.report.specs.Report.{spaced, line, header, runner, row_words}
+use Rattle.report.specs.Report.{row_line, row_lines, calls_line, delayed_line, refused_line, report_of}
 
 same : List ℕ → List ℕ → Bool
 same [] [] = true
@@ -44,11 +44,11 @@ block =
     ∷ []
 
 -- P1 by the first protocol: its row bytes, and its report
-rowsByFirst : List ℕ
-rowsByFirst = 0 ∷ 1 ∷ 1 ∷ 0 ∷ 0 ∷ 5 ∷ 1 ∷ 0 ∷ 0 ∷ 5 ∷ 5 ∷ 0 ∷ 0 ∷ 5 ∷ 5 ∷ 0 ∷ 1 ∷ 3 ∷ 3 ∷ 1 ∷ 0 ∷ 1 ∷ 1 ∷ 0 ∷ 255 ∷ 0 ∷ 0 ∷ 0 ∷ []
+rows_by_first : List ℕ
+rows_by_first = 0 ∷ 1 ∷ 1 ∷ 0 ∷ 0 ∷ 5 ∷ 1 ∷ 0 ∷ 0 ∷ 5 ∷ 5 ∷ 0 ∷ 0 ∷ 5 ∷ 5 ∷ 0 ∷ 1 ∷ 3 ∷ 3 ∷ 1 ∷ 0 ∷ 1 ∷ 1 ∷ 0 ∷ 255 ∷ 0 ∷ 0 ∷ 0 ∷ []
 
-unfoldable pub blockByFirst : List ℕ
-blockByFirst =
+unfoldable pub block_by_first : List ℕ
+block_by_first =
     -- event running user next call
     101 ∷ 118 ∷ 101 ∷ 110 ∷ 116 ∷ 32 ∷ 114 ∷ 117 ∷ 110 ∷ 110 ∷ 105 ∷ 110 ∷ 103 ∷ 32 ∷ 117 ∷ 115 ∷ 101 ∷ 114 ∷ 32 ∷ 110 ∷ 101 ∷ 120 ∷ 116 ∷ 32 ∷ 99 ∷ 97 ∷ 108
     ∷ 108 ∷ 10
@@ -73,11 +73,11 @@ blockByFirst =
     ∷ []
 
 -- P5, as a list of events: its rows, and the work that is refused
-rowsOfRefused : List ℕ
-rowsOfRefused = 0 ∷ 1 ∷ 0 ∷ 0 ∷ 0 ∷ 5 ∷ 0 ∷ 0 ∷ 0 ∷ 5 ∷ 0 ∷ 0 ∷ []
+rows_of_refused : List ℕ
+rows_of_refused = 0 ∷ 1 ∷ 0 ∷ 0 ∷ 0 ∷ 5 ∷ 0 ∷ 0 ∷ 0 ∷ 5 ∷ 0 ∷ 0 ∷ []
 
-unfoldable pub blockOfRefused : List ℕ
-blockOfRefused =
+unfoldable pub block_of_refused : List ℕ
+block_of_refused =
     -- event running user next call
     101 ∷ 118 ∷ 101 ∷ 110 ∷ 116 ∷ 32 ∷ 114 ∷ 117 ∷ 110 ∷ 110 ∷ 105 ∷ 110 ∷ 103 ∷ 32 ∷ 117 ∷ 115 ∷ 101 ∷ 114 ∷ 32 ∷ 110 ∷ 101 ∷ 120 ∷ 116 ∷ 32 ∷ 99 ∷ 97 ∷ 108
     ∷ 108 ∷ 10
@@ -91,9 +91,9 @@ blockOfRefused =
     ∷ 114 ∷ 101 ∷ 102 ∷ 117 ∷ 115 ∷ 101 ∷ 100 ∷ 32 ∷ 50 ∷ 49 ∷ 32 ∷ 51 ∷ 10
     ∷ []
 
-shown : T (same (reportOf Verdict.Passed 7 rows 1 2 (0 ∷ 2 ∷ 0 ∷ 0 ∷ [])) block
-    && same (reportOf Verdict.Passed 7 rowsByFirst 1 2 (0 ∷ 2 ∷ 0 ∷ 0 ∷ [])) blockByFirst
-    && same (reportOf (Verdict.Refused PastLimit 3) 3 rowsOfRefused 0 1 (0 ∷ 0 ∷ 0 ∷ 0 ∷ [])) blockOfRefused)
-unfolding same rows block rowsByFirst blockByFirst rowsOfRefused blockOfRefused if◌then◌else◌ number_of digitsIn digits spaced line header runner rowWords
-    row_line row_lines callsLine delayedLine refusedLine reportOf
+shown : T (same (report_of Verdict.Passed 7 rows 1 2 (0 ∷ 2 ∷ 0 ∷ 0 ∷ [])) block
+    && same (report_of Verdict.Passed 7 rows_by_first 1 2 (0 ∷ 2 ∷ 0 ∷ 0 ∷ [])) block_by_first
+    && same (report_of (Verdict.Refused PastLimit 3) 3 rows_of_refused 0 1 (0 ∷ 0 ∷ 0 ∷ 0 ∷ [])) block_of_refused)
+unfolding same rows block rows_by_first block_by_first rows_of_refused block_of_refused if◌then◌else◌ number_of digits_in digits spaced line header runner row_words
+    row_line row_lines calls_line delayed_line refused_line report_of
 shown = tt

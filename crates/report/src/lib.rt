@@ -5,7 +5,7 @@ pub mod row;
 ghost use Rattle.std.specs.Prelude.{◌≡◌, ◌++◌, min, length};
 ghost use Rattle.rules.specs.Numbers.Place.{stored};
 ghost use Rattle.page.specs.Page.{page, typed};
-ghost use Rattle.report.specs.Report.{header, row_lines, callsLine, delayedLine, reportOf};
+ghost use Rattle.report.specs.Report.{header, row_lines, calls_line, delayed_line, report_of};
 
 use rules::answer::Verdict;
 
@@ -19,7 +19,7 @@ fn put_front(out: &mut [u8], rows: &[u8], accepted: usize) -> usize
 
 // The calls and the delays.
 fn put_end(out: &mut [u8], i: usize, lazy: u32, eager: u32, delay: &[u16]) -> usize
-    ensures { page out.new result ≡ typed (page out.old i) (callsLine lazy eager ++ delayedLine delay.now) }
+    ensures { page out.new result ≡ typed (page out.old i) (calls_line lazy eager ++ delayed_line delay.now) }
 {
     let place = lines::put_calls(out, i, lazy, eager);
     lines::put_delayed(out, place, delay)
@@ -35,7 +35,7 @@ fn put_report(
     delay: &[u16],
 ) -> usize
     ensures { page out.new result ≡ typed (page out.old 0)
-        (reportOf verdict accepted rows.now lazy eager delay.now) }
+        (report_of verdict accepted rows.now lazy eager delay.now) }
 {
     let i = put_front(out, rows, accepted);
     match verdict {
@@ -56,8 +56,8 @@ pub fn report(
     eager: u32,
     delay: &[u16],
 ) -> usize
-    ensures out_after { out.new ≡ stored out.old 0 (reportOf verdict accepted rows.now lazy eager delay.now) }
-    ensures value { result ≡ min (length (reportOf verdict accepted rows.now lazy eager delay.now)) (length out.old) }
+    ensures out_after { out.new ≡ stored out.old 0 (report_of verdict accepted rows.now lazy eager delay.now) }
+    ensures value { result ≡ min (length (report_of verdict accepted rows.now lazy eager delay.now)) (length out.old) }
 {
     put_report(out, verdict, accepted, rows, lazy, eager, delay)
 }

@@ -2,7 +2,7 @@
 ghost use Rattle.std.specs.Prelude.{◌≡◌, [], ◌∷◌, map, ◌+◌, ◌^◌, ◌<◌};
 ghost use Rattle.page.specs.Decimal.{digits};
 ghost use Rattle.page.specs.Page.{page, typed};
-ghost use Rattle.report.specs.Report.{space, spaced, line, header, runner, rowWords, row_line, row_lines, callsLine, delayedLine, refusedLine};
+ghost use Rattle.report.specs.Report.{space, spaced, line, header, runner, row_words, row_line, row_lines, calls_line, delayed_line, refused_line};
 
 use crate::row::{call, next, running, user, wide8};
 use page::{put, put_field, put_number, put_text};
@@ -51,7 +51,7 @@ fn put_four(out: &mut [u8], i: usize, task: u64, user: u64, next: u64, call: u64
 
 // Those of the row k.
 fn put_words(out: &mut [u8], i: usize, rows: &[u8], k: usize) -> usize
-    ensures { page out.new result ≡ typed (page out.old i) (spaced (rowWords rows.now k)) }
+    ensures { page out.new result ≡ typed (page out.old i) (spaced (row_words rows.now k)) }
 {
     let task = running(rows, k);
     let user = user(rows, k);
@@ -94,13 +94,13 @@ fn put_pair(out: &mut [u8], i: usize, word: &[u8], x: u64, y: u64) -> usize
 }
 
 pub fn put_calls(out: &mut [u8], i: usize, lazy: u32, eager: u32) -> usize
-    ensures { page out.new result ≡ typed (page out.old i) (callsLine lazy eager) }
+    ensures { page out.new result ≡ typed (page out.old i) (calls_line lazy eager) }
 {
     put_pair(out, i, b"calls", lazy as u64, eager as u64)
 }
 
 pub fn put_refused(out: &mut [u8], i: usize, why: Refusal, place: usize) -> usize
-    ensures { page out.new result ≡ typed (page out.old i) (refusedLine why place) }
+    ensures { page out.new result ≡ typed (page out.old i) (refused_line why place) }
 {
     let number = wide8(rules::refusal::number(why));
     put_pair(out, i, b"refused", number, place as u64)
@@ -130,7 +130,7 @@ fn put_list(out: &mut [u8], i: usize, word: &[u8], xs: &[u16]) -> usize
 }
 
 pub fn put_delayed(out: &mut [u8], i: usize, delay: &[u16]) -> usize
-    ensures { page out.new result ≡ typed (page out.old i) (delayedLine delay.now) }
+    ensures { page out.new result ≡ typed (page out.old i) (delayed_line delay.now) }
 {
     put_list(out, i, b"delayed", delay)
 }

@@ -1,5 +1,5 @@
 ghost use Rattle.std.specs.Prelude.{◌≡◌};
-ghost use Rattle.rules.specs.Numbers.Answer.{answerCalls, answerNumber, verdictNumber, verdictPlace};
+ghost use Rattle.rules.specs.Numbers.Answer.{answer_calls, answer_number, verdict_number, verdict_place};
 
 use crate::event::Event;
 use crate::plan::Plan;
@@ -79,7 +79,7 @@ pub struct Replayed {
 
 // A verdict as its number and place; both 0 where nothing is refused.
 pub fn verdict_number(v: Verdict) -> u8
-    ensures { result ≡ verdictNumber v }
+    ensures { result ≡ verdict_number v }
 {
     match v {
         Verdict::Passed => 0,
@@ -88,7 +88,7 @@ pub fn verdict_number(v: Verdict) -> u8
 }
 
 pub fn verdict_place(v: Verdict) -> usize
-    ensures { result ≡ verdictPlace v }
+    ensures { result ≡ verdict_place v }
 {
     match v {
         Verdict::Passed => 0,
@@ -98,7 +98,7 @@ pub fn verdict_place(v: Verdict) -> usize
 
 // An answer as its number, 0 where the event is accepted, and its lazy calls.
 pub fn answer_number(a: Answer) -> u8
-    ensures { result ≡ answerNumber a }
+    ensures { result ≡ answer_number a }
 {
     match a {
         Answer::Accepted(_) => 0,
@@ -107,7 +107,7 @@ pub fn answer_number(a: Answer) -> u8
 }
 
 pub fn answer_calls(a: Answer) -> u8
-    ensures { result ≡ answerCalls a }
+    ensures { result ≡ answer_calls a }
 {
     match a {
         Answer::Accepted(call) => {

@@ -1,5 +1,5 @@
 ghost use Rattle.std.specs.Prelude.{◌≡◌};
-ghost use Rattle.rules.specs.Books.Load.{blankPlan};
+ghost use Rattle.rules.specs.Books.Load.{blank_plan};
 
 use crate::capacity::{MAX_LOCKS, MAX_TASKS};
 
@@ -19,7 +19,7 @@ pub struct Plan {
 
 // The plan beside a refusal: every figure 0.
 pub fn blank() -> Plan
-    ensures { result ≡ blankPlan }
+    ensures { result ≡ blank_plan }
 {
     Plan {
         tasks: 0,

@@ -1,5 +1,5 @@
 ghost use Rattle.std.specs.Prelude.{◌≡◌};
-ghost use Rattle.rules.specs.Schedulers.Protocol.{protocolNamed, protocolNumber};
+ghost use Rattle.rules.specs.Schedulers.Protocol.{protocol_named, protocol_number};
 
 // RULES 7.9: the two lazy protocols. They differ in what an entry to the kernel leaves in the second
 // word: the greatest kept priority (the next word), or the user word (the kernel word).
@@ -11,7 +11,7 @@ pub enum Protocol {
 
 // Its number.
 pub fn number(protocol: Protocol) -> u8
-    ensures { result ≡ protocolNumber protocol }
+    ensures { result ≡ protocol_number protocol }
 {
     match protocol {
         Protocol::Second => 2,
@@ -21,7 +21,7 @@ pub fn number(protocol: Protocol) -> u8
 
 // The protocol that a number names: 1 the first, and every other number the second.
 pub fn named(number: u8) -> Protocol
-    ensures { result ≡ protocolNamed number }
+    ensures { result ≡ protocol_named number }
 {
     if number == 1 {
         return Protocol::First;

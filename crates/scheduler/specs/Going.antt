@@ -1,14 +1,14 @@
 -- RULES 12.3: a run of events under way: what one turn comes to, and what is left to run. Assumes nothing.
 use Rattle.std.specs.Prelude.{◌≡◌, Bool, false, List, ℕ, ◌+◌, ◌-◌, ◌*◌, ◌^◌, ◌≤◌, ◌<◌, eqb, ltb, length}
-use Rattle.rules.specs.Numbers.Answer.{foundEvent}
-use Rattle.rules.specs.Numbers.Capacity.{maxLocks}
+use Rattle.rules.specs.Numbers.Answer.{found_event}
+use Rattle.rules.specs.Numbers.Capacity.{max_locks}
 use Rattle.rules.specs.Numbers.Choice.{if◌then◌else◌}
 use Rattle.rules.specs.Books.Book.{found_at}
 use Rattle.rules.specs.Numbers.Place.{from}
 use Rattle.rules.specs.Replays.Run.{Ran, with_row, run_from}
 use Rattle.rules.specs.Soundness.Sound.{SoundAndSized}
 use Rattle.rules.specs.Schedulers.State.{fresh_of}
-use Rattle.rules.specs.Schedulers.Whole.{stateWith}
+use Rattle.rules.specs.Schedulers.Whole.{state_with}
 use Rattle.rules.specs.declared.plan.Plan.{Plan}
 use Rattle.rules.specs.declared.protocol.Protocol.{Protocol}
 use Rattle.rules.specs.declared.state.Head.{Head}
@@ -24,65 +24,65 @@ use Rattle.scheduler.specs.declared.turn.Ended.{Ended}
 -- what a run has come to and its head, beside the arrays and the rows
 abbrev pub ended_as : Ended → List ℕ → List ℕ → List ℕ → List ℕ → List ℕ → List ℕ → List ℕ → List ℕ → List ℕ → Ran
 ended_as r released kept delay depth takes saved units owner rows =
-    record { verdict = r.verdict; state = stateWith r.head released kept delay depth takes saved units owner; rows = rows }
+    record { verdict = r.verdict; state = state_with r.head released kept delay depth takes saved units owner; rows = rows }
 
 -- what a refusal of 1 to 9 or 24 leaves: no state but a fresh one
-abbrev pub untouchedAs : Refusal → ℕ → Plan → Replayed
-untouchedAs why place p = record { verdict = Verdict.Refused why place; plan = p; state = fresh_of }
+abbrev pub untouched_as : Refusal → ℕ → Plan → Replayed
+untouched_as why place p = record { verdict = Verdict.Refused why place; plan = p; state = fresh_of }
 
 -- ---- one turn
 
 -- the rows after the answer to the event at place k, with the head after it; and what the run then comes to
-unfoldable pub rowsAfter : Answer → Head → ℕ → List ℕ → List ℕ
-rowsAfter (Answer.Accepted call) h k rows = with_row rows k h call
-rowsAfter (Answer.Refused why) h k rows = rows
+unfoldable pub rows_after : Answer → Head → ℕ → List ℕ → List ℕ
+rows_after (Answer.Accepted call) h k rows = with_row rows k h call
+rows_after (Answer.Refused why) h k rows = rows
 
-unfoldable pub stoppedAt : Answer → ℕ → Verdict
-stoppedAt (Answer.Accepted call) k = Verdict.Passed
-stoppedAt (Answer.Refused why) k = Verdict.Refused why k
+unfoldable pub stopped_at : Answer → ℕ → Verdict
+stopped_at (Answer.Accepted call) k = Verdict.Passed
+stopped_at (Answer.Refused why) k = Verdict.Refused why k
 
 -- the turn of the event at place k
-unfoldable pub turnedAs : Stepped → ℕ → List ℕ → Ran
-turnedAs r k rows = record { verdict = stoppedAt r.answer k; state = r.state; rows = rowsAfter r.answer r.state.head k rows }
+unfoldable pub turned_as : Stepped → ℕ → List ℕ → Ran
+turned_as r k rows = record { verdict = stopped_at r.answer k; state = r.state; rows = rows_after r.answer r.state.head k rows }
 
 -- what a turn asks for: a sound state, and room for its row
 pub record TurnReady (pr : Protocol) (p : Plan) (s : State) (rows : List ℕ) (k : ℕ) : Type 0 where
   pub sound : SoundAndSized pr p s
-  pub limits : length p.limit ≡ maxLocks
+  pub limits : length p.limit ≡ max_locks
   pub room : k * 4 + 4 ≤ length rows
 
 -- ---- all turns
 
 -- the event at place k of a body, and a tick where there is none
-abbrev pub eventIn : List ℕ → ℕ → Event
-eventIn body k = foundEvent (found_at body k)
+abbrev pub event_in : List ℕ → ℕ → Event
+event_in body k = found_event (found_at body k)
 
 -- the event at place k of a run: the one that is handed in, and after it those of a body
-unfoldable pub eventOn : Event → List ℕ → ℕ → Event
-eventOn first body k = if eqb k 0 then first else eventIn body k
+unfoldable pub event_on : Event → List ℕ → ℕ → Event
+event_on first body k = if eqb k 0 then first else event_in body k
 
 -- what a run of n events asks for
 pub record RunReady (pr : Protocol) (p : Plan) (s : State) (n : ℕ) (rows : List ℕ) : Type 0 where
   pub sound : SoundAndSized pr p s
-  pub limits : length p.limit ≡ maxLocks
+  pub limits : length p.limit ≡ max_locks
   pub room : n * 4 ≤ length rows
 
 -- it goes on where nothing was refused and an event is left
-unfoldable pub goesOn : Verdict → ℕ → ℕ → Bool
-goesOn Verdict.Passed k n = ltb k n
-goesOn (Verdict.Refused why place) k n = false
+unfoldable pub goes_on : Verdict → ℕ → ℕ → Bool
+goes_on Verdict.Passed k n = ltb k n
+goes_on (Verdict.Refused why place) k n = false
 
 -- what is left at place k of n events
-unfoldable pub leftFrom : Protocol → Plan → (ℕ → Event) → ℕ → ℕ → Verdict → State → List ℕ → Ran
-leftFrom pr p events n k Verdict.Passed s rows = run_from pr p (from events k (n - k)) k s rows
-leftFrom pr p events n k (Verdict.Refused why place) s rows = record { verdict = Verdict.Refused why place; state = s; rows = rows }
+unfoldable pub left_from : Protocol → Plan → (ℕ → Event) → ℕ → ℕ → Verdict → State → List ℕ → Ran
+left_from pr p events n k Verdict.Passed s rows = run_from pr p (from events k (n - k)) k s rows
+left_from pr p events n k (Verdict.Refused why place) s rows = record { verdict = Verdict.Refused why place; state = s; rows = rows }
 
 -- at place k, what is left comes to what all n events come to from the first state
 pub record Underway (pr : Protocol) (p : Plan) (events : ℕ → Event) (n : ℕ) (first : State) (start : List ℕ) (k : ℕ) (ran : Ran) : Type 0 where
   pub asked : RunReady pr p first n start
   pub few : n < 2 ^ 64
   pub within : k ≤ n
-  pub rest : leftFrom pr p events n k ran.verdict ran.state ran.rows ≡ run_from pr p (from events 0 n) 0 first start
+  pub rest : left_from pr p events n k ran.verdict ran.state ran.rows ≡ run_from pr p (from events 0 n) 0 first start
   pub sound : SoundAndSized pr p ran.state
   pub same : length ran.rows ≡ length start
 
@@ -93,6 +93,6 @@ Going pr p events n first start k ran = Underway pr p events n first start k ran
 -- ---- a run of one event
 
 -- its answer: what was refused, or whether its row has a call
-unfoldable pub answerFrom : Verdict → ℕ → Answer
-answerFrom Verdict.Passed call = Answer.Accepted (eqb call 1)
-answerFrom (Verdict.Refused why place) call = Answer.Refused why
+unfoldable pub answer_from : Verdict → ℕ → Answer
+answer_from Verdict.Passed call = Answer.Accepted (eqb call 1)
+answer_from (Verdict.Refused why place) call = Answer.Refused why

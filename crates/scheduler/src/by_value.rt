@@ -1,10 +1,10 @@
 // The step of a sound state by value: a run of one event.
 ghost use Rattle.std.specs.Prelude.{◌≡◌, true, length};
-ghost use Rattle.rules.specs.Numbers.Capacity.{maxLocks};
+ghost use Rattle.rules.specs.Numbers.Capacity.{max_locks};
 ghost use Rattle.rules.specs.Soundness.Sound.{SoundAndSized};
-ghost use Rattle.rules.specs.Soundness.SoundTest.{soundTest};
-ghost use Rattle.rules.specs.Replays.Step.{actOf, refusedWith};
-ghost use Rattle.scheduler.specs.Going.{answerFrom};
+ghost use Rattle.rules.specs.Soundness.SoundTest.{sound_test};
+ghost use Rattle.rules.specs.Replays.Step.{act_of, refused_with};
+ghost use Rattle.scheduler.specs.Going.{answer_from};
 
 use crate::run::run_from;
 use rules::answer::{Answer, Stepped, Verdict};
@@ -16,7 +16,7 @@ use rules::state::State;
 
 // The given state beside a refusal.
 pub fn refused_with(s: State, why: Refusal) -> Stepped
-    ensures { result ≡ refusedWith s why }
+    ensures { result ≡ refused_with s why }
 {
     Stepped {
         answer: Answer::Refused(why),
@@ -26,7 +26,7 @@ pub fn refused_with(s: State, why: Refusal) -> Stepped
 
 // The answer to the one event of a run: what was refused, or whether its row has a call.
 fn answer_from(verdict: Verdict, call: u8) -> Answer
-    ensures { result ≡ answerFrom verdict call }
+    ensures { result ≡ answer_from verdict call }
 {
     match verdict {
         Verdict::Passed => Answer::Accepted(call == 1),
@@ -36,8 +36,8 @@ fn answer_from(verdict: Verdict, call: u8) -> Answer
 
 // One event is run; of its row only the call is asked.
 fn run_one(protocol: Protocol, p: Plan, s: State, e: Event) -> Stepped
-    requires { SoundAndSized protocol p s × (length p.limit ≡ maxLocks) }
-    ensures { result ≡ actOf protocol p s e }
+    requires { SoundAndSized protocol p s × (length p.limit ≡ max_locks) }
+    ensures { result ≡ act_of protocol p s e }
 {
     let no_more = [0u8; 4];
     let mut row = [0u8; 4];
@@ -52,8 +52,8 @@ fn run_one(protocol: Protocol, p: Plan, s: State, e: Event) -> Stepped
 
 // The step without the test of soundness.
 pub fn step_sound(protocol: Protocol, p: Plan, s: State, e: Event) -> Stepped
-    requires { soundTest protocol p s ≡ true }
-    ensures { result ≡ actOf protocol p s e }
+    requires { sound_test protocol p s ≡ true }
+    ensures { result ≡ act_of protocol p s e }
 {
     run_one(protocol, p, s, e)
 }

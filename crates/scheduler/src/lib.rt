@@ -4,10 +4,10 @@ mod run;
 mod turn;
 
 ghost use Rattle.std.specs.Prelude.{◌≡◌, length};
-ghost use Rattle.rules.specs.Books.Book.{checkedOf};
-ghost use Rattle.rules.specs.Replays.Replay.{ranAs, replayOf};
+ghost use Rattle.rules.specs.Books.Book.{checked_of};
+ghost use Rattle.rules.specs.Replays.Replay.{ran_as, replay_of};
 ghost use Rattle.rules.specs.Replays.Step.{step_of};
-ghost use Rattle.scheduler.specs.Going.{untouchedAs};
+ghost use Rattle.scheduler.specs.Going.{untouched_as};
 
 use book::check;
 use rules::answer::{Replayed, Stepped, Verdict};
@@ -32,7 +32,7 @@ pub fn step(protocol: Protocol, p: Plan, s: State, e: Event) -> Stepped
 
 // What a refusal of 1 to 9 or 24 leaves: no state but a fresh one.
 fn untouched(why: Refusal, place: usize, plan: Plan) -> Replayed
-    ensures { result ≡ untouchedAs why place plan }
+    ensures { result ≡ untouched_as why place plan }
 {
     let state = fresh();
     Replayed {
@@ -45,8 +45,8 @@ fn untouched(why: Refusal, place: usize, plan: Plan) -> Replayed
 // The replay of a book: 1 to 9 and 24 first, and no row byte changes where one refuses; then its events up
 // to the first refusal, each accepted one with its four row bytes. No other byte of the rows changes.
 pub fn replay(protocol: Protocol, book: &[u8], rows: &mut [u8]) -> Replayed
-    ensures { (ranAs result rows.new ≡ replayOf protocol book.now rows.old)
-        × (result.plan ≡ (checkedOf book.now (length rows.old)).plan) }
+    ensures { (ran_as result rows.new ≡ replay_of protocol book.now rows.old)
+        × (result.plan ≡ (checked_of book.now (length rows.old)).plan) }
 {
     let checked = check(book, rows.len());
     let verdict = checked.verdict;

@@ -1,11 +1,11 @@
 // Events from a given state until the first refusal: those of a book that was accepted, or a single one.
 ghost use Rattle.std.specs.Prelude.{◌≡◌};
 ghost use Rattle.rules.specs.Numbers.Place.{from};
-ghost use Rattle.rules.specs.Replays.Replay.{ranAs};
+ghost use Rattle.rules.specs.Replays.Replay.{ran_as};
 ghost use Rattle.rules.specs.Replays.Run.{run_from};
 ghost use Rattle.rules.specs.Schedulers.State.{fresh_of};
-ghost use Rattle.rules.specs.Schedulers.Whole.{planWith, stateWith};
-ghost use Rattle.scheduler.specs.Going.{RunReady, ended_as, eventIn, eventOn, goesOn};
+ghost use Rattle.rules.specs.Schedulers.Whole.{plan_with, state_with};
+ghost use Rattle.scheduler.specs.Going.{RunReady, ended_as, event_in, event_on, goes_on};
 
 use crate::turn::{Ended, first_of, turn};
 use rules::answer::{Replayed, Verdict};
@@ -19,7 +19,7 @@ use tournament::tree::PLACES;
 
 // Whether the run goes on at place k of c events.
 fn goes_on(ended: Ended, k: usize, c: usize) -> bool
-    ensures { result ≡ goesOn ended.verdict k c }
+    ensures { result ≡ goes_on ended.verdict k c }
 {
     let verdict = ended.verdict;
     match verdict {
@@ -52,13 +52,13 @@ fn turns<'a>(
     rows: &mut [u8],
     c: usize,
 ) -> Ended
-    requires { RunReady protocol (planWith n m base.now maximum.now ceiling.now limit.now uses.now)
-        (stateWith h released.old kept.old delay.old depth.old takes.old saved.old units.old owner.old) c rows.old }
+    requires { RunReady protocol (plan_with n m base.now maximum.now ceiling.now limit.now uses.now)
+        (state_with h released.old kept.old delay.old depth.old takes.old saved.old units.old owner.old) c rows.old }
     ensures { ended_as result released.new kept.new delay.new depth.new takes.new saved.new
         units.new owner.new rows.new
-        ≡ run_from protocol (planWith n m base.now maximum.now ceiling.now limit.now uses.now)
-        (from (eventOn first body.now) 0 c) 0
-        (stateWith h released.old kept.old delay.old depth.old takes.old saved.old
+        ≡ run_from protocol (plan_with n m base.now maximum.now ceiling.now limit.now uses.now)
+        (from (event_on first body.now) 0 c) 0
+        (state_with h released.old kept.old delay.old depth.old takes.old saved.old
         units.old owner.old) rows.old }
 {
     let mut tree = [0u64; PLACES];
@@ -91,7 +91,7 @@ pub fn run_from(
     rows: &mut [u8],
 ) -> Replayed
     requires { RunReady protocol p start n rows.old }
-    ensures { (ranAs result rows.new ≡ run_from protocol p (from (eventOn first body.now) 0 n) 0 start rows.old)
+    ensures { (ran_as result rows.new ≡ run_from protocol p (from (event_on first body.now) 0 n) 0 start rows.old)
         × (result.plan ≡ p) }
 {
     let head = start.head;
@@ -149,7 +149,7 @@ pub fn run_from(
 // The first n events of a body, from a fresh start.
 pub fn run(protocol: Protocol, p: Plan, body: &[u8], n: usize, rows: &mut [u8]) -> Replayed
     requires { RunReady protocol p fresh_of n rows.old }
-    ensures { (ranAs result rows.new ≡ run_from protocol p (from (eventIn body.now) 0 n) 0 fresh_of rows.old)
+    ensures { (ran_as result rows.new ≡ run_from protocol p (from (event_in body.now) 0 n) 0 fresh_of rows.old)
         × (result.plan ≡ p) }
 {
     let start = fresh();

@@ -2,10 +2,10 @@
 ghost use Rattle.std.specs.Prelude.{◌≡◌, ◌+◌, ◌*◌, ◌≤◌, length};
 ghost use Rattle.rules.specs.Numbers.Choice.{if◌then◌else◌};
 ghost use Rattle.rules.specs.Replays.Run.{with_row};
-ghost use Rattle.rules.specs.Replays.Step.{actOf};
-ghost use Rattle.rules.specs.Schedulers.Whole.{planWith, stateWith};
-ghost use Rattle.tournament.specs.Keys.{tournamentOf};
-ghost use Rattle.scheduler.specs.Going.{TurnReady, ended_as, eventIn, eventOn, rowsAfter, stoppedAt, turnedAs};
+ghost use Rattle.rules.specs.Replays.Step.{act_of};
+ghost use Rattle.rules.specs.Schedulers.Whole.{plan_with, state_with};
+ghost use Rattle.tournament.specs.Keys.{tournament_of};
+ghost use Rattle.scheduler.specs.Going.{TurnReady, ended_as, event_in, event_on, rows_after, stopped_at, turned_as};
 
 use book::reader::read;
 use figures::priority::{kernel_byte, user_byte};
@@ -26,7 +26,7 @@ pub struct Ended {
 
 // The event of record k of a body, and a tick where there is none.
 fn event_at(body: &[u8], k: usize) -> Event
-    ensures { result ≡ eventIn body.now k }
+    ensures { result ≡ event_in body.now k }
 {
     match read(body, k) {
         Found::Got(e, _) => e,
@@ -38,7 +38,7 @@ fn event_at(body: &[u8], k: usize) -> Event
 // The event at place k of a run: the one that is handed in, and after it those of the body, each where
 // it lies.
 fn event_on(first: Event, body: &[u8], k: usize) -> Event
-    ensures { result ≡ eventOn first body.now k }
+    ensures { result ≡ event_on first body.now k }
 {
     if k == 0 {
         return first;
@@ -48,7 +48,7 @@ fn event_on(first: Event, body: &[u8], k: usize) -> Event
 
 // The first event of a body.
 pub fn first_of(body: &[u8]) -> Event
-    ensures { result ≡ eventIn body.now 0 }
+    ensures { result ≡ event_in body.now 0 }
 {
     event_at(body, 0)
 }
@@ -81,7 +81,7 @@ fn put_row(rows: &mut [u8], k: usize, h: Head, call: bool)
 // A row for an event that was accepted.
 fn put_after(rows: &mut [u8], k: usize, answer: Answer, h: Head)
     requires { k * 4 + 4 ≤ length rows.old }
-    ensures { rows.new ≡ rowsAfter answer h k rows.old }
+    ensures { rows.new ≡ rows_after answer h k rows.old }
 {
     match answer {
         Answer::Accepted(call) => put_row(rows, k, h, call),
@@ -91,7 +91,7 @@ fn put_after(rows: &mut [u8], k: usize, answer: Answer, h: Head)
 
 // What the run comes to after the answer at place k.
 fn stopped_at(answer: Answer, k: usize) -> Verdict
-    ensures { result ≡ stoppedAt answer k }
+    ensures { result ≡ stopped_at answer k }
 {
     match answer {
         Answer::Accepted(_) => Verdict::Passed,
@@ -124,16 +124,16 @@ pub fn turn(
     rows: &mut [u8],
     k: usize,
 ) -> Ended
-    requires turn_ready { TurnReady protocol (planWith n m base.now maximum.now ceiling.now limit.now uses.now)
-        (stateWith h released.old kept.old delay.old depth.old takes.old saved.old units.old owner.old) rows.old k }
-    requires tree_value { tree.old ≡ tournamentOf n released.old kept.old }
+    requires turn_ready { TurnReady protocol (plan_with n m base.now maximum.now ceiling.now limit.now uses.now)
+        (state_with h released.old kept.old delay.old depth.old takes.old saved.old units.old owner.old) rows.old k }
+    requires tree_value { tree.old ≡ tournament_of n released.old kept.old }
     ensures rows_after { ended_as result released.new kept.new delay.new depth.new takes.new saved.new
         units.new owner.new rows.new
-        ≡ turnedAs (actOf protocol (planWith n m base.now maximum.now ceiling.now limit.now uses.now)
-        (stateWith h released.old kept.old delay.old depth.old takes.old saved.old
+        ≡ turned_as (act_of protocol (plan_with n m base.now maximum.now ceiling.now limit.now uses.now)
+        (state_with h released.old kept.old delay.old depth.old takes.old saved.old
         units.old owner.old)
-        (eventOn first body.now k)) k rows.old }
-    ensures tree_after { tree.new ≡ tournamentOf n released.new kept.new }
+        (event_on first body.now k)) k rows.old }
+    ensures tree_after { tree.new ≡ tournament_of n released.new kept.new }
 {
     let e = event_on(first, body, k);
     let acted = act(

@@ -13,19 +13,19 @@ module _ (f : ℕ → Bool) where
   abbrev pub AskedSoFar : ℕ → ℕ → Bool → Type 0
   AskedSoFar n i t = (i ≤ n) × (t ≡ every f i)
 
-  pub asked-start : (n : ℕ) → AskedSoFar n 0 true
+  pub asked_start : (n : ℕ) → AskedSoFar n 0 true
   unfolding every
-  asked-start n = (omega arith, refl)
+  asked_start n = (omega arith, refl)
 
-  pub asked-next : (n i : ℕ) (t r : Bool) → AskedSoFar n i t → i < n → r ≡ (t && f i) → AskedSoFar n (i + 1) r
+  pub asked_next : (n i : ℕ) (t r : Bool) → AskedSoFar n i t → i < n → r ≡ (t && f i) → AskedSoFar n (i + 1) r
   unfolding every
-  asked-next n i t r e l h = (omega arith, rw (add-one i) (h ∙ ap (λ b. b && f i) e.1))
+  asked_next n i t r e l h = (omega arith, rw (add-one i) (h ∙ ap (λ b. b && f i) e.1))
 
-  pub asked-ends : (n i : ℕ) (t : Bool) → AskedSoFar n i t → n ≤ i → t ≡ every f n
-  asked-ends n i t e b = let q : i ≡ n = omega arith in e.1 ∙ ap (every f) q
+  pub asked_ends : (n i : ℕ) (t : Bool) → AskedSoFar n i t → n ≤ i → t ≡ every f n
+  asked_ends n i t e b = let q : i ≡ n = omega arith in e.1 ∙ ap (every f) q
 
-pub also-same : (t : Bool) (a y : ℕ) → a ≡ y → false ≡ (t && not (eqb a y))
-also-same t a y e = sym (and-false t) ∙ sym (ap (λ b. t && not b) (eq-eqb a y e))
+pub also_same : (t : Bool) (a y : ℕ) → a ≡ y → false ≡ (t && not (eqb a y))
+also_same t a y e = sym (and-false t) ∙ sym (ap (λ b. t && not b) (eq-eqb a y e))
 
-pub also-other : (t : Bool) (a y : ℕ) → (a ≡ y → ⊥) → t ≡ (t && not (eqb a y))
-also-other t a y e = sym (and-true t) ∙ sym (ap (λ b. t && not b) (ne_eqb a y e))
+pub also_other : (t : Bool) (a y : ℕ) → (a ≡ y → ⊥) → t ≡ (t && not (eqb a y))
+also_other t a y e = sym (and-true t) ∙ sym (ap (λ b. t && not b) (ne_eqb a y e))

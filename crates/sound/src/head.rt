@@ -1,10 +1,10 @@
 // Whether the counts, the running task and the two words are sound.
 ghost use Rattle.std.specs.Prelude.{◌≡◌, [], ◌∷◌, ◌≤◌, eqb, leb, length};
-ghost use Rattle.rules.specs.Numbers.Capacity.{maxAccepted, maxLocks, maxTasks};
-ghost use Rattle.rules.specs.Numbers.Choice.{allTrue};
+ghost use Rattle.rules.specs.Numbers.Capacity.{max_accepted, max_locks, max_tasks};
+ghost use Rattle.rules.specs.Numbers.Choice.{all_true};
 ghost use Rattle.rules.specs.Numbers.Place.{at, every};
-ghost use Rattle.rules.specs.Soundness.SoundTest.{runsTest, secondTest};
-ghost use Rattle.sound.specs.Lent.{headBy, rankBy};
+ghost use Rattle.rules.specs.Soundness.SoundTest.{runs_test, second_test};
+ghost use Rattle.sound.specs.Lent.{head_by, rank_by};
 
 use crate::rank::{greatest_kept, rank_of};
 use figures::all::all_five;
@@ -15,7 +15,7 @@ use rules::protocol::Protocol;
 use rules::state::Head;
 
 fn none_released(released: &[u32; MAX_TASKS], n: usize) -> bool
-    requires { n ≤ maxTasks }
+    requires { n ≤ max_tasks }
     ensures { result ≡ every (λ x. eqb (at released.now x) 0) n }
 {
     let mut x: usize = 0;
@@ -30,8 +30,8 @@ fn none_released(released: &[u32; MAX_TASKS], n: usize) -> bool
 
 // Nobody runs and none is released, or a released task runs.
 fn runs_sound(released: &[u32; MAX_TASKS], n: usize, r: u8) -> bool
-    requires { n ≤ maxTasks }
-    ensures { result ≡ runsTest released.now n r }
+    requires { n ≤ max_tasks }
+    ensures { result ≡ runs_test released.now n r }
 {
     if r == NOBODY {
         return none_released(released, n);
@@ -52,8 +52,8 @@ fn running_rank(
     depth: &[u8; MAX_TASKS],
     takes: &[u64; MAX_TASKS],
 ) -> UserPriority
-    requires { (length ceiling.now ≡ maxLocks) × (length released.now ≡ maxTasks) }
-    ensures { result.0 ≡ rankBy ceiling.now
+    requires { (length ceiling.now ≡ max_locks) × (length released.now ≡ max_tasks) }
+    ensures { result.0 ≡ rank_by ceiling.now
         (at base.now running) (at released.now running) (at takes.now running) (at depth.now running) }
 {
     let x = running as usize;
@@ -70,7 +70,7 @@ fn second_sound(
     user: UserPriority,
     best: KernelPriority,
 ) -> bool
-    ensures { result ≡ secondTest protocol second.0 user.0 best.0 }
+    ensures { result ≡ second_test protocol second.0 user.0 best.0 }
 {
     match protocol {
         Protocol::Second => same_record(second, best),
@@ -80,12 +80,12 @@ fn second_sound(
 
 // The counts are in range, and both words are what they must be.
 fn head_fits(protocol: Protocol, h: Head, user: UserPriority, best: KernelPriority) -> bool
-    ensures { result ≡ allTrue
-        (leb h.accepted maxAccepted
+    ensures { result ≡ all_true
+        (leb h.accepted max_accepted
         ∷ leb h.eager h.accepted
         ∷ leb h.lazy h.accepted
         ∷ eqb h.user.0 user.0
-        ∷ secondTest protocol h.next.0 h.user.0 best.0
+        ∷ second_test protocol h.next.0 h.user.0 best.0
         ∷ []) }
 {
     let word = h.user;
@@ -111,8 +111,8 @@ pub fn head_sound(
     depth: &[u8; MAX_TASKS],
     takes: &[u64; MAX_TASKS],
 ) -> bool
-    requires { (n ≤ maxTasks) × (length ceiling.now ≡ maxLocks) × (length released.now ≡ maxTasks) }
-    ensures { result ≡ headBy protocol h n
+    requires { (n ≤ max_tasks) × (length ceiling.now ≡ max_locks) × (length released.now ≡ max_tasks) }
+    ensures { result ≡ head_by protocol h n
         base.now ceiling.now released.now kept.now depth.now takes.now }
 {
     if !runs_sound(released, n, h.running) {

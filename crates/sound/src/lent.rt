@@ -2,8 +2,8 @@
 // ones: only where the tasks are sound are the named owners and the kept priorities enough, and are the
 // rows short. One lifetime for all arrays: so fields of one struct can be lent at once.
 ghost use Rattle.std.specs.Prelude.{◌≡◌, ◌≤◌, length};
-ghost use Rattle.rules.specs.Numbers.Capacity.{maxLocks, maxTasks};
-ghost use Rattle.sound.specs.Lent.{partsBy};
+ghost use Rattle.rules.specs.Numbers.Capacity.{max_locks, max_tasks};
+ghost use Rattle.sound.specs.Lent.{parts_by};
 
 use crate::head::head_sound;
 use crate::lock::locks_sound;
@@ -31,9 +31,9 @@ pub fn parts_sound<'a>(
     units: &'a [u16; MAX_LOCKS],
     owner: &'a [u8; MAX_LOCKS],
 ) -> bool
-    requires n_le_max_tasks { (n ≤ maxTasks) × (m ≤ maxLocks) }
-    requires ceiling_len { (length ceiling.now ≡ maxLocks) × (length released.now ≡ maxTasks) × (length owner.now ≡ maxLocks) }
-    ensures { result ≡ partsBy protocol h n m
+    requires n_le_max_tasks { (n ≤ max_tasks) × (m ≤ max_locks) }
+    requires ceiling_len { (length ceiling.now ≡ max_locks) × (length released.now ≡ max_tasks) × (length owner.now ≡ max_locks) }
+    ensures { result ≡ parts_by protocol h n m
         base.now ceiling.now limit.now uses.now released.now kept.now
         delay.now depth.now takes.now saved.now units.now owner.now }
 {

@@ -9,8 +9,8 @@ mod task;
 mod unused;
 
 ghost use Rattle.std.specs.Prelude.{◌≡◌, length};
-ghost use Rattle.rules.specs.Numbers.Capacity.{maxLocks, maxTasks};
-ghost use Rattle.rules.specs.Soundness.SoundTest.{soundTest};
+ghost use Rattle.rules.specs.Numbers.Capacity.{max_locks, max_tasks};
+ghost use Rattle.rules.specs.Soundness.SoundTest.{sound_test};
 
 use plan::obeys;
 use rules::capacity::{MAX_LOCKS, MAX_TASKS};
@@ -21,12 +21,12 @@ use rules::state::State;
 // An array has the places that its type says. This is said where the call that asks it stands far from
 // where the arrays are from.
 fn placed(ceiling: [u8; MAX_LOCKS], released: [u32; MAX_TASKS], owner: [u8; MAX_LOCKS])
-    ensures { (length ceiling ≡ maxLocks) × (length released ≡ maxTasks) × (length owner ≡ maxLocks) }
+    ensures { (length ceiling ≡ max_locks) × (length released ≡ max_tasks) × (length owner ≡ max_locks) }
 {}
 
 // Whether every condition of soundness holds of any plan and any state, by either protocol.
 pub fn sound(protocol: Protocol, p: Plan, s: State) -> bool
-    ensures { result ≡ soundTest protocol p s }
+    ensures { result ≡ sound_test protocol p s }
 {
     if !obeys(p) {
         return false;

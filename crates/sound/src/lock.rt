@@ -1,10 +1,10 @@
 // Whether the figures of one lock are sound. That each task has its open locks in its own name is
 // tested with the tasks; so of a lock only the task that is named for it is asked.
 ghost use Rattle.std.specs.Prelude.{◌≡◌, true, [], ◌∷◌, ◌≤◌, ◌<◌, eqb, leb};
-ghost use Rattle.rules.specs.Numbers.Capacity.{maxLocks, maxTasks};
-ghost use Rattle.rules.specs.Numbers.Choice.{if◌then◌else◌, allTrue};
+ghost use Rattle.rules.specs.Numbers.Capacity.{max_locks, max_tasks};
+ghost use Rattle.rules.specs.Numbers.Choice.{if◌then◌else◌, all_true};
 ghost use Rattle.rules.specs.Numbers.Place.{every};
-ghost use Rattle.sound.specs.Lent.{lockBy, ownerNamed};
+ghost use Rattle.sound.specs.Lent.{lock_by, owner_named};
 
 use figures::row::has_lock;
 use rules::capacity::{MAX_LOCKS, MAX_TASKS};
@@ -17,8 +17,8 @@ fn owner_named(
     owner: u8,
     l: u8,
 ) -> bool
-    requires { n ≤ maxTasks }
-    ensures { result ≡ ownerNamed n depth.now takes.now owner l }
+    requires { n ≤ max_tasks }
+    ensures { result ≡ owner_named n depth.now takes.now owner l }
 {
     let o = owner as usize;
     if o == 0 {
@@ -33,7 +33,7 @@ fn owner_named(
 
 // Its owner is named rightly, and its units are within its limit, 0 where it is closed.
 fn lock_fits(named: bool, owner: u8, units: u16, limit: u16) -> bool
-    ensures { result ≡ allTrue (named ∷ leb units limit ∷ (if eqb owner 0 then eqb units 0 else true) ∷ []) }
+    ensures { result ≡ all_true (named ∷ leb units limit ∷ (if eqb owner 0 then eqb units 0 else true) ∷ []) }
 {
     if !named {
         return false;
@@ -56,8 +56,8 @@ fn lock_sound(
     owner: &[u8; MAX_LOCKS],
     l: usize,
 ) -> bool
-    requires { (n ≤ maxTasks) × (l < maxLocks) }
-    ensures { result ≡ lockBy n
+    requires { (n ≤ max_tasks) × (l < max_locks) }
+    ensures { result ≡ lock_by n
         limit.now depth.now takes.now units.now owner.now l }
 {
     let o = owner[l];
@@ -74,8 +74,8 @@ pub fn locks_sound(
     units: &[u16; MAX_LOCKS],
     owner: &[u8; MAX_LOCKS],
 ) -> bool
-    requires { (n ≤ maxTasks) × (m ≤ maxLocks) }
-    ensures { result ≡ every (lockBy n
+    requires { (n ≤ max_tasks) × (m ≤ max_locks) }
+    ensures { result ≡ every (lock_by n
         limit.now depth.now takes.now units.now owner.now) m }
 {
     let mut l: usize = 0;

@@ -1,7 +1,7 @@
 // The priority of a task with a row of takes, and the words that were saved at them: both fall on the
 // number of takes.
 ghost use Rattle.std.specs.Prelude.{◌≡◌, ◌≤◌, ◌<◌, ◌^◌, length};
-ghost use Rattle.rules.specs.Numbers.Capacity.{maxLocks, maxTakes};
+ghost use Rattle.rules.specs.Numbers.Capacity.{max_locks, max_takes};
 ghost use Rattle.rules.specs.Numbers.Place.{at};
 ghost use Rattle.rules.specs.Numbers.Row.{priority, saves};
 
@@ -12,7 +12,7 @@ use rules::priority::UserPriority;
 
 // The ceiling of lock l, and 0 where there is no such place.
 fn ceiling_at(ceiling: &[u8; MAX_LOCKS], l: u8) -> u8
-    requires { length ceiling.now ≡ maxLocks }
+    requires { length ceiling.now ≡ max_locks }
     ensures { result ≡ at ceiling.now l }
 {
     let k = l as usize;
@@ -25,7 +25,7 @@ fn ceiling_at(ceiling: &[u8; MAX_LOCKS], l: u8) -> u8
 // RULES 7.3: without takes the base; else the newest one's ceiling, or what the takes under it give,
 // whichever is greater.
 pub fn row_priority(base: UserPriority, ceiling: &[u8; MAX_LOCKS], row: u64, k: u8) -> UserPriority
-    requires { length ceiling.now ≡ maxLocks }
+    requires { length ceiling.now ≡ max_locks }
     ensures { result.0 ≡ priority (at ceiling.now) base.0 row k }
 {
     if k == 0 {
@@ -38,7 +38,7 @@ pub fn row_priority(base: UserPriority, ceiling: &[u8; MAX_LOCKS], row: u64, k: 
 
 // Beside each take the priority under it.
 pub fn row_saves(base: UserPriority, ceiling: &[u8; MAX_LOCKS], row: u64, k: u8) -> u64
-    requires { (length ceiling.now ≡ maxLocks) × (k ≤ maxTakes) }
+    requires { (length ceiling.now ≡ max_locks) × (k ≤ max_takes) }
     ensures { (result ≡ saves (at ceiling.now) base.0 row k) × (result < 256 ^ k) }
 {
     if k == 0 {

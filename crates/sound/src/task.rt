@@ -1,10 +1,10 @@
 // Whether the figures of one task are sound.
 ghost use Rattle.std.specs.Prelude.{◌≡◌, ◌&&◌, not, ◌≤◌, ◌<◌, eqb, length};
-ghost use Rattle.rules.specs.Numbers.Capacity.{maxLocks, maxTakes, maxTasks};
+ghost use Rattle.rules.specs.Numbers.Capacity.{max_locks, max_takes, max_tasks};
 ghost use Rattle.rules.specs.Numbers.Place.{at, every};
 ghost use Rattle.rules.specs.Numbers.Row.{saves};
-ghost use Rattle.rules.specs.Soundness.SoundTest.{numberNew, numberTest, ownTest, rowTest};
-ghost use Rattle.sound.specs.Lent.{keptBy, taskBy};
+ghost use Rattle.rules.specs.Soundness.SoundTest.{number_new, number_test, own_test, row_test};
+ghost use Rattle.sound.specs.Lent.{kept_by, task_by};
 
 use crate::priority::row_saves;
 use crate::rank::rank_of;
@@ -18,7 +18,7 @@ use rules::priority::UserPriority;
 
 // Each of the k newest of a row is of one of m locks, declared; after them there is 0.
 fn row_sound(m: usize, uses: u32, row: u64, k: u8) -> bool
-    ensures { result ≡ rowTest m uses row k }
+    ensures { result ≡ row_test m uses row k }
 {
     let mut rest = row;
     let mut left = k;
@@ -38,8 +38,8 @@ fn row_sound(m: usize, uses: u32, row: u64, k: u8) -> bool
 
 // Each of them has task x for its owner.
 fn own_sound(owner: &[u8; MAX_LOCKS], x: usize, row: u64, k: u8) -> bool
-    requires { (length owner.now ≡ maxLocks) × (x < maxTasks) }
-    ensures { result ≡ ownTest owner.now x row k }
+    requires { (length owner.now ≡ max_locks) × (x < max_tasks) }
+    ensures { result ≡ own_test owner.now x row k }
 {
     let mut rest = row;
     let mut left = k;
@@ -55,7 +55,7 @@ fn own_sound(owner: &[u8; MAX_LOCKS], x: usize, row: u64, k: u8) -> bool
 
 // What stands at place l, and 0 where there is no such place.
 fn owner_at(owner: &[u8; MAX_LOCKS], l: u8) -> usize
-    requires { length owner.now ≡ maxLocks }
+    requires { length owner.now ≡ max_locks }
     ensures { result ≡ at owner.now l }
 {
     let k = l as usize;
@@ -78,8 +78,8 @@ fn also_new(new: bool, a: u32, y: u32) -> bool
 // No task before x has the release number y. All are asked, with no way out: so the compiler asks
 // several at once.
 fn number_new(released: &[u32; MAX_TASKS], y: u32, x: usize) -> bool
-    requires { x ≤ maxTasks }
-    ensures { result ≡ numberNew released.now y x }
+    requires { x ≤ max_tasks }
+    ensures { result ≡ number_new released.now y x }
 {
     let mut new = true;
     let mut z: usize = 0;
@@ -93,8 +93,8 @@ fn number_new(released: &[u32; MAX_TASKS], y: u32, x: usize) -> bool
 // A task is not released and has no takes, or its release number is in range and no earlier
 // task's.
 fn number_sound(accepted: u32, released: &[u32; MAX_TASKS], depth: u8, x: usize) -> bool
-    requires { x < maxTasks }
-    ensures { result ≡ numberTest accepted released.now depth x }
+    requires { x < max_tasks }
+    ensures { result ≡ number_test accepted released.now depth x }
 {
     let y = released[x];
     if y == 0 {
@@ -108,7 +108,7 @@ fn number_sound(accepted: u32, released: &[u32; MAX_TASKS], depth: u8, x: usize)
 
 // What is kept for a task is its rank, and nothing while it runs.
 fn kept_sound(kept: u8, runs: bool, rank: UserPriority) -> bool
-    ensures { result ≡ eqb kept (keptBy runs rank.0) }
+    ensures { result ≡ eqb kept (kept_by runs rank.0) }
 {
     if runs {
         return kept == 0;
@@ -118,7 +118,7 @@ fn kept_sound(kept: u8, runs: bool, rank: UserPriority) -> bool
 
 // What is saved for a task of this base is what its row gives.
 fn saved_sound(ceiling: &[u8; MAX_LOCKS], base: u8, row: u64, k: u8, saved: u64) -> bool
-    requires { (length ceiling.now ≡ maxLocks) × (k ≤ maxTakes) }
+    requires { (length ceiling.now ≡ max_locks) × (k ≤ max_takes) }
     ensures { result ≡ eqb saved (saves (at ceiling.now) base row k) }
 {
     let words = row_saves(user_of(base), ceiling, row, k);
@@ -141,8 +141,8 @@ fn task_sound(
     owner: &[u8; MAX_LOCKS],
     x: usize,
 ) -> bool
-    requires { (x < maxTasks) × (length ceiling.now ≡ maxLocks) × (length owner.now ≡ maxLocks) }
-    ensures { result ≡ taskBy accepted running m base.now ceiling.now uses.now
+    requires { (x < max_tasks) × (length ceiling.now ≡ max_locks) × (length owner.now ≡ max_locks) }
+    ensures { result ≡ task_by accepted running m base.now ceiling.now uses.now
         released.now kept.now delay.now depth.now takes.now saved.now owner.now
         x }
 {
@@ -177,8 +177,8 @@ pub fn tasks_sound(
     saved: &[u64; MAX_TASKS],
     owner: &[u8; MAX_LOCKS],
 ) -> bool
-    requires { (n ≤ maxTasks) × (length ceiling.now ≡ maxLocks) × (length owner.now ≡ maxLocks) }
-    ensures { result ≡ every (taskBy accepted running m base.now ceiling.now uses.now
+    requires { (n ≤ max_tasks) × (length ceiling.now ≡ max_locks) × (length owner.now ≡ max_locks) }
+    ensures { result ≡ every (task_by accepted running m base.now ceiling.now uses.now
         released.now kept.now delay.now depth.now takes.now saved.now owner.now)
         n }
 {

@@ -1,6 +1,6 @@
 // Whether the places past the last task and the last lock hold 0.
 ghost use Rattle.std.specs.Prelude.{◌≡◌};
-ghost use Rattle.sound.specs.Lent.{spareBy};
+ghost use Rattle.sound.specs.Lent.{spare_by};
 
 use figures::all::all_eight;
 use figures::spare::{spare8, spare16, spare32, spare64};
@@ -18,7 +18,7 @@ pub fn unused_sound(
     units: &[u16; MAX_LOCKS],
     owner: &[u8; MAX_LOCKS],
 ) -> bool
-    ensures { result ≡ spareBy n m released.now kept.now delay.now depth.now takes.now
+    ensures { result ≡ spare_by n m released.now kept.now delay.now depth.now takes.now
         saved.now units.now owner.now }
 {
     all_eight(

@@ -24,23 +24,23 @@ until stop (c ∷ cs) = if stop c then 0 else suc (until stop cs)
 unfoldable pub up_to : ℕ → List ℕ → ℕ
 up_to x bytes = until (λ c. eqb c x) bytes
 
-unfoldable pub spacesOf : List ℕ → ℕ
-spacesOf bytes = until (λ c. not (eqb c space)) bytes
+unfoldable pub spaces_of : List ℕ → ℕ
+spaces_of bytes = until (λ c. not (eqb c space)) bytes
 
 -- how many bytes stand before the spaces at the end
-unfoldable pub withoutSpaces : List ℕ → ℕ
-withoutSpaces [] = 0
-withoutSpaces (c ∷ cs) = if eqb (withoutSpaces cs) 0 then (if eqb c space then 0 else 1) else suc (withoutSpaces cs)
+unfoldable pub without_spaces : List ℕ → ℕ
+without_spaces [] = 0
+without_spaces (c ∷ cs) = if eqb (without_spaces cs) 0 then (if eqb c space then 0 else 1) else suc (without_spaces cs)
 
 -- the bytes before the first x, those after the spaces, and those before the spaces at the end
 abbrev pub before : ℕ → List ℕ → List ℕ
 before x bytes = take (up_to x bytes) bytes
 
 abbrev pub trimmed : List ℕ → List ℕ
-trimmed bytes = drop (spacesOf bytes) bytes
+trimmed bytes = drop (spaces_of bytes) bytes
 
 abbrev pub bare : List ℕ → List ℕ
-bare bytes = take (withoutSpaces bytes) bytes
+bare bytes = take (without_spaces bytes) bytes
 
 -- the same bytes
 unfoldable pub same : List ℕ → List ℕ → Bool

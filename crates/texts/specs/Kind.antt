@@ -1,7 +1,7 @@
 -- RULES 19.2: the kinds of record, and the job, which is several: their names, how many numbers each has and how large these may be, and the record that they make. Assumes nothing.
 use Rattle.std.specs.Prelude.{Bool, true, false, List, ℕ, ◌+◌, ◌*◌, eqb}
 use Rattle.rules.specs.Numbers.Choice.{if◌then◌else◌}
-use Rattle.rules.specs.Books.Event.{eventNumber}
+use Rattle.rules.specs.Books.Event.{event_number}
 use Rattle.rules.specs.declared.event.Event.{Event}
 use Rattle.page.specs.Ascii.{ascii}
 use Rattle.texts.specs.Cut.{same}
@@ -10,8 +10,8 @@ use Rattle.texts.specs.declared.kind.Kind.TheVariants.{Task, Lock, Use, Release,
 use Rattle.texts.specs.declared.kind.Named.{Named}
 
 -- of an event or a job, and of any record
-unfoldable pub eventNamed : List ℕ → Named
-eventNamed word =
+unfoldable pub event_named : List ℕ → Named
+event_named word =
     if same word (ascii "release") then Named.Is Release
     else if same word (ascii "acquire") then Named.Is Acquire
     else if same word (ascii "unlock") then Named.Is Unlock
@@ -21,12 +21,12 @@ eventNamed word =
     else if same word (ascii "job") then Named.Is Job
     else Named.Nothing
 
-unfoldable pub kindNamed : List ℕ → Named
-kindNamed word =
+unfoldable pub kind_named : List ℕ → Named
+kind_named word =
     if same word (ascii "task") then Named.Is Task
     else if same word (ascii "lock") then Named.Is Lock
     else if same word (ascii "use") then Named.Is Use
-    else eventNamed word
+    else event_named word
 
 -- how many numbers a record has
 unfoldable pub fields_of : Kind → ℕ
@@ -68,27 +68,27 @@ part_of Tick = 3
 part_of Job = 3
 
 -- the record as one number, low byte first, from its numbers a and b; of a job the release that it starts with
-unfoldable pub recordOf : Kind → ℕ → ℕ → ℕ
-recordOf Task a b = a + b * 256
-recordOf Lock a b = a + b * 65536
-recordOf Use a b = a + b * 256
-recordOf Release a b = eventNumber (Event.Release a)
-recordOf Acquire a b = eventNumber (Event.Acquire a)
-recordOf Unlock a b = eventNumber (Event.Unlock a)
-recordOf Work a b = eventNumber (Event.Work a)
-recordOf Finish a b = eventNumber Event.Finish
-recordOf Tick a b = eventNumber Event.Tick
-recordOf Job a b = eventNumber (Event.Release a)
+unfoldable pub record_of : Kind → ℕ → ℕ → ℕ
+record_of Task a b = a + b * 256
+record_of Lock a b = a + b * 65536
+record_of Use a b = a + b * 256
+record_of Release a b = event_number (Event.Release a)
+record_of Acquire a b = event_number (Event.Acquire a)
+record_of Unlock a b = event_number (Event.Unlock a)
+record_of Work a b = event_number (Event.Work a)
+record_of Finish a b = event_number Event.Finish
+record_of Tick a b = event_number Event.Tick
+record_of Job a b = event_number (Event.Release a)
 
 -- after its numbers items stand, or may
-unfoldable pub hasItems : Kind → Bool
-hasItems Task = false
-hasItems Lock = false
-hasItems Use = false
-hasItems Release = false
-hasItems Acquire = false
-hasItems Unlock = false
-hasItems Work = false
-hasItems Finish = false
-hasItems Tick = false
-hasItems Job = true
+unfoldable pub has_items : Kind → Bool
+has_items Task = false
+has_items Lock = false
+has_items Use = false
+has_items Release = false
+has_items Acquire = false
+has_items Unlock = false
+has_items Work = false
+has_items Finish = false
+has_items Tick = false
+has_items Job = true

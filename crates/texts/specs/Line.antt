@@ -1,13 +1,13 @@
 -- RULES 19.1 to 19.4: what one line says. Assumes nothing.
 use Rattle.std.specs.Prelude.{List, [], ◌∷◌, map, ℕ, ◌+◌, ◌*◌, ◌-◌, eqb, ltb, length, take, drop}
-use Rattle.rules.specs.Numbers.Capacity.{maxEvents}
+use Rattle.rules.specs.Numbers.Capacity.{max_events}
 use Rattle.rules.specs.Numbers.Choice.{if◌then◌else◌}
 use Rattle.rules.specs.Numbers.Place.{at}
-use Rattle.rules.specs.Books.Event.{eventNumber}
+use Rattle.rules.specs.Books.Event.{event_number}
 use Rattle.rules.specs.declared.answer.Verdict.{Verdict}
-use Rattle.jobs.specs.Job.{jobEvents, jobAnswer}
-use Rattle.texts.specs.Cut.{return, space, hash, up_to, before, spacesOf, trimmed, bare}
-use Rattle.texts.specs.Kind.{kindNamed, fields_of, most_of, part_of, recordOf, hasItems}
+use Rattle.jobs.specs.Job.{job_events, job_answer}
+use Rattle.texts.specs.Cut.{return, space, hash, up_to, before, spaces_of, trimmed, bare}
+use Rattle.texts.specs.Kind.{kind_named, fields_of, most_of, part_of, record_of, has_items}
 use Rattle.texts.specs.Number.{number_of}
 use Rattle.texts.specs.declared.kind.Kind.{Kind}
 use Rattle.texts.specs.declared.kind.Named.{Named}
@@ -18,16 +18,16 @@ use Rattle.texts.specs.declared.line.Line.{Line}
 -- ---- its bytes
 
 -- how many bytes it has without a carriage return at its end
-unfoldable pub withoutReturn : List ℕ → ℕ
-withoutReturn line = if eqb (length line) 0 then 0 else if eqb (at line (length line - 1)) return then length line - 1 else length line
+unfoldable pub without_return : List ℕ → ℕ
+without_return line = if eqb (length line) 0 then 0 else if eqb (at line (length line - 1)) return then length line - 1 else length line
 
 -- what stands before a comment
-abbrev pub contentOf : List ℕ → List ℕ
-contentOf line = before hash (take (withoutReturn line) line)
+abbrev pub content_of : List ℕ → List ℕ
+content_of line = before hash (take (without_return line) line)
 
 -- how many bytes the first word has, with the spaces after it
-unfoldable pub wordLength : List ℕ → ℕ
-wordLength bytes = up_to space bytes + spacesOf (drop (up_to space bytes) bytes)
+unfoldable pub word_length : List ℕ → ℕ
+word_length bytes = up_to space bytes + spaces_of (drop (up_to space bytes) bytes)
 
 -- ---- its words
 
@@ -35,63 +35,63 @@ wordLength bytes = up_to space bytes + spacesOf (drop (up_to space bytes) bytes)
 unfoldable pub field_of : Kind → ℕ → List ℕ → Number
 field_of kind w bytes = if ltb w (fields_of kind) then number_of (most_of kind w) (before space bytes) else Number.Value 0
 
-unfoldable pub fieldLength : Kind → ℕ → List ℕ → ℕ
-fieldLength kind w bytes = if ltb w (fields_of kind) then wordLength bytes else 0
+unfoldable pub field_length : Kind → ℕ → List ℕ → ℕ
+field_length kind w bytes = if ltb w (fields_of kind) then word_length bytes else 0
 
-abbrev pub afterField : Kind → ℕ → List ℕ → List ℕ
-afterField kind w bytes = drop (fieldLength kind w bytes) bytes
+abbrev pub after_field : Kind → ℕ → List ℕ → List ℕ
+after_field kind w bytes = drop (field_length kind w bytes) bytes
 
 -- after the numbers of a record nothing may stand
-unfoldable pub plainLine : Kind → ℕ → ℕ → List ℕ → Line
-plainLine kind a b [] = Line.Record (part_of kind) (recordOf kind a b)
-plainLine kind a b (c ∷ cs) = Line.Wrong kind (fields_of kind + 2) Mistake.TooMany
+unfoldable pub plain_line : Kind → ℕ → ℕ → List ℕ → Line
+plain_line kind a b [] = Line.Record (part_of kind) (record_of kind a b)
+plain_line kind a b (c ∷ cs) = Line.Wrong kind (fields_of kind + 2) Mistake.TooMany
 
 -- after that of a job its items do, with room for all events of a book; the record w is its release, which counts among its records
-abbrev pub jobRoom : ℕ
-jobRoom = maxEvents * 4
+abbrev pub job_room : ℕ
+job_room = max_events * 4
 
-unfoldable pub jobSaid : ℕ → Verdict → ℕ → Line
-jobSaid w Verdict.Passed events = Line.Job w (events + 1)
-jobSaid w (Verdict.Refused why place) events = Line.Refused why place
+unfoldable pub job_said : ℕ → Verdict → ℕ → Line
+job_said w Verdict.Passed events = Line.Job w (events + 1)
+job_said w (Verdict.Refused why place) events = Line.Refused why place
 
-unfoldable pub jobLine : ℕ → List ℕ → Line
-jobLine w items = jobSaid w (jobAnswer items jobRoom).verdict (jobAnswer items jobRoom).events
+unfoldable pub job_line : ℕ → List ℕ → Line
+job_line w items = job_said w (job_answer items job_room).verdict (job_answer items job_room).events
 
 -- what comes after the numbers, by the kind
 unfoldable pub ended : Kind → ℕ → ℕ → List ℕ → Line
-ended kind a b bytes = if hasItems kind then jobLine (recordOf kind a b) (bare bytes) else plainLine kind a b bytes
+ended kind a b bytes = if has_items kind then job_line (record_of kind a b) (bare bytes) else plain_line kind a b bytes
 
 -- its second number, and its first: the words 3 and 2 of the line
-unfoldable pub withSecond : Kind → ℕ → Number → List ℕ → Line
-withSecond kind a (Number.Value b) rest = ended kind a b rest
-withSecond kind a (Number.Wrong m) rest = Line.Wrong kind 3 m
+unfoldable pub with_second : Kind → ℕ → Number → List ℕ → Line
+with_second kind a (Number.Value b) rest = ended kind a b rest
+with_second kind a (Number.Wrong m) rest = Line.Wrong kind 3 m
 
-unfoldable pub withFirst : Kind → Number → List ℕ → Line
-withFirst kind (Number.Value a) rest = withSecond kind a (field_of kind 1 rest) (afterField kind 1 rest)
-withFirst kind (Number.Wrong m) rest = Line.Wrong kind 2 m
+unfoldable pub with_first : Kind → Number → List ℕ → Line
+with_first kind (Number.Value a) rest = with_second kind a (field_of kind 1 rest) (after_field kind 1 rest)
+with_first kind (Number.Wrong m) rest = Line.Wrong kind 2 m
 
 -- its name
-unfoldable pub namedLine : Named → List ℕ → Line
-namedLine (Named.Is kind) rest = withFirst kind (field_of kind 0 rest) (afterField kind 0 rest)
-namedLine Named.Nothing rest = Line.Unknown
+unfoldable pub named_line : Named → List ℕ → Line
+named_line (Named.Is kind) rest = with_first kind (field_of kind 0 rest) (after_field kind 0 rest)
+named_line Named.Nothing rest = Line.Unknown
 
 -- of bytes that start with a word, or are none
-unfoldable pub wordsLine : List ℕ → Line
-wordsLine [] = Line.Blank
-wordsLine (c ∷ cs) = namedLine (kindNamed (before space (c ∷ cs))) (drop (wordLength (c ∷ cs)) (c ∷ cs))
+unfoldable pub words_line : List ℕ → Line
+words_line [] = Line.Blank
+words_line (c ∷ cs) = named_line (kind_named (before space (c ∷ cs))) (drop (word_length (c ∷ cs)) (c ∷ cs))
 
 unfoldable pub line_of : List ℕ → Line
-line_of line = wordsLine (trimmed (contentOf line))
+line_of line = words_line (trimmed (content_of line))
 
 -- ---- its job
 
 -- the items in a line that is a job: what stands after the name and the task's number
-abbrev pub itemsAfter : List ℕ → List ℕ
-itemsAfter words = bare (afterField Kind.Job 0 (drop (wordLength words) words))
+abbrev pub items_after : List ℕ → List ℕ
+items_after words = bare (after_field Kind.Job 0 (drop (word_length words) words))
 
 abbrev pub items_of : List ℕ → List ℕ
-items_of line = itemsAfter (trimmed (contentOf line))
+items_of line = items_after (trimmed (content_of line))
 
 -- their events as numbers
-unfoldable pub itemNumbers : List ℕ → List ℕ
-itemNumbers items = map eventNumber (jobEvents items jobRoom)
+unfoldable pub item_numbers : List ℕ → List ℕ
+item_numbers items = map event_number (job_events items job_room)

@@ -5,20 +5,20 @@ use Rattle.texts.specs.declared.number.Mistake.{Mistake}
 use Rattle.texts.specs.declared.number.Number.{Number}
 
 -- a byte from `0` to `9`
-unfoldable pub isDigit : ℕ → Bool
-isDigit c = if ltb c 48 then false else leb c 57
+unfoldable pub is_digit : ℕ → Bool
+is_digit c = if ltb c 48 then false else leb c 57
 
 unfoldable pub digital : List ℕ → Bool
 digital [] = true
-digital (c ∷ cs) = isDigit c && digital cs
+digital (c ∷ cs) = is_digit c && digital cs
 
 -- more than any number of a record; all numbers from it on are alike
-abbrev pub tooLarge : ℕ
-tooLarge = 65_536
+abbrev pub too_large : ℕ
+too_large = 65_536
 
 -- the number v with one digit more, and with all digits of a word
 unfoldable pub grown : ℕ → ℕ → ℕ
-grown v c = if ltb c 48 then v else min (v * 10 + (c - 48)) tooLarge
+grown v c = if ltb c 48 then v else min (v * 10 + (c - 48)) too_large
 
 unfoldable pub value_of : ℕ → List ℕ → ℕ
 value_of v [] = v

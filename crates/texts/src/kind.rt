@@ -1,7 +1,7 @@
 // RULES 19.2: the nine kinds of record that a text has, and the job, which is several.
 ghost use Rattle.std.specs.Prelude.{◌≡◌, ◌≤◌};
 ghost use Rattle.texts.specs.declared.kind.Kind.{Kind};
-ghost use Rattle.texts.specs.Kind.{eventNamed, kindNamed, fields_of, most_of, part_of, hasItems};
+ghost use Rattle.texts.specs.Kind.{event_named, kind_named, fields_of, most_of, part_of, has_items};
 
 use crate::word::same;
 
@@ -28,7 +28,7 @@ pub enum Named {
 
 // Of an event or a job.
 fn event_named(word: &[u8]) -> Named
-    ensures { result ≡ eventNamed word.now }
+    ensures { result ≡ event_named word.now }
 {
     if same(word, b"release") {
         return Named::Is(Kind::Release);
@@ -55,7 +55,7 @@ fn event_named(word: &[u8]) -> Named
 }
 
 pub fn kind_named(word: &[u8]) -> Named
-    ensures { result ≡ kindNamed word.now }
+    ensures { result ≡ kind_named word.now }
 {
     if same(word, b"task") {
         return Named::Is(Kind::Task);
@@ -138,7 +138,7 @@ pub fn part(kind: Kind) -> u8
 
 // Whether items stand after its numbers, or may.
 pub fn has_items(kind: Kind) -> bool
-    ensures { result ≡ hasItems kind }
+    ensures { result ≡ has_items kind }
 {
     match kind {
         Kind::Task => false,

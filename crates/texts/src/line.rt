@@ -1,7 +1,7 @@
 // RULES 19.1 to 19.4: what one line says.
 ghost use Rattle.std.specs.Prelude.{◌≡◌, ◌≤◌, length};
 ghost use Rattle.texts.specs.Cut.{trimmed};
-ghost use Rattle.texts.specs.Line.{withoutReturn, contentOf, wordLength, field_of, fieldLength, afterField, plainLine, jobLine, ended, withSecond, withFirst, wordsLine, line_of, items_of};
+ghost use Rattle.texts.specs.Line.{without_return, content_of, word_length, field_of, field_length, after_field, plain_line, job_line, ended, with_second, with_first, words_line, line_of, items_of};
 
 use crate::kind::{Kind, Named, fields, has_items, kind_named, most, part};
 use crate::number::{Mistake, Number, read_number};
@@ -29,7 +29,7 @@ pub const JOB_ROOM: usize = MAX_EVENTS * 4;
 
 // The length without a carriage return at the end.
 fn without_return(line: &[u8]) -> usize
-    ensures value { result ≡ withoutReturn line.now }
+    ensures value { result ≡ without_return line.now }
     ensures upper_bound { result ≤ length line.now }
 {
     let n = line.len();
@@ -55,7 +55,7 @@ fn field(kind: Kind, w: u8, bytes: &[u8]) -> Number
 
 // How many bytes the first word has, with the spaces after it.
 fn word_length(bytes: &[u8]) -> usize
-    ensures value { result ≡ wordLength bytes.now }
+    ensures value { result ≡ word_length bytes.now }
     ensures upper_bound { result ≤ length bytes.now }
 {
     let n = find(bytes, b' ');
@@ -65,7 +65,7 @@ fn word_length(bytes: &[u8]) -> usize
 
 // How many bytes the number w of a record takes, with the spaces after it.
 fn field_length(kind: Kind, w: u8, bytes: &[u8]) -> usize
-    ensures value { result ≡ fieldLength kind w bytes.now }
+    ensures value { result ≡ field_length kind w bytes.now }
     ensures upper_bound { result ≤ length bytes.now }
 {
     if w < fields(kind) {
@@ -77,7 +77,7 @@ fn field_length(kind: Kind, w: u8, bytes: &[u8]) -> usize
 // After the numbers of a record nothing may stand.
 fn plain_line(kind: Kind, a: u32, b: u32, bytes: &[u8]) -> Line
     requires { (a ≤ 65535) × (b ≤ 65535) }
-    ensures { result ≡ plainLine kind a b bytes.now }
+    ensures { result ≡ plain_line kind a b bytes.now }
 {
     if bytes.len() == 0 {
         return Line::Record(part(kind), record(kind, a, b));
@@ -87,7 +87,7 @@ fn plain_line(kind: Kind, a: u32, b: u32, bytes: &[u8]) -> Line
 
 // Of a job with this release and these items.
 fn job_line(w: u32, items: &[u8]) -> Line
-    ensures { result ≡ jobLine w items.now }
+    ensures { result ≡ job_line w items.now }
 {
     let job = check_job(items, JOB_ROOM);
     let verdict = job.verdict;
@@ -112,7 +112,7 @@ fn ended(kind: Kind, a: u32, b: u32, bytes: &[u8]) -> Line
 // Its second number.
 fn with_second(kind: Kind, a: u32, bytes: &[u8]) -> Line
     requires { a ≤ 65535 }
-    ensures { result ≡ withSecond kind a (field_of kind 1 bytes.now) (afterField kind 1 bytes.now) }
+    ensures { result ≡ with_second kind a (field_of kind 1 bytes.now) (after_field kind 1 bytes.now) }
 {
     let second = field(kind, 1, bytes);
     let n = field_length(kind, 1, bytes);
@@ -124,7 +124,7 @@ fn with_second(kind: Kind, a: u32, bytes: &[u8]) -> Line
 
 // Its first number.
 fn with_first(kind: Kind, bytes: &[u8]) -> Line
-    ensures { result ≡ withFirst kind (field_of kind 0 bytes.now) (afterField kind 0 bytes.now) }
+    ensures { result ≡ with_first kind (field_of kind 0 bytes.now) (after_field kind 0 bytes.now) }
 {
     let first = field(kind, 0, bytes);
     let n = field_length(kind, 0, bytes);
@@ -136,7 +136,7 @@ fn with_first(kind: Kind, bytes: &[u8]) -> Line
 
 // Of bytes that start with a word, or are none.
 fn words_line(bytes: &[u8]) -> Line
-    ensures { result ≡ wordsLine bytes.now }
+    ensures { result ≡ words_line bytes.now }
 {
     if bytes.len() == 0 {
         return Line::Blank;
@@ -152,7 +152,7 @@ fn words_line(bytes: &[u8]) -> Line
 
 // The words of a line without its newline: what stands before a comment, without the spaces before it.
 fn words(line: &[u8]) -> &[u8]
-    ensures { result.now ≡ trimmed (contentOf line.now) }
+    ensures { result.now ≡ trimmed (content_of line.now) }
 {
     let n = without_return(line);
     let whole = &line[..n];

@@ -2,9 +2,9 @@
 ghost use Rattle.std.specs.Prelude.{◌≡◌, [], ◌∷◌, ◌<◌, length};
 ghost use Rattle.page.specs.Page.{page, typed};
 ghost use Rattle.rules.specs.Numbers.Place.{tabulate};
-ghost use Rattle.jobs.specs.Sheet.{recordIn};
-ghost use Rattle.texts.specs.Line.{items_of, itemNumbers};
-ghost use Rattle.texts.specs.Lines.{lines_of, readLines, ofPart, recordsOf, isWrong, firstWrong, countIn, lineOfRecord};
+ghost use Rattle.jobs.specs.Sheet.{record_in};
+ghost use Rattle.texts.specs.Line.{items_of, item_numbers};
+ghost use Rattle.texts.specs.Lines.{lines_of, read_lines, of_part, records_of, is_wrong, first_wrong, count_in, line_of_record};
 ghost use Rattle.texts.specs.At.{LineAt};
 
 use crate::line::{JOB_ROOM, Line, items, line_of};
@@ -51,7 +51,7 @@ fn line_at(text: &[u8], i: usize) -> Read
 }
 
 fn is_wrong(line: Line) -> bool
-    ensures { result ≡ isWrong line }
+    ensures { result ≡ is_wrong line }
 {
     match line {
         Line::Blank => false,
@@ -65,7 +65,7 @@ fn is_wrong(line: Line) -> bool
 
 // The first line with a mistake.
 pub fn first_wrong(text: &[u8]) -> First
-    ensures { result ≡ firstWrong 0 (readLines text.now) }
+    ensures { result ≡ first_wrong 0 (read_lines text.now) }
 {
     let mut n: usize = 0;
     let mut i: usize = 0;
@@ -94,7 +94,7 @@ fn put(out: &mut [u32], place: usize, number: u32) -> usize
 
 // The numbers of the first n records in event space.
 fn put_records(out: &mut [u32], place: usize, space: &[u8], n: usize) -> usize
-    ensures { page out.new result ≡ typed (page out.old place) (tabulate n (recordIn space.now)) }
+    ensures { page out.new result ≡ typed (page out.old place) (tabulate n (record_in space.now)) }
 {
     let mut next = place;
     let mut i: usize = 0;
@@ -107,7 +107,7 @@ fn put_records(out: &mut [u32], place: usize, space: &[u8], n: usize) -> usize
 
 // The numbers of the events of a job's items.
 fn put_items(out: &mut [u32], place: usize, items: &[u8]) -> usize
-    ensures { page out.new result ≡ typed (page out.old place) (itemNumbers items.now) }
+    ensures { page out.new result ≡ typed (page out.old place) (item_numbers items.now) }
 {
     let mut space = [0u8; JOB_ROOM];
     let job = read_job(items, &mut space);
@@ -116,7 +116,7 @@ fn put_items(out: &mut [u32], place: usize, items: &[u8]) -> usize
 
 // The numbers of a line that says records of this part.
 fn keep(out: &mut [u32], place: usize, line: Line, bytes: &[u8], part: u8) -> usize
-    ensures { page out.new result ≡ typed (page out.old place) (ofPart part line (items_of bytes.now)) }
+    ensures { page out.new result ≡ typed (page out.old place) (of_part part line (items_of bytes.now)) }
 {
     match line {
         Line::Blank => place,
@@ -141,7 +141,7 @@ fn keep(out: &mut [u32], place: usize, line: Line, bytes: &[u8], part: u8) -> us
 
 // The records of a part, as many as there is room for, and how many these are.
 pub fn collect(text: &[u8], part: u8, out: &mut [u32]) -> usize
-    ensures { page out.new result ≡ typed (page out.old 0) (recordsOf part (lines_of text.now)) }
+    ensures { page out.new result ≡ typed (page out.old 0) (records_of part (lines_of text.now)) }
 {
     let mut place: usize = 0;
     let mut i: usize = 0;
@@ -157,7 +157,7 @@ pub fn collect(text: &[u8], part: u8, out: &mut [u32]) -> usize
 
 // How many records of a part a line says.
 fn count_in(line: Line, part: u8) -> usize
-    ensures { result ≡ countIn part line }
+    ensures { result ≡ count_in part line }
 {
     match line {
         Line::Blank => 0,
@@ -181,7 +181,7 @@ fn count_in(line: Line, part: u8) -> usize
 
 // The number of the line of record k of a part; 0 where there are not so many.
 pub fn line_of_record(text: &[u8], part: u8, k: usize) -> usize
-    ensures { result ≡ lineOfRecord part k 0 (readLines text.now) }
+    ensures { result ≡ line_of_record part k 0 (read_lines text.now) }
 {
     let mut left = k;
     let mut n: usize = 0;

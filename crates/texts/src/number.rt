@@ -1,6 +1,6 @@
 // RULES 19.2: a number in decimal digits.
 ghost use Rattle.std.specs.Prelude.{◌≡◌, ◌≤◌};
-ghost use Rattle.texts.specs.Number.{tooLarge, isDigit, digital, grown, value_of, number_of};
+ghost use Rattle.texts.specs.Number.{too_large, is_digit, digital, grown, value_of, number_of};
 
 // What is wrong with the word where a number stands, or after the last one.
 #[derive(Drop)]
@@ -18,7 +18,7 @@ pub enum Number {
 }
 
 fn is_digit(c: u8) -> bool
-    ensures { result ≡ isDigit c }
+    ensures { result ≡ is_digit c }
 {
     if c < 48 {
         return false;
@@ -43,9 +43,9 @@ fn all_digits(word: &[u8]) -> bool
 
 // A number with one digit more; all that are larger than any record takes are alike.
 fn with_digit(v: u32, c: u8) -> u32
-    requires { v ≤ tooLarge }
+    requires { v ≤ too_large }
     ensures value { result ≡ grown v c }
-    ensures upper_bound { result ≤ tooLarge }
+    ensures upper_bound { result ≤ too_large }
 {
     if c < 48 {
         return v;

@@ -1,13 +1,13 @@
 // RULES 19.3: a record from its numbers.
 ghost use Rattle.std.specs.Prelude.{◌≡◌, ◌≤◌};
-ghost use Rattle.texts.specs.Kind.{recordOf};
+ghost use Rattle.texts.specs.Kind.{record_of};
 
 use crate::kind::Kind;
 
 // The record as one number, low byte first, from its numbers; of a job the release that it starts with.
 pub fn record(kind: Kind, a: u32, b: u32) -> u32
     requires { (a ≤ 65535) × (b ≤ 65535) }
-    ensures { result ≡ recordOf kind a b }
+    ensures { result ≡ record_of kind a b }
 {
     match kind {
         Kind::Task => a + b * 256,

@@ -1,6 +1,6 @@
 // Bytes cut at a byte, the spaces before a word and at the end, and two words compared.
 ghost use Rattle.std.specs.Prelude.{◌≡◌, ◌≤◌, length};
-ghost use Rattle.texts.specs.Cut.{up_to, spacesOf, withoutSpaces, same};
+ghost use Rattle.texts.specs.Cut.{up_to, spaces_of, without_spaces, same};
 
 // How many bytes stand before the first x; all, where there is none.
 pub fn find(bytes: &[u8], x: u8) -> usize
@@ -20,7 +20,7 @@ pub fn find(bytes: &[u8], x: u8) -> usize
 
 // How many spaces stand at the start.
 pub fn spaces(bytes: &[u8]) -> usize
-    ensures value { result ≡ spacesOf bytes.now }
+    ensures value { result ≡ spaces_of bytes.now }
     ensures upper_bound { result ≤ length bytes.now }
 {
     let n = bytes.len();
@@ -36,7 +36,7 @@ pub fn spaces(bytes: &[u8]) -> usize
 
 // How many bytes stand before the spaces at the end.
 pub fn without_spaces(bytes: &[u8]) -> usize
-    ensures value { result ≡ withoutSpaces bytes.now }
+    ensures value { result ≡ without_spaces bytes.now }
     ensures upper_bound { result ≤ length bytes.now }
 {
     let mut n = bytes.len();

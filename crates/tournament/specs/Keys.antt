@@ -18,16 +18,16 @@ unfoldable pub keys_of : (ℕ → ℕ) → (ℕ → ℕ) → ℕ → ℕ
 keys_of released kept x = key_of (kept x) (released x) x
 
 -- the task and the kept priority of a key: nobody and 0 of the key 0
-abbrev pub whoOf : ℕ → ℕ
-whoOf key = nobody - key % 2 ^ 8
+abbrev pub who_of : ℕ → ℕ
+who_of key = nobody - key % 2 ^ 8
 
 abbrev pub word_of : ℕ → ℕ
 word_of key = key / 2 ^ 40 % 2 ^ 8
 
 -- the tournament of the first n tasks, by their release numbers and kept priorities
-abbrev pub tournamentOf : ℕ → List ℕ → List ℕ → List ℕ
-tournamentOf n released kept = tree_of n (keys_of (at released) (at kept))
+abbrev pub tournament_of : ℕ → List ℕ → List ℕ → List ℕ
+tournament_of n released kept = tree_of n (keys_of (at released) (at kept))
 
 -- its root: the greatest of their keys
-abbrev pub rootOf : ℕ → List ℕ → List ℕ → ℕ
-rootOf n released kept = greatest (keys_of (at released) (at kept)) n
+abbrev pub root_of : ℕ → List ℕ → List ℕ → ℕ
+root_of n released kept = greatest (keys_of (at released) (at kept)) n

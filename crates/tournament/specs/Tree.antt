@@ -1,13 +1,13 @@
 -- A tournament of n keys in an array. Place i, where i < n - 1, holds the greater of what places 2i + 1 and 2i + 2 hold; from place n - 1 on stand the keys;
 -- so place 0 holds the greatest. The tree is as deep as n keys need. Assumes nothing.
 use Rattle.std.specs.Prelude.{◌≡◌, List, ℕ, zero, suc, ◌+◌, ◌*◌, ◌-◌, ◌≤◌, ◌<◌, max, eqb, ltb, length}
-use Rattle.rules.specs.Numbers.Capacity.{maxTasks}
+use Rattle.rules.specs.Numbers.Capacity.{max_tasks}
 use Rattle.rules.specs.Numbers.Choice.{if◌then◌else◌}
 use Rattle.rules.specs.Numbers.Place.{at, tabulate}
 
 -- how many places the array has; src/tree.rt names the same number
 abbrev pub places : ℕ
-places = 2 * maxTasks - 1
+places = 2 * max_tasks - 1
 
 -- how many places stand before the keys
 abbrev pub inner : ℕ → ℕ

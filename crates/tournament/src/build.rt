@@ -1,9 +1,9 @@
 // The tournament of the first n tasks, from their tables, in an array of zeros: from its last place
 // down to the root.
 ghost use Rattle.std.specs.Prelude.{◌≡◌, ℕ, ◌≤◌, ◌<◌, replicate};
-ghost use Rattle.rules.specs.Numbers.Capacity.{maxTasks};
+ghost use Rattle.rules.specs.Numbers.Capacity.{max_tasks};
 ghost use Rattle.rules.specs.Numbers.Place.{at};
-ghost use Rattle.tournament.specs.Keys.{keys_of, tournamentOf};
+ghost use Rattle.tournament.specs.Keys.{keys_of, tournament_of};
 ghost use Rattle.tournament.specs.Tree.{TreeFrom, inner, places, tree_of};
 
 use crate::keys::key_of;
@@ -12,7 +12,7 @@ use rules::capacity::MAX_TASKS;
 
 // The places of the keys.
 fn lay(n: usize, released: &[u32; MAX_TASKS], kept: &[u8; MAX_TASKS], tree: &mut [u64; PLACES])
-    requires { (0 < n) × (n ≤ maxTasks) }
+    requires { (0 < n) × (n ≤ max_tasks) }
     ensures { tree.old ≡ replicate places 0
         → TreeFrom n (keys_of (at released.now) (at kept.now)) (inner n) tree.new }
 {
@@ -25,7 +25,7 @@ fn lay(n: usize, released: &[u32; MAX_TASKS], kept: &[u8; MAX_TASKS], tree: &mut
 
 // The places before them.
 fn raise(n: usize, tree: &mut [u64; PLACES])
-    requires { (0 < n) × (n ≤ maxTasks) }
+    requires { (0 < n) × (n ≤ max_tasks) }
     ensures { (f : ℕ → ℕ) → TreeFrom n f (inner n) tree.old → tree.new ≡ tree_of n f }
 {
     let mut i = n - 1;
@@ -41,8 +41,8 @@ pub fn build(
     kept: &[u8; MAX_TASKS],
     tree: &mut [u64; PLACES],
 )
-    ensures { n ≤ maxTasks → tree.old ≡ replicate places 0
-        → tree.new ≡ tournamentOf n released.now kept.now }
+    ensures { n ≤ max_tasks → tree.old ≡ replicate places 0
+        → tree.new ≡ tournament_of n released.now kept.now }
 {
     if n == 0 {
         return;

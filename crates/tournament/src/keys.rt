@@ -1,7 +1,7 @@
 // A task's key in the tournament: its kept priority, then the complement of its release number and of
 // its own number, 32 and 8 bits.
 ghost use Rattle.std.specs.Prelude.{◌≡◌};
-ghost use Rattle.tournament.specs.Keys.{key_of, whoOf, word_of};
+ghost use Rattle.tournament.specs.Keys.{key_of, who_of, word_of};
 
 use rules::capacity::NOBODY;
 
@@ -21,7 +21,7 @@ pub fn key_of(kept: u8, released: u32, t: u8) -> u64
 
 // The task of a key, and nobody of the key 0.
 pub fn who_of(key: u64) -> u8
-    ensures { result ≡ whoOf key }
+    ensures { result ≡ who_of key }
 {
     NOBODY - (key % 256) as u8
 }

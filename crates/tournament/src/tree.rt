@@ -1,6 +1,6 @@
 // The tournament of n keys, in an array that the caller lends.
 ghost use Rattle.std.specs.Prelude.{◌≡◌, ℕ, ◌≤◌, max};
-ghost use Rattle.rules.specs.Numbers.Capacity.{maxTasks};
+ghost use Rattle.rules.specs.Numbers.Capacity.{max_tasks};
 ghost use Rattle.rules.specs.Numbers.Place.{at, greatest};
 ghost use Rattle.tournament.specs.Tree.{changed, tree_of};
 
@@ -27,8 +27,8 @@ pub fn top(tree: &[u64; PLACES]) -> u64
 // The key of t is another: what stands above it follows, and the greatest key is the answer. Places
 // 2p + 1 and 2p + 2 stand below p, so 4p + 3 - i stands beside i. What was stored last is at hand in v.
 pub fn put(tree: &mut [u64; PLACES], n: usize, t: usize, key: u64) -> u64
-    ensures by_index { (f : ℕ → ℕ) → n ≤ maxTasks → tree.old ≡ tree_of n f → tree.new ≡ tree_of n (changed f t key) }
-    ensures by_index_2 { (f : ℕ → ℕ) → n ≤ maxTasks → tree.old ≡ tree_of n f → result ≡ greatest (changed f t key) n }
+    ensures by_index { (f : ℕ → ℕ) → n ≤ max_tasks → tree.old ≡ tree_of n f → tree.new ≡ tree_of n (changed f t key) }
+    ensures by_index_2 { (f : ℕ → ℕ) → n ≤ max_tasks → tree.old ≡ tree_of n f → result ≡ greatest (changed f t key) n }
 {
     if MAX_TASKS < n {
         return 0;

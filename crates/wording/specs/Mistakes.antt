@@ -10,7 +10,7 @@ use Rattle.texts.specs.declared.kind.Kind.TheVariants.{Task, Lock, Use, Release,
 use Rattle.texts.specs.declared.number.Mistake.{Mistake}
 use Rattle.texts.specs.declared.number.Mistake.TheVariants.{Missing, NoNumber, TooLarge, TooMany}
 use Rattle.texts.specs.declared.line.Line.{Line}
-use Rattle.wording.specs.Meaning.{meaningOf}
+use Rattle.wording.specs.Meaning.{meaning_of}
 
 -- how a record is written
 unfoldable pub form_of : Kind → List ℕ
@@ -26,25 +26,25 @@ form_of Tick = ascii "tick\n"
 form_of Job = ascii "job TASK ITEMS\n"
 
 -- what is wrong with a word of line n; the number that stands there may be at most this
-unfoldable pub wrongWord : Mistake → (n word most : ℕ) → List ℕ
-wrongWord Missing n word most = says "line @: word @ is missing; write " (n ∷ word ∷ most ∷ [])
-wrongWord NoNumber n word most = says "line @: word @ is no decimal number; write " (n ∷ word ∷ most ∷ [])
-wrongWord TooLarge n word most = says "line @: word @ is more than @; write " (n ∷ word ∷ most ∷ [])
-wrongWord TooMany n word most = says "line @: word @ is one too many; write " (n ∷ word ∷ most ∷ [])
+unfoldable pub wrong_word : Mistake → (n word most : ℕ) → List ℕ
+wrong_word Missing n word most = says "line @: word @ is missing; write " (n ∷ word ∷ most ∷ [])
+wrong_word NoNumber n word most = says "line @: word @ is no decimal number; write " (n ∷ word ∷ most ∷ [])
+wrong_word TooLarge n word most = says "line @: word @ is more than @; write " (n ∷ word ∷ most ∷ [])
+wrong_word TooMany n word most = says "line @: word @ is one too many; write " (n ∷ word ∷ most ∷ [])
 
 -- a refusal, and one with the line that it comes from
-unfoldable pub refusalWords : Refusal → ℕ → List ℕ
-refusalWords why place = says "refused @ @: " (number_of why ∷ place ∷ []) ++ meaningOf why ++ ascii "\n"
+unfoldable pub refusal_words : Refusal → ℕ → List ℕ
+refusal_words why place = says "refused @ @: " (number_of why ∷ place ∷ []) ++ meaning_of why ++ ascii "\n"
 
-unfoldable pub refusalAtLine : Refusal → (place n : ℕ) → List ℕ
-refusalAtLine why place n = says "refused @ @, line @: " (number_of why ∷ place ∷ n ∷ []) ++ meaningOf why ++ ascii "\n"
+unfoldable pub refusal_at_line : Refusal → (place n : ℕ) → List ℕ
+refusal_at_line why place n = says "refused @ @, line @: " (number_of why ∷ place ∷ n ∷ []) ++ meaning_of why ++ ascii "\n"
 
 -- of a line with a mistake; the numbers of a record are the words from 2 on
-unfoldable pub mistakeOf : ℕ → Line → List ℕ
-mistakeOf n Line.Blank = []
-mistakeOf n (Line.Record part w) = []
-mistakeOf n (Line.Job w k) = []
-mistakeOf n Line.Unknown =
+unfoldable pub mistake_of : ℕ → Line → List ℕ
+mistake_of n Line.Blank = []
+mistake_of n (Line.Record part w) = []
+mistake_of n (Line.Job w k) = []
+mistake_of n Line.Unknown =
     says "line @: no record has this name; the names are task, lock, use, release, acquire, unlock, work, finish, tick and job\n" (n ∷ [])
-mistakeOf n (Line.Wrong kind word m) = wrongWord m n word (most_of kind (word - 2)) ++ form_of kind
-mistakeOf n (Line.Refused why place) = refusalAtLine why place n
+mistake_of n (Line.Wrong kind word m) = wrong_word m n word (most_of kind (word - 2)) ++ form_of kind
+mistake_of n (Line.Refused why place) = refusal_at_line why place n

@@ -2,14 +2,14 @@
 ghost use Rattle.std.specs.Prelude.{◌≡◌};
 ghost use Rattle.rules.specs.declared.refusal.Refusal.{Refusal};
 ghost use Rattle.page.specs.Page.{page, typed};
-ghost use Rattle.wording.specs.Meaning.{meaningOf};
+ghost use Rattle.wording.specs.Meaning.{meaning_of};
 
 use page::{put_says, put_text};
 use rules::capacity::{MAX_ACCEPTED, MAX_EVENTS, MAX_LOCKS, MAX_TAKES, MAX_TASKS, MAX_USES};
 use rules::refusal::Refusal;
 
 fn put_counts(out: &mut [u8], i: usize) -> usize
-    ensures { page out.new result ≡ typed (page out.old i) (meaningOf Refusal.WrongCount) }
+    ensures { page out.new result ≡ typed (page out.old i) (meaning_of Refusal.WrongCount) }
 {
     let numbers = [
         MAX_TASKS as u64,
@@ -26,14 +26,14 @@ fn put_counts(out: &mut [u8], i: usize) -> usize
 }
 
 fn put_exhausted(out: &mut [u8], i: usize) -> usize
-    ensures { page out.new result ≡ typed (page out.old i) (meaningOf Refusal.Exhausted) }
+    ensures { page out.new result ≡ typed (page out.old i) (meaning_of Refusal.Exhausted) }
 {
     let numbers = [MAX_ACCEPTED as u64];
     put_says(out, i, b"@ events were accepted already", &numbers)
 }
 
 fn put_row_full(out: &mut [u8], i: usize) -> usize
-    ensures { page out.new result ≡ typed (page out.old i) (meaningOf Refusal.RowFull) }
+    ensures { page out.new result ≡ typed (page out.old i) (meaning_of Refusal.RowFull) }
 {
     let numbers = [MAX_TAKES as u64];
     put_says(
@@ -45,7 +45,7 @@ fn put_row_full(out: &mut [u8], i: usize) -> usize
 }
 
 pub fn put_meaning(out: &mut [u8], i: usize, why: Refusal) -> usize
-    ensures { page out.new result ≡ typed (page out.old i) (meaningOf why) }
+    ensures { page out.new result ≡ typed (page out.old i) (meaning_of why) }
 {
     match why {
         Refusal::ShortBook => put_text(out, i, b"the book has fewer than 32 bytes"),

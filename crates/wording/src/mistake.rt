@@ -5,8 +5,8 @@ ghost use Rattle.texts.specs.Kind.{most_of};
 ghost use Rattle.texts.specs.declared.line.Line.{Line};
 ghost use Rattle.page.specs.Ascii.{ascii};
 ghost use Rattle.page.specs.Page.{page, typed};
-ghost use Rattle.wording.specs.Meaning.{meaningOf};
-ghost use Rattle.wording.specs.Mistakes.{form_of, wrongWord, mistakeOf, refusalWords, refusalAtLine};
+ghost use Rattle.wording.specs.Meaning.{meaning_of};
+ghost use Rattle.wording.specs.Mistakes.{form_of, wrong_word, mistake_of, refusal_words, refusal_at_line};
 
 use crate::meaning::put_meaning;
 use page::{put_says, put_text};
@@ -35,7 +35,7 @@ fn put_form(out: &mut [u8], i: usize, kind: Kind) -> usize
 
 // What is wrong with a word of line n.
 fn put_wrong_word(out: &mut [u8], i: usize, mistake: Mistake, n: u64, word: u64, most: u64) -> usize
-    ensures { page out.new result ≡ typed (page out.old i) (wrongWord mistake n word most) }
+    ensures { page out.new result ≡ typed (page out.old i) (wrong_word mistake n word most) }
 {
     let numbers = [n, word, most];
     match mistake {
@@ -63,14 +63,14 @@ fn most_at(kind: Kind, word: u8) -> u64
 
 // Of a record of this kind: its word, and how a record is written.
 fn put_wrong(out: &mut [u8], i: usize, n: u64, kind: Kind, word: u8, mistake: Mistake) -> usize
-    ensures { page out.new result ≡ typed (page out.old i) (wrongWord mistake n word (most_of kind (word - 2)) ++ form_of kind) }
+    ensures { page out.new result ≡ typed (page out.old i) (wrong_word mistake n word (most_of kind (word - 2)) ++ form_of kind) }
 {
     let place = put_wrong_word(out, i, mistake, n, word as u64, most_at(kind, word));
     put_form(out, place, kind)
 }
 
 fn put_unknown(out: &mut [u8], i: usize, n: u64) -> usize
-    ensures { page out.new result ≡ typed (page out.old i) (mistakeOf n Line.Unknown) }
+    ensures { page out.new result ≡ typed (page out.old i) (mistake_of n Line.Unknown) }
 {
     let numbers = [n];
     put_says(
@@ -83,7 +83,7 @@ fn put_unknown(out: &mut [u8], i: usize, n: u64) -> usize
 
 // What a refusal means, and the line's end.
 pub fn put_meaning_line(out: &mut [u8], i: usize, why: Refusal) -> usize
-    ensures { page out.new result ≡ typed (page out.old i) (meaningOf why ++ ascii "\n") }
+    ensures { page out.new result ≡ typed (page out.old i) (meaning_of why ++ ascii "\n") }
 {
     let place = put_meaning(out, i, why);
     put_text(out, place, b"\n")
@@ -97,7 +97,7 @@ pub fn number_of(why: Refusal) -> u64
 
 // A refusal.
 pub fn put_refusal(out: &mut [u8], i: usize, why: Refusal, place: usize) -> usize
-    ensures { page out.new result ≡ typed (page out.old i) (refusalWords why place) }
+    ensures { page out.new result ≡ typed (page out.old i) (refusal_words why place) }
 {
     let numbers = [number_of(why), place as u64];
     let after = put_says(out, i, b"refused @ @: ", &numbers);
@@ -106,7 +106,7 @@ pub fn put_refusal(out: &mut [u8], i: usize, why: Refusal, place: usize) -> usiz
 
 // A refusal, with the line that it comes from.
 pub fn put_refusal_at(out: &mut [u8], i: usize, why: Refusal, place: usize, n: u64) -> usize
-    ensures { page out.new result ≡ typed (page out.old i) (refusalAtLine why place n) }
+    ensures { page out.new result ≡ typed (page out.old i) (refusal_at_line why place n) }
 {
     let numbers = [number_of(why), place as u64, n];
     let after = put_says(out, i, b"refused @ @, line @: ", &numbers);
@@ -115,7 +115,7 @@ pub fn put_refusal_at(out: &mut [u8], i: usize, why: Refusal, place: usize, n: u
 
 // Of line n, which has a mistake.
 pub fn put_mistake(out: &mut [u8], i: usize, n: u64, line: Line) -> usize
-    ensures { page out.new result ≡ typed (page out.old i) (mistakeOf n line) }
+    ensures { page out.new result ≡ typed (page out.old i) (mistake_of n line) }
 {
     match line {
         Line::Blank => i,

@@ -2,7 +2,7 @@
 ghost use Rattle.std.specs.Prelude.{◌≡◌, [], ◌∷◌};
 ghost use Rattle.page.specs.Page.{page, typed};
 ghost use Rattle.page.specs.Says.{filled};
-ghost use Rattle.wording.specs.Reasons.{callLine, stopLine, newestReason, pastReason, reasonOf};
+ghost use Rattle.wording.specs.Reasons.{call_line, stop_line, newest_reason, past_reason, reason_of};
 
 use crate::mistake::{number_of, put_meaning_line};
 use page::{put_says, put_text};
@@ -37,7 +37,7 @@ pub fn put_call(
     after: u64,
     user: u64,
 ) -> usize
-    ensures { page out.new result ≡ typed (page out.old i) (callLine n before lock after user) }
+    ensures { page out.new result ≡ typed (page out.old i) (call_line n before lock after user) }
 {
     if after == before {
         let numbers = [n, before, lock, before];
@@ -59,7 +59,7 @@ pub fn put_call(
 
 // The refusal of event n.
 pub fn put_stop(out: &mut [u8], i: usize, n: u64, why: Refusal) -> usize
-    ensures { page out.new result ≡ typed (page out.old i) (stopLine n why) }
+    ensures { page out.new result ≡ typed (page out.old i) (stop_line n why) }
 {
     let numbers = [n, number_of(why)];
     let after = put_says(out, i, b"event @: refused @: ", &numbers);
@@ -81,7 +81,7 @@ fn put_two(out: &mut [u8], i: usize, text: &[u8], a: u64, b: u64) -> usize
 }
 
 fn put_newest(out: &mut [u8], i: usize, running: u64, depth: u64, newest: u64, named: u64) -> usize
-    ensures { page out.new result ≡ typed (page out.old i) (newestReason running depth newest named) }
+    ensures { page out.new result ≡ typed (page out.old i) (newest_reason running depth newest named) }
 {
     if depth == 0 {
         return put_two(
@@ -110,7 +110,7 @@ fn put_past(
     past: u64,
     amount: u64,
 ) -> usize
-    ensures { page out.new result ≡ typed (page out.old i) (pastReason running units limit past amount) }
+    ensures { page out.new result ≡ typed (page out.old i) (past_reason running units limit past amount) }
 {
     let numbers = [running, units, limit, past, amount];
     put_says(
@@ -123,7 +123,7 @@ fn put_past(
 
 // What the refusal of an event was about.
 pub fn put_reason(out: &mut [u8], i: usize, why: Refusal, f: Facts) -> usize
-    ensures { page out.new result ≡ typed (page out.old i) (reasonOf why f) }
+    ensures { page out.new result ≡ typed (page out.old i) (reason_of why f) }
 {
     match why {
         Refusal::NobodyRuns => put_text(out, i, b"every task that was released has finished\n"),

@@ -2,8 +2,8 @@
 ghost use Rattle.std.specs.Prelude.{◌≡◌, [], ◌∷◌, ◌%◌, ◌/◌};
 ghost use Rattle.page.specs.Page.{page, typed};
 ghost use Rattle.page.specs.Says.{filled};
-ghost use Rattle.wording.specs.Records.{taskLine, lockLine, useLine, eventWords, noEventLine, ranComment, refusedComment, unreached};
-ghost use Rattle.wording.specs.Records.{sizeLine, entryLine};
+ghost use Rattle.wording.specs.Records.{task_line, lock_line, use_line, event_words, no_event_line, ran_comment, refused_comment, unreached};
+ghost use Rattle.wording.specs.Records.{size_line, entry_line};
 
 use crate::mistake::{number_of, put_meaning_line};
 use page::{put_says, put_text};
@@ -39,14 +39,14 @@ fn limit(w: u32) -> u64
 
 // Two numbers of one byte, with the record's number.
 pub fn put_task(out: &mut [u8], i: usize, k: usize, w: u32) -> usize
-    ensures { page out.new result ≡ typed (page out.old i) (taskLine k w) }
+    ensures { page out.new result ≡ typed (page out.old i) (task_line k w) }
 {
     let numbers = [low(w), second(w), k as u64];
     put_says(out, i, b"task @ @ # @\n", &numbers)
 }
 
 pub fn put_use(out: &mut [u8], i: usize, k: usize, w: u32) -> usize
-    ensures { page out.new result ≡ typed (page out.old i) (useLine k w) }
+    ensures { page out.new result ≡ typed (page out.old i) (use_line k w) }
 {
     let numbers = [low(w), second(w), k as u64];
     put_says(out, i, b"use @ @ # @\n", &numbers)
@@ -54,7 +54,7 @@ pub fn put_use(out: &mut [u8], i: usize, k: usize, w: u32) -> usize
 
 // A lock with something in its second byte has no words.
 pub fn put_lock(out: &mut [u8], i: usize, k: usize, w: u32) -> usize
-    ensures { page out.new result ≡ typed (page out.old i) (lockLine k w) }
+    ensures { page out.new result ≡ typed (page out.old i) (lock_line k w) }
 {
     let other = second(w);
     if other == 0 {
@@ -74,7 +74,7 @@ fn put_numbered(out: &mut [u8], i: usize, name: &[u8], n: u64) -> usize
 }
 
 pub fn put_event(out: &mut [u8], i: usize, event: Event) -> usize
-    ensures { page out.new result ≡ typed (page out.old i) (eventWords event) }
+    ensures { page out.new result ≡ typed (page out.old i) (event_words event) }
 {
     match event {
         Event::Release(t) => put_numbered(out, i, b"release @", t as u64),
@@ -88,7 +88,7 @@ pub fn put_event(out: &mut [u8], i: usize, event: Event) -> usize
 
 // A record that 8 refuses has no words.
 pub fn put_no_event(out: &mut [u8], i: usize, w: u32) -> usize
-    ensures { page out.new result ≡ typed (page out.old i) (noEventLine w) }
+    ensures { page out.new result ≡ typed (page out.old i) (no_event_line w) }
 {
     let numbers = [low(w), second(w), high(w)];
     put_says(out, i, b"# kind @, id @, amount @\n", &numbers)
@@ -96,7 +96,7 @@ pub fn put_no_event(out: &mut [u8], i: usize, w: u32) -> usize
 
 // The comment of event n that ran, was refused or was not reached.
 pub fn put_ran(out: &mut [u8], i: usize, n: u64, task: u64, user: u64) -> usize
-    ensures { page out.new result ≡ typed (page out.old i) (ranComment n task user) }
+    ensures { page out.new result ≡ typed (page out.old i) (ran_comment n task user) }
 {
     let numbers = [n, task, user];
     if task == NOBODY as u64 {
@@ -106,7 +106,7 @@ pub fn put_ran(out: &mut [u8], i: usize, n: u64, task: u64, user: u64) -> usize
 }
 
 pub fn put_refused(out: &mut [u8], i: usize, n: u64, why: Refusal) -> usize
-    ensures { page out.new result ≡ typed (page out.old i) (refusedComment n why) }
+    ensures { page out.new result ≡ typed (page out.old i) (refused_comment n why) }
 {
     let numbers = [n, number_of(why)];
     let after = put_says(out, i, b" # event @: refused @: ", &numbers);
@@ -122,7 +122,7 @@ pub fn put_unreached(out: &mut [u8], i: usize, n: u64) -> usize
 
 // The size of a book, and an entry of its contents.
 pub fn put_size(out: &mut [u8], i: usize, size: usize) -> usize
-    ensures { page out.new result ≡ typed (page out.old i) (sizeLine size) }
+    ensures { page out.new result ≡ typed (page out.old i) (size_line size) }
 {
     let numbers = [size as u64];
     put_says(out, i, b"# the book has @ bytes\n", &numbers)
@@ -136,7 +136,7 @@ pub fn put_entry(
     count: usize,
     offset: usize,
 ) -> usize
-    ensures { page out.new result ≡ typed (page out.old i) (entryLine e kind count offset) }
+    ensures { page out.new result ≡ typed (page out.old i) (entry_line e kind count offset) }
 {
     let numbers = [e as u64, kind as u64, count as u64, offset as u64];
     put_says(

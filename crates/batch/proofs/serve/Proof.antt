@@ -9,8 +9,8 @@ invariant-loop book₀ rows₀ i₀ book rows i = (i ≤ 4000000000) × (length 
 abbrev decreases-loop : tie.decreases-loop
 decreases-loop book₀ rows₀ i₀ book rows i = 4000000000 - i
 
-pub serve-spec : {M : Type 1} → statement M
-serve-spec =
+pub serve_spec : {M : Type 1} → statement M
+serve_spec =
     tie.close
     (tie.spec
     invariant-loop decreases-loop (λ c. search rules) (λ c κs. search rules) (λ c. search rules) (λ c. search rules)

@@ -4,8 +4,8 @@ use borrow.Author.Rules.{rules, counted_is}
 use Rattle.compose.proofs.write_front.Statement.{statement}
 use Rattle.compose.proofs.write_front.Tie as tie
 
-pub write-front-spec : {M : Type 1} → statement M
-write-front-spec =
+pub write_front_spec : {M : Type 1} → statement M
+write_front_spec =
     tie.close
     (tie.spec
     (λ c. search (length-take-le, counted_is)) (λ c κs. search rules) (λ c. search rules) (λ c. search rules))

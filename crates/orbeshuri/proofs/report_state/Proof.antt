@@ -5,8 +5,8 @@ use borrow.Author.Rules.{rules}
 use Rattle.orbeshuri.proofs.report_state.Statement.{statement}
 use Rattle.orbeshuri.proofs.report_state.Tie as tie
 
-pub report-state-spec : {M : Type 1} → statement M
-report-state-spec =
+pub report_state_spec : {M : Type 1} → statement M
+report_state_spec =
     tie.close
     (tie.spec
     (λ c. search rules) (λ c. search rules) (λ c. search (counted_is, front_length, rules))

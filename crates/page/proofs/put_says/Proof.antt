@@ -5,7 +5,7 @@ use lib.ListN.{length}
 use Rattle.page.specs.Left.{left_of}
 use Rattle.page.specs.Page.{page, typed}
 use Rattle.page.specs.Says.{filled}
-use Rattle.page.proofs.Said.{said-ends}
+use Rattle.page.proofs.Said.{said_ends}
 use borrow.Author.Rules.{rules}
 use Rattle.page.proofs.put_says.Statement.{statement}
 use Rattle.page.proofs.put_says.Tie as tie
@@ -17,9 +17,9 @@ invariant-loop out₀ i text numbers spot₀ k₀ out spot k =
 abbrev decreases-loop : tie.decreases-loop
 decreases-loop out₀ i text numbers spot₀ k₀ out spot k = length text - k
 
-pub put-says-spec : {M : Type 1} → statement M
-put-says-spec =
+pub put_says_spec : {M : Type 1} → statement M
+put_says_spec =
     tie.close
     (tie.spec
     invariant-loop decreases-loop (λ c. (search rules, search rules, refl)) (λ c κs. search rules) (λ c. search rules) (λ c. search rules)
-    (λ c. (search rules, search rules, cc)) (λ c. search rules) (λ c. search said-ends))
+    (λ c. (search rules, search rules, cc)) (λ c. search rules) (λ c. search said_ends))

@@ -3,7 +3,7 @@ use mathlib.Core.Path.{◌≡◌, refl}
 use Prim.Native.Nat.{◌-◌}
 use lib.ListN.{length}
 use Rattle.page.specs.Page.{page}
-use Rattle.page.proofs.Typed.{TypedSoFar, text-next, text-ends}
+use Rattle.page.proofs.Typed.{TypedSoFar, text_next, text_ends}
 use borrow.Author.Rules.{rules}
 use Rattle.page.proofs.put_text.Statement.{statement}
 use Rattle.page.proofs.put_text.Tie as tie
@@ -14,10 +14,10 @@ invariant-loop out₀ i text place₀ k₀ out place k = (length out ≡ length 
 abbrev decreases-loop : tie.decreases-loop
 decreases-loop out₀ i text place₀ k₀ out place k = length text - k
 
-pub put-text-spec : {M : Type 1} → statement M
-put-text-spec =
+pub put_text_spec : {M : Type 1} → statement M
+put_text_spec =
     tie.close
     (tie.spec
     invariant-loop decreases-loop (λ c. (search rules, refl)) (λ c. search rules) (λ c κs. search rules)
-    (λ c. search rules) (λ c. search rules) (λ c. (search rules, search text-next)) (λ c. search rules)
-    (λ c. search text-ends))
+    (λ c. search rules) (λ c. search rules) (λ c. (search rules, search text_next)) (λ c. search rules)
+    (λ c. search text_ends))

@@ -1,11 +1,11 @@
 -- `report::put_end` meets its contract. One after the other. Assumes nothing.
-use Rattle.page.proofs.Typed.{typed-two}
+use Rattle.page.proofs.Typed.{typed_two}
 use borrow.Author.Rules.{rules}
 use Rattle.report.proofs.put_end.Statement.{statement}
 use Rattle.report.proofs.put_end.Tie as tie
 
-pub put-end-spec : {M : Type 1} → statement M
-put-end-spec =
+pub put_end_spec : {M : Type 1} → statement M
+put_end_spec =
     tie.close
     (tie.spec
-    (λ c κs. search rules) (λ c κs. search rules) (λ c. search rules) (λ c. search typed-two))
+    (λ c κs. search rules) (λ c κs. search rules) (λ c. search rules) (λ c. search typed_two))

@@ -5,8 +5,8 @@ use native.Mathlib.Omega.{arith}
 use lib.ListN.{length}
 use Rattle.rules.specs.Numbers.Place.{at, from}
 use Rattle.rules.specs.Books.Book.{word, long, contents}
-use Rattle.rules.specs.Books.Bytes.{two, four, word_bytes, longBytes, entry_of, contentsOf, bodiesOf, bookOf, Bytes, Fit}
-use Rattle.rules.proofs.Books.ReadBack.{word_size, long-size}
+use Rattle.rules.specs.Books.Bytes.{two, four, word_bytes, long_bytes, entry_of, contents_of, bodies_of, book_of, Bytes, Fit}
+use Rattle.rules.proofs.Books.ReadBack.{word_size, long_size}
 
 -- ---- the bytes of records that fit
 
@@ -27,41 +27,41 @@ four_bytes w h (suc (suc zero)) = omega arith
 four_bytes w h (suc (suc (suc zero))) = omega arith
 four_bytes w h (suc (suc (suc (suc i)))) = omega arith
 
-word-bytes : (ws : List ℕ) → ((i : ℕ) → at ws i < 2 ^ 16) → Bytes (word_bytes ws)
+word_bytes_lem : (ws : List ℕ) → ((i : ℕ) → at ws i < 2 ^ 16) → Bytes (word_bytes ws)
 unfolding word_bytes
-word-bytes [] h = λ i. omega arith
-word-bytes (w ∷ ws) h = both_bytes (two w) (word_bytes ws) (two_bytes w (h 0)) (word-bytes ws (λ i. h (suc i)))
+word_bytes_lem [] h = λ i. omega arith
+word_bytes_lem (w ∷ ws) h = both_bytes (two w) (word_bytes ws) (two_bytes w (h 0)) (word_bytes_lem ws (λ i. h (suc i)))
 
-long-bytes : (ws : List ℕ) → ((i : ℕ) → at ws i < 2 ^ 32) → Bytes (longBytes ws)
-unfolding longBytes
-long-bytes [] h = λ i. omega arith
-long-bytes (w ∷ ws) h = both_bytes (four w) (longBytes ws) (four_bytes w (h 0)) (long-bytes ws (λ i. h (suc i)))
+long_bytes_lem : (ws : List ℕ) → ((i : ℕ) → at ws i < 2 ^ 32) → Bytes (long_bytes ws)
+unfolding long_bytes
+long_bytes_lem [] h = λ i. omega arith
+long_bytes_lem (w ∷ ws) h = both_bytes (four w) (long_bytes ws) (four_bytes w (h 0)) (long_bytes_lem ws (λ i. h (suc i)))
 
-entry-bytes : (kind count offset : ℕ) → kind < 2 ^ 16 → count < 2 ^ 16 → offset < 2 ^ 32 → Bytes (entry_of kind count offset)
-entry-bytes kind count offset a b c = both_bytes (two kind) (two count ++ four offset) (two_bytes kind a)
+entry_bytes : (kind count offset : ℕ) → kind < 2 ^ 16 → count < 2 ^ 16 → offset < 2 ^ 32 → Bytes (entry_of kind count offset)
+entry_bytes kind count offset a b c = both_bytes (two kind) (two count ++ four offset) (two_bytes kind a)
     (both_bytes (two count) (four offset) (two_bytes count b) (four_bytes offset c))
 
-pub book-bytes : (tasks locks uses events : List ℕ) → Fit tasks locks uses events → Bytes (bookOf tasks locks uses events)
-unfolding bookOf
-book-bytes tasks locks uses events f =
-    let locksAt : ℕ = contents + length (word_bytes tasks) in
-    let usesAt : ℕ = locksAt + length (longBytes locks) in
-    let eventsAt : ℕ = usesAt + length (word_bytes uses) in
-    let near : locksAt < 2 ^ 32 = omega (arith, word_size tasks, f.taskCount) in
-    let further : usesAt < 2 ^ 32 = omega (arith, word_size tasks, long-size locks, f.taskCount, f.lockCount) in
-    let far : eventsAt < 2 ^ 32 = omega (arith, word_size tasks, long-size locks, word_size uses, f.taskCount, f.lockCount, f.useCount) in
+pub book_bytes : (tasks locks uses events : List ℕ) → Fit tasks locks uses events → Bytes (book_of tasks locks uses events)
+unfolding book_of
+book_bytes tasks locks uses events f =
+    let locks_at : ℕ = contents + length (word_bytes tasks) in
+    let uses_at : ℕ = locks_at + length (long_bytes locks) in
+    let events_at : ℕ = uses_at + length (word_bytes uses) in
+    let near : locks_at < 2 ^ 32 = omega (arith, word_size tasks, f.task_count) in
+    let further : uses_at < 2 ^ 32 = omega (arith, word_size tasks, long_size locks, f.task_count, f.lock_count) in
+    let far : events_at < 2 ^ 32 = omega (arith, word_size tasks, long_size locks, word_size uses, f.task_count, f.lock_count, f.use_count) in
     let first : List ℕ = entry_of 1 (length tasks) contents in
-    let second : List ℕ = entry_of 2 (length locks) locksAt in
-    let third : List ℕ = entry_of 3 (length uses) usesAt in
-    let fourth : List ℕ = entry_of 4 (length events) eventsAt in
-    both_bytes (contentsOf tasks locks uses events) (bodiesOf tasks locks uses events)
-    (both_bytes first (second ++ (third ++ fourth)) (entry-bytes 1 (length tasks) contents (omega arith) f.taskCount (omega arith))
-    (both_bytes second (third ++ fourth) (entry-bytes 2 (length locks) locksAt (omega arith) f.lockCount near)
-    (both_bytes third fourth (entry-bytes 3 (length uses) usesAt (omega arith) f.useCount further)
-    (entry-bytes 4 (length events) eventsAt (omega arith) f.eventCount far))))
-    (both_bytes (word_bytes tasks) (longBytes locks ++ (word_bytes uses ++ longBytes events)) (word-bytes tasks f.taskNumbers)
-    (both_bytes (longBytes locks) (word_bytes uses ++ longBytes events) (long-bytes locks f.lockNumbers)
-    (both_bytes (word_bytes uses) (longBytes events) (word-bytes uses f.useNumbers) (long-bytes events f.eventNumbers))))
+    let second : List ℕ = entry_of 2 (length locks) locks_at in
+    let third : List ℕ = entry_of 3 (length uses) uses_at in
+    let fourth : List ℕ = entry_of 4 (length events) events_at in
+    both_bytes (contents_of tasks locks uses events) (bodies_of tasks locks uses events)
+    (both_bytes first (second ++ (third ++ fourth)) (entry_bytes 1 (length tasks) contents (omega arith) f.task_count (omega arith))
+    (both_bytes second (third ++ fourth) (entry_bytes 2 (length locks) locks_at (omega arith) f.lock_count near)
+    (both_bytes third fourth (entry_bytes 3 (length uses) uses_at (omega arith) f.use_count further)
+    (entry_bytes 4 (length events) events_at (omega arith) f.event_count far))))
+    (both_bytes (word_bytes tasks) (long_bytes locks ++ (word_bytes uses ++ long_bytes events)) (word_bytes_lem tasks f.task_numbers)
+    (both_bytes (long_bytes locks) (word_bytes uses ++ long_bytes events) (long_bytes_lem locks f.lock_numbers)
+    (both_bytes (word_bytes uses) (long_bytes events) (word_bytes_lem uses f.use_numbers) (long_bytes_lem events f.event_numbers))))
 
 -- ---- numbers that are read from bytes
 
@@ -69,17 +69,17 @@ module _ (b : List ℕ) (bytes : Bytes b) where
   pub word_fits : (p : ℕ) → word b p < 2 ^ 16
   word_fits p = omega (arith, bytes p, bytes (p + 1))
 
-  long-fits : (p : ℕ) → long b p < 2 ^ 32
-  long-fits p = omega (arith, word_fits p, word_fits (p + 2))
+  long_fits : (p : ℕ) → long b p < 2 ^ 32
+  long_fits p = omega (arith, word_fits p, word_fits (p + 2))
 
-  pub words-fit : (p n k i : ℕ) → at (from (λ j. word b (p + j * 2)) k n) i < 2 ^ 16
+  pub words_fit : (p n k i : ℕ) → at (from (λ j. word b (p + j * 2)) k n) i < 2 ^ 16
   unfolding from
-  words-fit p zero k i = omega arith
-  words-fit p (suc n) k zero = word_fits (p + k * 2)
-  words-fit p (suc n) k (suc i) = words-fit p n (suc k) i
+  words_fit p zero k i = omega arith
+  words_fit p (suc n) k zero = word_fits (p + k * 2)
+  words_fit p (suc n) k (suc i) = words_fit p n (suc k) i
 
-  pub longs-fit : (p n k i : ℕ) → at (from (λ j. long b (p + j * 4)) k n) i < 2 ^ 32
+  pub longs_fit : (p n k i : ℕ) → at (from (λ j. long b (p + j * 4)) k n) i < 2 ^ 32
   unfolding from
-  longs-fit p zero k i = omega arith
-  longs-fit p (suc n) k zero = long-fits (p + k * 4)
-  longs-fit p (suc n) k (suc i) = longs-fit p n (suc k) i
+  longs_fit p zero k i = omega arith
+  longs_fit p (suc n) k zero = long_fits (p + k * 4)
+  longs_fit p (suc n) k (suc i) = longs_fit p n (suc k) i

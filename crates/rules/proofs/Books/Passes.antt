@@ -7,61 +7,61 @@ use Prim.Native.Nat.{ℕ, zero, suc, ◌<◌}
 use native.Mathlib.Omega.{arith}
 use lib.ListN.{length}
 use Rattle.rules.specs.Numbers.Choice.{if◌then◌else◌}
-use Rattle.rules.specs.Numbers.Refusal.{number_of, firstFault, checkFor}
-use Rattle.rules.specs.Numbers.Answer.{verdictNumber}
-use Rattle.rules.specs.Books.Plan.{Obeys, countFault}
-use Rattle.rules.specs.Books.Load.{countFaultOf, recordChecks, loadChecks}
-use Rattle.rules.specs.Books.Book.{countAt, tasksOf, locksOf, usesOf, planIn, contentsChecks, eventChecks, checkOf, checkedAs}
-use Rattle.rules.specs.Demands.Demand1.{bookChecks}
+use Rattle.rules.specs.Numbers.Refusal.{number_of, first_fault, check_for}
+use Rattle.rules.specs.Numbers.Answer.{verdict_number}
+use Rattle.rules.specs.Books.Plan.{Obeys, count_fault}
+use Rattle.rules.specs.Books.Load.{count_fault_of, record_checks, load_checks}
+use Rattle.rules.specs.Books.Book.{count_at, tasks_of, locks_of, uses_of, plan_in, contents_checks, event_checks, check_of, checked_as}
+use Rattle.rules.specs.Demands.Demand1.{book_checks}
 use Rattle.rules.specs.declared.refusal.Refusal.TheVariants.{WrongCount}
 use Rattle.rules.specs.declared.answer.Verdict.{Verdict}
 use Rattle.rules.proofs.Numbers.Place.{length_from}
 use Rattle.rules.proofs.Numbers.Order.{among, once}
-use Rattle.rules.proofs.Numbers.Checks.{ofCheck, clean-for, passed-both, spare-check, none-refused-at}
-use Rattle.rules.proofs.Books.Loaded.{loaded-obeys}
+use Rattle.rules.proofs.Numbers.Checks.{of_check, clean_for, passed_both, spare_check, none_refused_at}
+use Rattle.rules.proofs.Books.Loaded.{loaded_obeys}
 
 -- the verdict that a check of a book holds
-pub verdict-held : (v : Verdict) (b : List ℕ) → (checkedAs v b).verdict ≡ v
-unfolding checkedAs
-verdict-held Verdict.Passed b = refl
-verdict-held (Verdict.Refused why place) b = refl
+pub verdict_held : (v : Verdict) (b : List ℕ) → (checked_as v b).verdict ≡ v
+unfolding checked_as
+verdict_held Verdict.Passed b = refl
+verdict_held (Verdict.Refused why place) b = refl
 
 module _ (b : List ℕ) where
-  pub counts-clean : firstFault (contentsChecks b) ≡ Verdict.Passed → (e : ℕ) → e < 3
-      → countFaultOf (length (tasksOf b)) (length (locksOf b)) (length (usesOf b)) e ≡ false
-  unfolding contentsChecks checkFor number_of countFaultOf if◌then◌else◌
-  counts-clean passed zero h = ap (countFault 0) (length_from _ 0 (countAt b 0)) ∙ clean-for (contentsChecks b) passed WrongCount 0 (omega arith)
-  counts-clean passed (suc zero) h = ap (countFault 1) (length_from _ 0 (countAt b 1)) ∙ clean-for (contentsChecks b) passed WrongCount 1 (omega arith)
-  counts-clean passed (suc (suc zero)) h = ap (countFault 2) (length_from _ 0 (countAt b 2)) ∙ clean-for (contentsChecks b) passed WrongCount 2 (omega arith)
-  counts-clean passed (suc (suc (suc e))) h = absurd (omega arith)
+  pub counts_clean : first_fault (contents_checks b) ≡ Verdict.Passed → (e : ℕ) → e < 3
+      → count_fault_of (length (tasks_of b)) (length (locks_of b)) (length (uses_of b)) e ≡ false
+  unfolding contents_checks check_for number_of count_fault_of if◌then◌else◌
+  counts_clean passed zero h = ap (count_fault 0) (length_from _ 0 (count_at b 0)) ∙ clean_for (contents_checks b) passed WrongCount 0 (omega arith)
+  counts_clean passed (suc zero) h = ap (count_fault 1) (length_from _ 0 (count_at b 1)) ∙ clean_for (contents_checks b) passed WrongCount 1 (omega arith)
+  counts_clean passed (suc (suc zero)) h = ap (count_fault 2) (length_from _ 0 (count_at b 2)) ∙ clean_for (contents_checks b) passed WrongCount 2 (omega arith)
+  counts_clean passed (suc (suc (suc e))) h = absurd (omega arith)
 
   module _ (room : ℕ) where
     -- the records' own check of the counts finds nothing that the contents' check does not
-    pub check-is : checkOf b room ≡ firstFault (bookChecks b room)
-    unfolding checkOf loadChecks recordChecks
-    check-is = spare-check (contentsChecks b) _ _ counts-clean
+    pub check_is : check_of b room ≡ first_fault (book_checks b room)
+    unfolding check_of load_checks record_checks
+    check_is = spare_check (contents_checks b) _ _ counts_clean
 
-    pub checks-once : once ofCheck (bookChecks b room) ≡ true
-    unfolding contentsChecks loadChecks recordChecks eventChecks among once number_of
-    checks-once = refl
+    pub checks_once : once of_check (book_checks b room) ≡ true
+    unfolding contents_checks load_checks record_checks event_checks among once number_of
+    checks_once = refl
 
-    pub check-passes : verdictNumber (checkOf b room) ≡ 0 → checkOf b room ≡ Verdict.Passed
-    check-passes = none-refused-at (checkOf b room)
+    pub check_passes : verdict_number (check_of b room) ≡ 0 → check_of b room ≡ Verdict.Passed
+    check_passes = none_refused_at (check_of b room)
 
-    module _ (passed : checkOf b room ≡ Verdict.Passed) where
-      pub passed-contents : firstFault (contentsChecks b) ≡ Verdict.Passed
-      unfolding checkOf
-      passed-contents = (passed-both (contentsChecks b) _ passed).0
+    module _ (passed : check_of b room ≡ Verdict.Passed) where
+      pub passed_contents : first_fault (contents_checks b) ≡ Verdict.Passed
+      unfolding check_of
+      passed_contents = (passed_both (contents_checks b) _ passed).0
 
-      passed-rest : (firstFault (loadChecks (tasksOf b) (locksOf b) (usesOf b)) ≡ Verdict.Passed) × (firstFault (eventChecks b room) ≡ Verdict.Passed)
-      unfolding checkOf
-      passed-rest = passed-both (loadChecks (tasksOf b) (locksOf b) (usesOf b)) (eventChecks b room) (passed-both (contentsChecks b) _ passed).1
+      passed_rest : (first_fault (load_checks (tasks_of b) (locks_of b) (uses_of b)) ≡ Verdict.Passed) × (first_fault (event_checks b room) ≡ Verdict.Passed)
+      unfolding check_of
+      passed_rest = passed_both (load_checks (tasks_of b) (locks_of b) (uses_of b)) (event_checks b room) (passed_both (contents_checks b) _ passed).1
 
-      pub passed-loads : firstFault (loadChecks (tasksOf b) (locksOf b) (usesOf b)) ≡ Verdict.Passed
-      passed-loads = passed-rest.0
+      pub passed_loads : first_fault (load_checks (tasks_of b) (locks_of b) (uses_of b)) ≡ Verdict.Passed
+      passed_loads = passed_rest.0
 
-      pub passed-obeys : Obeys (planIn b)
-      passed-obeys = loaded-obeys (tasksOf b) (locksOf b) (usesOf b) passed-loads
+      pub passed_obeys : Obeys (plan_in b)
+      passed_obeys = loaded_obeys (tasks_of b) (locks_of b) (uses_of b) passed_loads
 
-      pub passed-events : firstFault (eventChecks b room) ≡ Verdict.Passed
-      passed-events = passed-rest.1
+      pub passed_events : first_fault (event_checks b room) ≡ Verdict.Passed
+      passed_events = passed_rest.1

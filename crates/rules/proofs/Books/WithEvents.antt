@@ -8,128 +8,128 @@ use native.Mathlib.Nat.{le_of_suc-le-suc, not-suc-le-zero, zero-lt-suc}
 use native.Mathlib.Omega.{arith}
 use lib.ListN.{length, length-map}
 use borrow.Author.Tests.{le-ltb}
-use Rattle.rules.specs.Numbers.Capacity.{maxEvents}
+use Rattle.rules.specs.Numbers.Capacity.{max_events}
 use Rattle.rules.specs.Numbers.Choice.{if◌then◌else◌}
 use Rattle.rules.specs.Numbers.Place.{at}
-use Rattle.rules.specs.Numbers.Refusal.{firstFault}
-use Rattle.rules.specs.Books.Event.{kind_of, id_of, amountOf, eventFault, eventOf}
-use Rattle.rules.specs.Books.Event.{recordKind, recordId, recordAmount, numberFault, numberEvent, eventNumber}
-use Rattle.rules.specs.Books.Plan.{most, countFault}
-use Rattle.rules.specs.Books.Load.{countFaultOf, loadChecks}
-use Rattle.rules.specs.Books.Book.{word, long, countAt, body_at, tasksOf, locksOf, usesOf, planIn, eventsOf, checkOf}
-use Rattle.rules.specs.Books.Bytes.{bookOf, Bytes}
-use Rattle.rules.specs.Books.Write.{countsOf, wholeChecks}
-use Rattle.rules.specs.Demands.History.{eventAt}
+use Rattle.rules.specs.Numbers.Refusal.{first_fault}
+use Rattle.rules.specs.Books.Event.{kind_of, id_of, amount_of, event_fault, event_of}
+use Rattle.rules.specs.Books.Event.{record_kind, record_id, record_amount, number_fault, number_event, event_number}
+use Rattle.rules.specs.Books.Plan.{most, count_fault}
+use Rattle.rules.specs.Books.Load.{count_fault_of, load_checks}
+use Rattle.rules.specs.Books.Book.{word, long, count_at, body_at, tasks_of, locks_of, uses_of, plan_in, events_of, check_of}
+use Rattle.rules.specs.Books.Bytes.{book_of, Bytes}
+use Rattle.rules.specs.Books.Write.{counts_of, whole_checks}
+use Rattle.rules.specs.Demands.History.{event_at}
 use Rattle.rules.specs.declared.answer.Verdict.{Verdict}
 use Rattle.rules.specs.declared.event.Event.{Event}
 use Rattle.rules.specs.declared.event.Event.TheVariants.{Release, Acquire, Unlock, Work, Finish, Tick}
-use Rattle.rules.proofs.Numbers.Choice.{lt-or-le}
-use Rattle.rules.proofs.Numbers.Place.{length_from, none-past}
-use Rattle.rules.proofs.Numbers.Checks.{check-none, clean-passes, check-right}
-use Rattle.rules.proofs.Books.Passes.{counts-clean, passed-contents, passed-loads}
-use Rattle.rules.proofs.Books.ReadBack.{plan-back, events-back, check-back}
-use Rattle.rules.proofs.Books.OfBytes.{book-bytes, word_fits, words-fit, longs-fit}
+use Rattle.rules.proofs.Numbers.Choice.{lt_or_le}
+use Rattle.rules.proofs.Numbers.Place.{length_from, none_past}
+use Rattle.rules.proofs.Numbers.Checks.{check_none, clean_passes, check_right}
+use Rattle.rules.proofs.Books.Passes.{counts_clean, passed_contents, passed_loads}
+use Rattle.rules.proofs.Books.ReadBack.{plan_back, events_back_lem, check_back}
+use Rattle.rules.proofs.Books.OfBytes.{book_bytes, word_fits, words_fit, longs_fit}
 
 -- ---- the record of an event
 
 -- the event has a record: refusal 8 does not meet it, and its numbers fit
 pub record Recorded (e : Event) : Type 0 where
-  pub right : eventFault (kind_of e) (id_of e) (amountOf e) ≡ false
+  pub right : event_fault (kind_of e) (id_of e) (amount_of e) ≡ false
   pub id : id_of e < 256
-  pub amount : amountOf e < 65536
+  pub amount : amount_of e < 65536
 
-event-back : (e : Event) → eventOf (kind_of e) (id_of e) (amountOf e) ≡ e
-unfolding eventOf kind_of id_of amountOf if◌then◌else◌
-event-back (Release t) = refl
-event-back (Acquire l) = refl
-event-back (Unlock l) = refl
-event-back (Work a) = refl
-event-back Finish = refl
-event-back Tick = refl
+event_back : (e : Event) → event_of (kind_of e) (id_of e) (amount_of e) ≡ e
+unfolding event_of kind_of id_of amount_of if◌then◌else◌
+event_back (Release t) = refl
+event_back (Acquire l) = refl
+event_back (Unlock l) = refl
+event_back (Work a) = refl
+event_back Finish = refl
+event_back Tick = refl
 
-kind-byte : (e : Event) → kind_of e < 256
+kind_byte : (e : Event) → kind_of e < 256
 unfolding kind_of
-kind-byte (Release t) = omega arith
-kind-byte (Acquire l) = omega arith
-kind-byte (Unlock l) = omega arith
-kind-byte (Work a) = omega arith
-kind-byte Finish = omega arith
-kind-byte Tick = omega arith
+kind_byte (Release t) = omega arith
+kind_byte (Acquire l) = omega arith
+kind_byte (Unlock l) = omega arith
+kind_byte (Work a) = omega arith
+kind_byte Finish = omega arith
+kind_byte Tick = omega arith
 
 module _ (e : Event) (R : Recorded e) where
   -- the parts of its number are its own
-  parts : (recordKind (eventNumber e) ≡ kind_of e) × (recordId (eventNumber e) ≡ id_of e) × (recordAmount (eventNumber e) ≡ amountOf e)
+  parts : (record_kind (event_number e) ≡ kind_of e) × (record_id (event_number e) ≡ id_of e) × (record_amount (event_number e) ≡ amount_of e)
   parts =
-      let upper : eventNumber e / 256 ≡ id_of e + amountOf e * 256 = omega (arith, kind-byte e) in
-      (omega (arith, kind-byte e), omega (arith, R.id, upper), omega (arith, kind-byte e, R.id))
+      let upper : event_number e / 256 ≡ id_of e + amount_of e * 256 = omega (arith, kind_byte e) in
+      (omega (arith, kind_byte e), omega (arith, R.id, upper), omega (arith, kind_byte e, R.id))
 
-  number-event : numberEvent (eventNumber e) ≡ e
-  unfolding numberEvent
-  number-event = let (k, i, a) = parts in rw (k, i, a) (event-back e)
+  number_event_lem : number_event (event_number e) ≡ e
+  unfolding number_event
+  number_event_lem = let (k, i, a) = parts in rw (k, i, a) (event_back e)
 
-  number-clean : numberFault (eventNumber e) ≡ false
-  unfolding numberFault
-  number-clean = let (k, i, a) = parts in rw (k, i, a) R.right
+  number_clean : number_fault (event_number e) ≡ false
+  unfolding number_fault
+  number_clean = let (k, i, a) = parts in rw (k, i, a) R.right
 
-  number_fits : eventNumber e < 2 ^ 32
-  number_fits = omega (arith, kind-byte e, R.id, R.amount)
+  number_fits : event_number e < 2 ^ 32
+  number_fits = omega (arith, kind_byte e, R.id, R.amount)
 
 -- the numbers of a list of events
-number_at : (es : List Event) (k : ℕ) → k < length es → at (map eventNumber es) k ≡ eventNumber (eventAt es k)
+number_at : (es : List Event) (k : ℕ) → k < length es → at (map event_number es) k ≡ event_number (event_at es k)
 number_at [] k h = absurd (not-suc-le-zero h)
 number_at (e ∷ es) zero h = refl
 number_at (e ∷ es) (suc k) h = number_at es k (le_of_suc-le-suc h)
 
-numbers-events : (es : List Event) → ((k : ℕ) → k < length es → Recorded (eventAt es k)) → map numberEvent (map eventNumber es) ≡ es
-numbers-events [] R = refl
-numbers-events (e ∷ es) R = ap₂ ◌∷◌ (number-event e (R 0 (zero-lt-suc (length es)))) (numbers-events es (λ k h. R (suc k) (omega (arith, h))))
+numbers_events : (es : List Event) → ((k : ℕ) → k < length es → Recorded (event_at es k)) → map number_event (map event_number es) ≡ es
+numbers_events [] R = refl
+numbers_events (e ∷ es) R = ap₂ ◌∷◌ (number_event_lem e (R 0 (zero-lt-suc (length es)))) (numbers_events es (λ k h. R (suc k) (omega (arith, h))))
 
 -- ---- the book
 
-abbrev pub withEvents : List ℕ → List Event → List ℕ
-withEvents b es = bookOf (tasksOf b) (locksOf b) (usesOf b) (map eventNumber es)
+abbrev pub with_events : List ℕ → List Event → List ℕ
+with_events b es = book_of (tasks_of b) (locks_of b) (uses_of b) (map event_number es)
 
-pub plan-same : (b : List ℕ) (es : List Event) → planIn (withEvents b es) ≡ planIn b
-plan-same b es = plan-back (tasksOf b) (locksOf b) (usesOf b) (map eventNumber es)
+pub plan_same : (b : List ℕ) (es : List Event) → plan_in (with_events b es) ≡ plan_in b
+plan_same b es = plan_back (tasks_of b) (locks_of b) (uses_of b) (map event_number es)
 
-module _ (b : List ℕ) (es : List Event) (R : (k : ℕ) → k < length es → Recorded (eventAt es k)) where
-  pub events-same : eventsOf (withEvents b es) ≡ es
-  events-same = events-back (tasksOf b) (locksOf b) (usesOf b) (map eventNumber es) ∙ numbers-events es R
+module _ (b : List ℕ) (es : List Event) (R : (k : ℕ) → k < length es → Recorded (event_at es k)) where
+  pub events_same : events_of (with_events b es) ≡ es
+  events_same = events_back_lem (tasks_of b) (locks_of b) (uses_of b) (map event_number es) ∙ numbers_events es R
 
-  module _ (room : ℕ) (passed : checkOf b room ≡ Verdict.Passed) (few : length es ≤ maxEvents) where
-    counts : (e : ℕ) → e < 4 → countFault e (countsOf (tasksOf b) (locksOf b) (usesOf b) (map eventNumber es) e) ≡ false
-    unfolding countFaultOf countFault most if◌then◌else◌
-    counts zero h = counts-clean b (passed-contents b room passed) 0 (omega arith)
-    counts (suc zero) h = counts-clean b (passed-contents b room passed) 1 (omega arith)
-    counts (suc (suc zero)) h = counts-clean b (passed-contents b room passed) 2 (omega arith)
-    counts (suc (suc (suc zero))) h = le-ltb maxEvents (length (map eventNumber es)) (omega (arith, few, length-map es eventNumber))
+  module _ (room : ℕ) (passed : check_of b room ≡ Verdict.Passed) (few : length es ≤ max_events) where
+    counts : (e : ℕ) → e < 4 → count_fault e (counts_of (tasks_of b) (locks_of b) (uses_of b) (map event_number es) e) ≡ false
+    unfolding count_fault_of count_fault most if◌then◌else◌
+    counts zero h = counts_clean b (passed_contents b room passed) 0 (omega arith)
+    counts (suc zero) h = counts_clean b (passed_contents b room passed) 1 (omega arith)
+    counts (suc (suc zero)) h = counts_clean b (passed_contents b room passed) 2 (omega arith)
+    counts (suc (suc (suc zero))) h = le-ltb max_events (length (map event_number es)) (omega (arith, few, length-map es event_number))
     counts (suc (suc (suc (suc e)))) h = absurd (omega arith)
 
     -- it is accepted, with row space for these events
-    pub accepted-with : (space : ℕ) → length es * 4 ≤ space → checkOf (withEvents b es) space ≡ Verdict.Passed
-    unfolding wholeChecks
-    accepted-with space fits =
-        check-back (tasksOf b) (locksOf b) (usesOf b) (map eventNumber es) space
-        ∙ clean-passes _ _ counts
-        ∙ ap firstFault (append_assoc (loadChecks (tasksOf b) (locksOf b) (usesOf b)) _ _)
-        ∙ check-right (loadChecks (tasksOf b) (locksOf b) (usesOf b)) _ (passed-loads b room passed)
-        ∙ clean-passes _ _ (λ k h. let q : k < length es = omega (arith, h, length-map es eventNumber) in
-        ap numberFault (number_at es k q) ∙ number-clean (eventAt es k) (R k q))
-        ∙ clean-passes _ _ (λ i h. le-ltb space (length (map eventNumber es) * 4) (omega (arith, fits, length-map es eventNumber)))
-        ∙ check-none
+    pub accepted_with_lem : (space : ℕ) → length es * 4 ≤ space → check_of (with_events b es) space ≡ Verdict.Passed
+    unfolding whole_checks
+    accepted_with_lem space fits =
+        check_back (tasks_of b) (locks_of b) (uses_of b) (map event_number es) space
+        ∙ clean_passes _ _ counts
+        ∙ ap first_fault (append_assoc (load_checks (tasks_of b) (locks_of b) (uses_of b)) _ _)
+        ∙ check_right (load_checks (tasks_of b) (locks_of b) (uses_of b)) _ (passed_loads b room passed)
+        ∙ clean_passes _ _ (λ k h. let q : k < length es = omega (arith, h, length-map es event_number) in
+        ap number_fault (number_at es k q) ∙ number_clean (event_at es k) (R k q))
+        ∙ clean_passes _ _ (λ i h. le-ltb space (length (map event_number es) * 4) (omega (arith, fits, length-map es event_number)))
+        ∙ check_none
 
     -- and of bytes where b is
-    pub bytes-with : Bytes b → Bytes (withEvents b es)
-    bytes-with old = book-bytes (tasksOf b) (locksOf b) (usesOf b) (map eventNumber es) (record {
-      taskNumbers = words-fit b old (body_at b 0) (countAt b 0) 0;
-      lockNumbers = longs-fit b old (body_at b 1) (countAt b 1) 0;
-      useNumbers = words-fit b old (body_at b 2) (countAt b 2) 0;
-      eventNumbers = λ i. ⊎_elim
-          (λ (h : i < length es). rw (number_at es i h) (number_fits (eventAt es i) (R i h)))
-          (λ (h : length es ≤ i). omega (arith, none-past (map eventNumber es) (length es) i (length-map es eventNumber) h))
-          (lt-or-le i (length es));
-      taskCount = omega (arith, length_from (λ i. word b (body_at b 0 + i * 2)) 0 (countAt b 0), word_fits b old 2);
-      lockCount = omega (arith, length_from (λ i. long b (body_at b 1 + i * 4)) 0 (countAt b 1), word_fits b old 10);
-      useCount = omega (arith, length_from (λ i. word b (body_at b 2 + i * 2)) 0 (countAt b 2), word_fits b old 18);
-      eventCount = omega (arith, few, length-map es eventNumber);
+    pub bytes_with : Bytes b → Bytes (with_events b es)
+    bytes_with old = book_bytes (tasks_of b) (locks_of b) (uses_of b) (map event_number es) (record {
+      task_numbers = words_fit b old (body_at b 0) (count_at b 0) 0;
+      lock_numbers = longs_fit b old (body_at b 1) (count_at b 1) 0;
+      use_numbers = words_fit b old (body_at b 2) (count_at b 2) 0;
+      event_numbers = λ i. ⊎_elim
+          (λ (h : i < length es). rw (number_at es i h) (number_fits (event_at es i) (R i h)))
+          (λ (h : length es ≤ i). omega (arith, none_past (map event_number es) (length es) i (length-map es event_number) h))
+          (lt_or_le i (length es));
+      task_count = omega (arith, length_from (λ i. word b (body_at b 0 + i * 2)) 0 (count_at b 0), word_fits b old 2);
+      lock_count = omega (arith, length_from (λ i. long b (body_at b 1 + i * 4)) 0 (count_at b 1), word_fits b old 10);
+      use_count = omega (arith, length_from (λ i. word b (body_at b 2 + i * 2)) 0 (count_at b 2), word_fits b old 18);
+      event_count = omega (arith, few, length-map es event_number);
     })

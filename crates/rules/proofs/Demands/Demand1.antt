@@ -6,19 +6,19 @@ use Prim.Native.Nat.{ℕ, zero, suc, ◌<◌}
 use native.Mathlib.Omega.{arith}
 use lib.ListN.{length}
 use Rattle.rules.specs.Numbers.Choice.{if◌then◌else◌}
-use Rattle.rules.specs.Numbers.Refusal.{number_of, firstTrue, Check, firstFault, checkFor}
-use Rattle.rules.specs.Numbers.Answer.{testedNumber, answerNumber, answerCalls, verdictNumber}
-use Rattle.rules.specs.Books.Load.{countFaultOf, recordChecks, loadChecks, plan_of, loadedAs, load_of}
-use Rattle.rules.specs.Books.Book.{countCheck, planIn, eventsOf, checkOf, checkedAs, checkedOf}
-use Rattle.rules.specs.Books.Bytes.{bookOf}
-use Rattle.rules.specs.Books.Write.{countsOf, wholeChecks, writeChecks, wroteAs, writeOf}
-use Rattle.rules.specs.Schedulers.EventRefusals.{testsOf, releaseOrder, acquireOrder, unlockOrder, workOrder, finishOrder, refusalOf}
-use Rattle.rules.specs.Schedulers.Lazy.{words_of, lazyCall}
-use Rattle.rules.specs.Soundness.SoundTest.{soundTest}
-use Rattle.rules.specs.Replays.Step.{after_of, answered, actOf, step_of}
-use Rattle.rules.specs.Replays.Replay.{replayAs, replayOf}
-use Rattle.rules.specs.Demands.Demand1.{stepTests, StepRefuses, Judged, LoadRefuses, bookChecks, BookRefuses, Untouched, ReplayRefuses}
-use Rattle.rules.specs.Demands.Demand1.{writerChecks, WriteRefuses, Demand1}
+use Rattle.rules.specs.Numbers.Refusal.{number_of, first_true, Check, first_fault, check_for}
+use Rattle.rules.specs.Numbers.Answer.{tested_number, answer_number, answer_calls, verdict_number}
+use Rattle.rules.specs.Books.Load.{count_fault_of, record_checks, load_checks, plan_of, loaded_as, load_of}
+use Rattle.rules.specs.Books.Book.{count_check, plan_in, events_of, check_of, checked_as, checked_of}
+use Rattle.rules.specs.Books.Bytes.{book_of}
+use Rattle.rules.specs.Books.Write.{counts_of, whole_checks, write_checks, wrote_as, write_of}
+use Rattle.rules.specs.Schedulers.EventRefusals.{tests_of, release_order, acquire_order, unlock_order, work_order, finish_order, refusal_of}
+use Rattle.rules.specs.Schedulers.Lazy.{words_of, lazy_call}
+use Rattle.rules.specs.Soundness.SoundTest.{sound_test}
+use Rattle.rules.specs.Replays.Step.{after_of, answered, act_of, step_of}
+use Rattle.rules.specs.Replays.Replay.{replay_as, replay_of}
+use Rattle.rules.specs.Demands.Demand1.{step_tests, StepRefuses, Judged, LoadRefuses, book_checks, BookRefuses, Untouched, ReplayRefuses}
+use Rattle.rules.specs.Demands.Demand1.{writer_checks, WriteRefuses, Demand1}
 use Rattle.rules.specs.declared.plan.Plan.{Plan}
 use Rattle.rules.specs.declared.protocol.Protocol.{Protocol}
 use Rattle.rules.specs.declared.state.State.{State}
@@ -28,98 +28,98 @@ use Rattle.rules.specs.declared.answer.Tested.{Tested}
 use Rattle.rules.specs.declared.answer.Verdict.{Verdict}
 use Rattle.rules.specs.declared.event.Event.{Event}
 use Rattle.rules.specs.declared.event.Event.TheVariants.{Release, Acquire, Unlock, Work, Finish, Tick}
-use Rattle.rules.proofs.Numbers.Choice.{by-test}
-use Rattle.rules.proofs.Numbers.Order.{among, once, of_test, given-exactly, number-given, none-refused}
+use Rattle.rules.proofs.Numbers.Choice.{by_test}
+use Rattle.rules.proofs.Numbers.Order.{among, once, of_test, given_exactly, number_given, none_refused}
 use Rattle.rules.proofs.Numbers.Refusals.{numbered}
-use Rattle.rules.proofs.Numbers.Checks.{ofCheck, refused-not, clean-for, spare-check, given-at-exactly, number-given-at, none-refused-at}
-use Rattle.rules.proofs.Books.Loaded.{loaded-obeys}
+use Rattle.rules.proofs.Numbers.Checks.{of_check, refused_not, clean_for, spare_check, given_at_exactly, number_given_at, none_refused_at}
+use Rattle.rules.proofs.Books.Loaded.{loaded_obeys}
 use Rattle.rules.proofs.Books.Obeyed.{seven}
-use Rattle.rules.proofs.Books.Passes.{check-is, checks-once, passed-obeys}
-use Rattle.rules.proofs.Replays.OneStep.{answered-number}
+use Rattle.rules.proofs.Books.Passes.{check_is, checks_once, passed_obeys}
+use Rattle.rules.proofs.Replays.OneStep.{answered_number}
 
 -- ---- 10 to 22, of an event
 
 -- what the tests come to, where they refuse
 module _ (s after : State) (call : Bool) where
-  same-state : (t : Tested) → 0 < testedNumber t → (answered t s after call).state ≡ s
-  unfolding answered testedNumber
-  same-state Tested.Passed h = absurd (omega arith)
-  same-state (Tested.Refused why) h = refl
+  same_state : (t : Tested) → 0 < tested_number t → (answered t s after call).state ≡ s
+  unfolding answered tested_number
+  same_state Tested.Passed h = absurd (omega arith)
+  same_state (Tested.Refused why) h = refl
 
-  no_call : (t : Tested) → 0 < testedNumber t → answerCalls (answered t s after call).answer ≡ 0
-  unfolding answered testedNumber answerCalls
+  no_call : (t : Tested) → 0 < tested_number t → answer_calls (answered t s after call).answer ≡ 0
+  unfolding answered tested_number answer_calls
   no_call Tested.Passed h = absurd (omega arith)
   no_call (Tested.Refused why) h = refl
 
 module _ (pr : Protocol) (p : Plan) (s : State) where
-  tests-once : (e : Event) → once of_test (stepTests pr p s e) ≡ true
-  unfolding testsOf releaseOrder acquireOrder unlockOrder workOrder finishOrder among once number_of
-  tests-once (Release t) = refl
-  tests-once (Acquire l) = refl
-  tests-once (Unlock l) = refl
-  tests-once (Work a) = refl
-  tests-once Finish = refl
-  tests-once Tick = refl
+  tests_once : (e : Event) → once of_test (step_tests pr p s e) ≡ true
+  unfolding tests_of release_order acquire_order unlock_order work_order finish_order among once number_of
+  tests_once (Release t) = refl
+  tests_once (Acquire l) = refl
+  tests_once (Unlock l) = refl
+  tests_once (Work a) = refl
+  tests_once Finish = refl
+  tests_once Tick = refl
 
   module _ (e : Event) where
     -- the step is answered by all tests in their order, 10 among them
     abbrev tested : Tested
-    tested = firstTrue (stepTests pr p s e)
+    tested = first_true (step_tests pr p s e)
 
-    step_is : step_of pr p s e ≡ answered tested s (after_of pr p s e) (lazyCall (words_of s) e)
-    unfolding step_of actOf answered refusalOf firstTrue if◌then◌else◌
-    step_is = by-test (soundTest pr p s) (λ q. rw q refl) (λ q. rw q refl)
+    step_is : step_of pr p s e ≡ answered tested s (after_of pr p s e) (lazy_call (words_of s) e)
+    unfolding step_of act_of answered refusal_of first_true if◌then◌else◌
+    step_is = by_test (sound_test pr p s) (λ q. rw q refl) (λ q. rw q refl)
 
-    step-number : answerNumber (step_of pr p s e).answer ≡ testedNumber tested
-    step-number = rw step_is (answered-number tested s (after_of pr p s e) (lazyCall (words_of s) e))
+    step_number : answer_number (step_of pr p s e).answer ≡ tested_number tested
+    step_number = rw step_is (answered_number tested s (after_of pr p s e) (lazy_call (words_of s) e))
 
-    step-refuses : StepRefuses pr p s e (step_of pr p s e)
-    unfolding testedNumber
-    step-refuses = record {
+    step_refuses : StepRefuses pr p s e (step_of pr p s e)
+    unfolding tested_number
+    step_refuses = record {
       exactly = λ why.
-          let given = number-given tested why in
-          let exact = given-exactly (stepTests pr p s e) (tests-once e) why in
-          (λ q. exact.0 (given.0 (sym step-number ∙ q)), λ q. step-number ∙ given.1 (exact.1 q));
-      accepts = (λ q. none-refused tested (sym step-number ∙ q), λ q. step-number ∙ ap testedNumber q);
-      same = λ h. rw step_is (same-state s (after_of pr p s e) (lazyCall (words_of s) e) tested (rw step-number at h));
-      quiet = λ h. rw step_is (no_call s (after_of pr p s e) (lazyCall (words_of s) e) tested (rw step-number at h));
+          let given = number_given tested why in
+          let exact = given_exactly (step_tests pr p s e) (tests_once e) why in
+          (λ q. exact.0 (given.0 (sym step_number ∙ q)), λ q. step_number ∙ given.1 (exact.1 q));
+      accepts = (λ q. none_refused tested (sym step_number ∙ q), λ q. step_number ∙ ap tested_number q);
+      same = λ h. rw step_is (same_state s (after_of pr p s e) (lazy_call (words_of s) e) tested (rw step_number at h));
+      quiet = λ h. rw step_is (no_call s (after_of pr p s e) (lazy_call (words_of s) e) tested (rw step_number at h));
     }
 
 -- ---- 1 to 9 and 24, of records and of books
 
-module _ (cs : List Check) (o : once ofCheck cs ≡ true) where
+module _ (cs : List Check) (o : once of_check cs ≡ true) where
   -- a verdict that refuses has an offender
-  offended : (v : Verdict) → firstFault cs ≡ v → ((why : Refusal) (place : ℕ) → firstFault cs ≡ Verdict.Refused why place → ⊥) → verdictNumber v ≡ 0
-  unfolding verdictNumber
+  offended : (v : Verdict) → first_fault cs ≡ v → ((why : Refusal) (place : ℕ) → first_fault cs ≡ Verdict.Refused why place → ⊥) → verdict_number v ≡ 0
+  unfolding verdict_number
   offended Verdict.Passed e f = refl
   offended (Verdict.Refused why place) e f = absurd (f why place e)
 
-  judged : Judged cs (firstFault cs)
+  judged : Judged cs (first_fault cs)
   judged = record {
     exactly = λ why place.
-        let given = number-given-at (firstFault cs) why place in
-        let exact = given-at-exactly cs o why place in
+        let given = number_given_at (first_fault cs) why place in
+        let exact = given_at_exactly cs o why place in
         (λ q. exact.0 (given.0 q), λ q. given.1 (exact.1 q));
     passes = (
       λ q why place F.
-          let G = (given-at-exactly cs o why place).1 F in
-          refused-not G.refusal place (sym G.given ∙ none-refused-at (firstFault cs) q),
-      λ f. offended (firstFault cs) refl (λ why place e. f why place ((given-at-exactly cs o why place).0 (record { refusal = why; given = e; number = refl }))),
+          let G = (given_at_exactly cs o why place).1 F in
+          refused_not G.refusal place (sym G.given ∙ none_refused_at (first_fault cs) q),
+      λ f. offended (first_fault cs) refl (λ why place e. f why place ((given_at_exactly cs o why place).0 (record { refusal = why; given = e; number = refl }))),
     );
   }
 
 module _ (tasks locks uses : List ℕ) where
-  load-once : once ofCheck (loadChecks tasks locks uses) ≡ true
-  unfolding loadChecks recordChecks among once number_of
-  load-once = refl
+  load_once : once of_check (load_checks tasks locks uses) ≡ true
+  unfolding load_checks record_checks among once number_of
+  load_once = refl
 
-  load-refuses : LoadRefuses tasks locks uses (load_of tasks locks uses)
-  unfolding load_of loadedAs verdictNumber
-  load-refuses = go (firstFault (loadChecks tasks locks uses)) refl (judged (loadChecks tasks locks uses) load-once)
+  load_refuses : LoadRefuses tasks locks uses (load_of tasks locks uses)
+  unfolding load_of loaded_as verdict_number
+  load_refuses = go (first_fault (load_checks tasks locks uses)) refl (judged (load_checks tasks locks uses) load_once)
     where
-      go : (v : Verdict) → firstFault (loadChecks tasks locks uses) ≡ v → Judged (loadChecks tasks locks uses) v
-          → LoadRefuses tasks locks uses (loadedAs v (plan_of tasks locks uses))
-      go Verdict.Passed e J = record { judged = J; obeys = λ _. loaded-obeys tasks locks uses e; blank = λ h. absurd (omega arith) }
+      go : (v : Verdict) → first_fault (load_checks tasks locks uses) ≡ v → Judged (load_checks tasks locks uses) v
+          → LoadRefuses tasks locks uses (loaded_as v (plan_of tasks locks uses))
+      go Verdict.Passed e J = record { judged = J; obeys = λ _. loaded_obeys tasks locks uses e; blank = λ h. absurd (omega arith) }
       go (Verdict.Refused why place) e J = record {
         judged = J;
         obeys = λ q. absurd (omega (arith, (numbered why).0, q));
@@ -127,23 +127,23 @@ module _ (tasks locks uses : List ℕ) where
       }
 
 module _ (b : List ℕ) (room : ℕ) where
-  book-refuses : BookRefuses b room (checkedOf b room)
-  unfolding checkedAs verdictNumber
-  book-refuses = go (checkOf b room) refl (rw (check-is b room) (judged (bookChecks b room) (checks-once b room)))
+  book_refuses : BookRefuses b room (checked_of b room)
+  unfolding checked_as verdict_number
+  book_refuses = go (check_of b room) refl (rw (check_is b room) (judged (book_checks b room) (checks_once b room)))
     where
-      go : (v : Verdict) → checkOf b room ≡ v → Judged (bookChecks b room) v → BookRefuses b room (checkedAs v b)
-      go Verdict.Passed e J = record { judged = J; obeys = λ _. passed-obeys b room e; blank = λ h. absurd (omega arith) }
+      go : (v : Verdict) → check_of b room ≡ v → Judged (book_checks b room) v → BookRefuses b room (checked_as v b)
+      go Verdict.Passed e J = record { judged = J; obeys = λ _. passed_obeys b room e; blank = λ h. absurd (omega arith) }
       go (Verdict.Refused why place) e J = record {
         judged = J;
         obeys = λ q. absurd (omega (arith, (numbered why).0, q));
         blank = λ _. refl;
       }
 
-replay-refuses : (pr : Protocol) (b rows : List ℕ) → ReplayRefuses b rows (replayOf pr b rows)
-unfolding replayOf replayAs verdictNumber
-replay-refuses pr b rows = go (checkOf b (length rows))
+replay_refuses : (pr : Protocol) (b rows : List ℕ) → ReplayRefuses b rows (replay_of pr b rows)
+unfolding replay_of replay_as verdict_number
+replay_refuses pr b rows = go (check_of b (length rows))
   where
-    go : (v : Verdict) → 0 < verdictNumber v → Untouched rows v (replayAs pr v (planIn b) (eventsOf b) rows)
+    go : (v : Verdict) → 0 < verdict_number v → Untouched rows v (replay_as pr v (plan_in b) (events_of b) rows)
     go Verdict.Passed h = absurd (omega arith)
     go (Verdict.Refused why place) h = record { number = refl; place = refl; state = refl; bytes = refl }
 
@@ -151,34 +151,34 @@ replay-refuses pr b rows = go (checkOf b (length rows))
 
 module _ (tasks locks uses events : List ℕ) where
   -- the plan's own check of the counts finds nothing that the check of all four does not
-  counts-spare : firstFault (countCheck (countsOf tasks locks uses events) ∷ []) ≡ Verdict.Passed → (e : ℕ) → e < 3
-      → countFaultOf (length tasks) (length locks) (length uses) e ≡ false
-  unfolding checkFor number_of countFaultOf if◌then◌else◌
-  counts-spare passed zero h = clean-for (countCheck (countsOf tasks locks uses events) ∷ []) passed WrongCount 0 (omega arith)
-  counts-spare passed (suc zero) h = clean-for (countCheck (countsOf tasks locks uses events) ∷ []) passed WrongCount 1 (omega arith)
-  counts-spare passed (suc (suc zero)) h = clean-for (countCheck (countsOf tasks locks uses events) ∷ []) passed WrongCount 2 (omega arith)
-  counts-spare passed (suc (suc (suc e))) h = absurd (omega arith)
+  counts_spare : first_fault (count_check (counts_of tasks locks uses events) ∷ []) ≡ Verdict.Passed → (e : ℕ) → e < 3
+      → count_fault_of (length tasks) (length locks) (length uses) e ≡ false
+  unfolding check_for number_of count_fault_of if◌then◌else◌
+  counts_spare passed zero h = clean_for (count_check (counts_of tasks locks uses events) ∷ []) passed WrongCount 0 (omega arith)
+  counts_spare passed (suc zero) h = clean_for (count_check (counts_of tasks locks uses events) ∷ []) passed WrongCount 1 (omega arith)
+  counts_spare passed (suc (suc zero)) h = clean_for (count_check (counts_of tasks locks uses events) ∷ []) passed WrongCount 2 (omega arith)
+  counts_spare passed (suc (suc (suc e))) h = absurd (omega arith)
 
-  write-is : (room : ℕ) → firstFault (writeChecks tasks locks uses events room) ≡ firstFault (writerChecks tasks locks uses events room)
-  unfolding writeChecks wholeChecks loadChecks recordChecks
-  write-is room = spare-check (countCheck (countsOf tasks locks uses events) ∷ []) _ _ counts-spare
+  write_is : (room : ℕ) → first_fault (write_checks tasks locks uses events room) ≡ first_fault (writer_checks tasks locks uses events room)
+  unfolding write_checks whole_checks load_checks record_checks
+  write_is room = spare_check (count_check (counts_of tasks locks uses events) ∷ []) _ _ counts_spare
 
-  writer-once : (room : ℕ) → once ofCheck (writerChecks tasks locks uses events room) ≡ true
-  unfolding writeChecks wholeChecks loadChecks recordChecks among once number_of
-  writer-once room = refl
+  writer_once : (room : ℕ) → once of_check (writer_checks tasks locks uses events room) ≡ true
+  unfolding write_checks whole_checks load_checks record_checks among once number_of
+  writer_once room = refl
 
-  write-refuses : (buffer : List ℕ) → WriteRefuses tasks locks uses events buffer (writeOf tasks locks uses events buffer)
-  unfolding writeOf wroteAs verdictNumber
-  write-refuses buffer = go (firstFault checks) (rw (write-is (length buffer)) (judged (writerChecks tasks locks uses events (length buffer))
-      (writer-once (length buffer))))
+  write_refuses : (buffer : List ℕ) → WriteRefuses tasks locks uses events buffer (write_of tasks locks uses events buffer)
+  unfolding write_of wrote_as verdict_number
+  write_refuses buffer = go (first_fault checks) (rw (write_is (length buffer)) (judged (writer_checks tasks locks uses events (length buffer))
+      (writer_once (length buffer))))
     where
       checks : List Check
-      checks = writeChecks tasks locks uses events (length buffer)
+      checks = write_checks tasks locks uses events (length buffer)
 
-      go : (v : Verdict) → Judged (writerChecks tasks locks uses events (length buffer)) v
-          → WriteRefuses tasks locks uses events buffer (wroteAs v (bookOf tasks locks uses events) buffer)
+      go : (v : Verdict) → Judged (writer_checks tasks locks uses events (length buffer)) v
+          → WriteRefuses tasks locks uses events buffer (wrote_as v (book_of tasks locks uses events) buffer)
       go Verdict.Passed J = record { judged = J; none = λ h. absurd (omega arith); bytes = λ h. absurd (omega arith) }
       go (Verdict.Refused why place) J = record { judged = J; none = λ _. refl; bytes = λ _. refl }
 
 pub demand1 : Demand1
-demand1 = record { step = step-refuses; seven = seven; load = load-refuses; check = book-refuses; replay = replay-refuses; write = write-refuses }
+demand1 = record { step = step_refuses; seven = seven; load = load_refuses; check = book_refuses; replay = replay_refuses; write = write_refuses }

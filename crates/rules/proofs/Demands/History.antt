@@ -4,85 +4,85 @@ use mathlib.Core.Bool.{true, false}
 use mathlib.Core.List.{List}
 use Prim.Native.Nat.{ℕ, zero, suc, ◌+◌, ◌<◌}
 use native.Mathlib.Omega.{arith}
-use Rattle.rules.specs.Numbers.Capacity.{maxAccepted}
+use Rattle.rules.specs.Numbers.Capacity.{max_accepted}
 use Rattle.rules.specs.Numbers.Choice.{if◌then◌else◌}
 use Rattle.rules.specs.Numbers.Place.{sum}
 use Rattle.rules.specs.Schedulers.Figures.{Figures}
-use Rattle.rules.specs.Schedulers.FiguresAfter.{eagerCalls, figuresAfter}
-use Rattle.rules.specs.Schedulers.Eager.{runningOf, settle, eagerTest, eagerStep}
+use Rattle.rules.specs.Schedulers.FiguresAfter.{eager_calls, figures_after}
+use Rattle.rules.specs.Schedulers.Eager.{running_of, settle, eager_test, eager_step}
 use Rattle.rules.specs.Numbers.Answer.{passes}
-use Rattle.rules.specs.Demands.History.{eventAt, eagerAt, runnerAt, acceptedAt, eagerCount}
+use Rattle.rules.specs.Demands.History.{event_at, eager_at, runner_at, accepted_at, eager_count}
 use Rattle.rules.specs.Demands.Job.{Accepted}
 use Rattle.rules.specs.declared.plan.Plan.{Plan}
 use Rattle.rules.specs.declared.answer.Tested.{Tested}
 use Rattle.rules.specs.declared.event.Event.{Event}
-use Rattle.rules.proofs.Numbers.Choice.{by-test, untrue}
-use Rattle.rules.proofs.Numbers.Order.{passes-so}
-use Rattle.rules.proofs.Schedulers.Passed.{Allowed, passed-room, allowed}
-use Rattle.rules.proofs.Schedulers.FiguresKept.{accepted-moved, calls_moved}
+use Rattle.rules.proofs.Numbers.Choice.{by_test, untrue}
+use Rattle.rules.proofs.Numbers.Order.{passes_so}
+use Rattle.rules.proofs.Schedulers.Passed.{Allowed, passed_room, allowed}
+use Rattle.rules.proofs.Schedulers.FiguresKept.{accepted_moved, calls_moved}
 
-step-passed : (p : Plan) (f : Figures) (e : Event) → eagerTest p f e ≡ Tested.Passed → eagerStep p f e ≡ figuresAfter p f (runningOf p f) e
-unfolding eagerStep settle
-step-passed p f e z = ap (λ t. settle t (figuresAfter p f (runningOf p f) e) f) z
+step_passed : (p : Plan) (f : Figures) (e : Event) → eager_test p f e ≡ Tested.Passed → eager_step p f e ≡ figures_after p f (running_of p f) e
+unfolding eager_step settle
+step_passed p f e z = ap (λ t. settle t (figures_after p f (running_of p f) e) f) z
 
-refused-still : (t : Tested) (g f : Figures) → passes t ≡ false → settle t g f ≡ f
+refused_still : (t : Tested) (g f : Figures) → passes t ≡ false → settle t g f ≡ f
 unfolding settle passes
-refused-still Tested.Passed g f h = untrue h
-refused-still (Tested.Refused why) g f h = refl
+refused_still Tested.Passed g f h = untrue h
+refused_still (Tested.Refused why) g f h = refl
 
-step-refused : (p : Plan) (f : Figures) (e : Event) → passes (eagerTest p f e) ≡ false → eagerStep p f e ≡ f
-unfolding eagerStep
-step-refused p f e h = refused-still (eagerTest p f e) (figuresAfter p f (runningOf p f) e) f h
+step_refused : (p : Plan) (f : Figures) (e : Event) → passes (eager_test p f e) ≡ false → eager_step p f e ≡ f
+unfolding eager_step
+step_refused p f e h = refused_still (eager_test p f e) (figures_after p f (running_of p f) e) f h
 
 -- what an event adds to the eager calls: those that it has, if it is accepted
-step-calls : (p : Plan) (f : Figures) (e : Event) (t : Tested)
-    → (settle t (figuresAfter p f (runningOf p f) e) f).eager
-    ≡ f.eager + (if passes t then eagerCalls p f (settle t (figuresAfter p f (runningOf p f) e) f) (runningOf p f) e else 0)
+step_calls : (p : Plan) (f : Figures) (e : Event) (t : Tested)
+    → (settle t (figures_after p f (running_of p f) e) f).eager
+    ≡ f.eager + (if passes t then eager_calls p f (settle t (figures_after p f (running_of p f) e) f) (running_of p f) e else 0)
 unfolding settle passes if◌then◌else◌
-step-calls p f e Tested.Passed = calls_moved p f (runningOf p f) e
-step-calls p f e (Tested.Refused why) = omega arith
+step_calls p f e Tested.Passed = calls_moved p f (running_of p f) e
+step_calls p f e (Tested.Refused why) = omega arith
 
 module _ (p : Plan) (es : List Event) where
-  pub passed_at : (k : ℕ) → acceptedAt p es k ≡ true → eagerTest p (eagerAt p es k) (eventAt es k) ≡ Tested.Passed
-  unfolding acceptedAt
-  passed_at k a = passes-so (eagerTest p (eagerAt p es k) (eventAt es k)) a
+  pub passed_at : (k : ℕ) → accepted_at p es k ≡ true → eager_test p (eager_at p es k) (event_at es k) ≡ Tested.Passed
+  unfolding accepted_at
+  passed_at k a = passes_so (eager_test p (eager_at p es k) (event_at es k)) a
 
   -- an event is accepted, or it changes nothing
-  pub each : (P : Figures → Type 0) (k : ℕ) → (acceptedAt p es k ≡ true → P (figuresAfter p (eagerAt p es k) (runnerAt p es k) (eventAt es k)))
-      → (acceptedAt p es k ≡ false → P (eagerAt p es k)) → P (eagerAt p es (suc k))
-  unfolding eagerAt acceptedAt
-  each P k yes' no' = by-test (acceptedAt p es k)
-      (λ a. subst P (sym (step-passed p (eagerAt p es k) (eventAt es k) (passed_at k a))) (yes' a))
-      (λ a. subst P (sym (step-refused p (eagerAt p es k) (eventAt es k) a)) (no' a))
+  pub each : (P : Figures → Type 0) (k : ℕ) → (accepted_at p es k ≡ true → P (figures_after p (eager_at p es k) (runner_at p es k) (event_at es k)))
+      → (accepted_at p es k ≡ false → P (eager_at p es k)) → P (eager_at p es (suc k))
+  unfolding eager_at accepted_at
+  each P k yes' no' = by_test (accepted_at p es k)
+      (λ a. subst P (sym (step_passed p (eager_at p es k) (event_at es k) (passed_at k a))) (yes' a))
+      (λ a. subst P (sym (step_refused p (eager_at p es k) (event_at es k) a)) (no' a))
 
-  pub room_at : (k : ℕ) → acceptedAt p es k ≡ true → (eagerAt p es k).accepted < maxAccepted
-  unfolding eagerTest
-  room_at k a = passed-room p (eagerAt p es k) (runnerAt p es k) (eventAt es k) (passed_at k a)
+  pub room_at : (k : ℕ) → accepted_at p es k ≡ true → (eager_at p es k).accepted < max_accepted
+  unfolding eager_test
+  room_at k a = passed_room p (eager_at p es k) (runner_at p es k) (event_at es k) (passed_at k a)
 
-  pub allowedAt : (k : ℕ) → acceptedAt p es k ≡ true → Allowed p (eagerAt p es k) (runnerAt p es k) (eventAt es k)
-  unfolding eagerTest
-  allowedAt k a = allowed p (eagerAt p es k) (runnerAt p es k) (eventAt es k) (passed_at k a)
+  pub allowed_at : (k : ℕ) → accepted_at p es k ≡ true → Allowed p (eager_at p es k) (runner_at p es k) (event_at es k)
+  unfolding eager_test
+  allowed_at k a = allowed p (eager_at p es k) (runner_at p es k) (event_at es k) (passed_at k a)
 
-  pub allowedFor : {k : ℕ} {e : Event} → Accepted p es k e → Allowed p (eagerAt p es k) (runnerAt p es k) e
-  allowedFor {k} {e} a = subst (Allowed p (eagerAt p es k) (runnerAt p es k)) a.event (allowedAt k a.accepted)
+  pub allowed_for : {k : ℕ} {e : Event} → Accepted p es k e → Allowed p (eager_at p es k) (runner_at p es k) e
+  allowed_for {k} {e} a = subst (Allowed p (eager_at p es k) (runner_at p es k)) a.event (allowed_at k a.accepted)
 
   -- after an accepted event
-  pub next : {k : ℕ} {e : Event} → Accepted p es k e → eagerAt p es (suc k) ≡ figuresAfter p (eagerAt p es k) (runnerAt p es k) e
-  next {k} {e} a = each (λ f. f ≡ figuresAfter p (eagerAt p es k) (runnerAt p es k) e) k
-      (λ _. ap (figuresAfter p (eagerAt p es k) (runnerAt p es k)) a.event) (λ n. untrue (sym a.accepted ∙ n))
+  pub next : {k : ℕ} {e : Event} → Accepted p es k e → eager_at p es (suc k) ≡ figures_after p (eager_at p es k) (runner_at p es k) e
+  next {k} {e} a = each (λ f. f ≡ figures_after p (eager_at p es k) (runner_at p es k) e) k
+      (λ _. ap (figures_after p (eager_at p es k) (runner_at p es k)) a.event) (λ n. untrue (sym a.accepted ∙ n))
 
   -- where all events before place k are accepted, there are k of them
-  pub all-counted : (k : ℕ) → ((j : ℕ) → j < k → acceptedAt p es j ≡ true) → (eagerAt p es k).accepted ≡ k
-  unfolding eagerAt
-  all-counted zero f = refl
-  all-counted (suc k) f =
+  pub all_counted : (k : ℕ) → ((j : ℕ) → j < k → accepted_at p es j ≡ true) → (eager_at p es k).accepted ≡ k
+  unfolding eager_at
+  all_counted zero f = refl
+  all_counted (suc k) f =
       ap (λ (g : Figures). g.accepted) (next (record { event = refl; accepted = f k (omega arith) }))
-      ∙ accepted-moved p (eagerAt p es k) (runnerAt p es k) (eventAt es k)
-      ∙ omega (arith, all-counted k (λ j q. f j (omega arith)))
+      ∙ accepted_moved p (eager_at p es k) (runner_at p es k) (event_at es k)
+      ∙ omega (arith, all_counted k (λ j q. f j (omega arith)))
 
   -- the count of eager calls is the one over the history
-  pub eager-counted : (k : ℕ) → (eagerAt p es k).eager ≡ eagerCount p es k
-  unfolding eagerAt eagerStep acceptedAt eagerCount sum
-  eager-counted zero = refl
-  eager-counted (suc k) =
-      step-calls p (eagerAt p es k) (eventAt es k) (eagerTest p (eagerAt p es k) (eventAt es k)) ∙ omega (arith, eager-counted k)
+  pub eager_counted : (k : ℕ) → (eager_at p es k).eager ≡ eager_count p es k
+  unfolding eager_at eager_step accepted_at eager_count sum
+  eager_counted zero = refl
+  eager_counted (suc k) =
+      step_calls p (eager_at p es k) (event_at es k) (eager_test p (eager_at p es k) (event_at es k)) ∙ omega (arith, eager_counted k)

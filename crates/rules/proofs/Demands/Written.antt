@@ -9,146 +9,146 @@ use lib.Seq.{take-append_seam, get_or-append-add, get_or-drop}
 use borrow.Author.Tests.{lt-ltb, le-ltb, ltb-false}
 use Rattle.rules.specs.Numbers.Choice.{if◌then◌else◌}
 use Rattle.rules.specs.Numbers.Place.{at}
-use Rattle.rules.specs.Numbers.Refusal.{number_of, firstFault, checkFor}
-use Rattle.rules.specs.Numbers.Answer.{verdictNumber, verdictPlace}
-use Rattle.rules.specs.Books.Load.{loadChecks}
-use Rattle.rules.specs.Books.Book.{countCheck, tasksOf, locksOf, usesOf, eventNumbersOf, checkOf, checkedAs}
-use Rattle.rules.specs.Books.Bytes.{bookOf, Bytes}
-use Rattle.rules.specs.Books.Write.{countsOf, wholeChecks, writeChecks, Wrote, wroteAs, writeOf}
-use Rattle.rules.specs.Demands.Written.{bookIn, ReadsAs, RefusesAs, WrittenAs, WrittenBack, Writing}
+use Rattle.rules.specs.Numbers.Refusal.{number_of, first_fault, check_for}
+use Rattle.rules.specs.Numbers.Answer.{verdict_number, verdict_place}
+use Rattle.rules.specs.Books.Load.{load_checks}
+use Rattle.rules.specs.Books.Book.{count_check, tasks_of, locks_of, uses_of, event_numbers_of, check_of, checked_as}
+use Rattle.rules.specs.Books.Bytes.{book_of, Bytes}
+use Rattle.rules.specs.Books.Write.{counts_of, whole_checks, write_checks, Wrote, wrote_as, write_of}
+use Rattle.rules.specs.Demands.Written.{book_in, ReadsAs, RefusesAs, WrittenAs, WrittenBack, Writing}
 use Rattle.rules.specs.declared.answer.Verdict.{Verdict}
 use Rattle.rules.specs.declared.refusal.Refusal.{Refusal}
 use Rattle.rules.specs.declared.refusal.Refusal.TheVariants.{ShortBuffer}
-use Rattle.rules.proofs.Numbers.Checks.{check-none, clean-passes, clean-for, check-finds, check-left, check-right, passed-both}
-use Rattle.rules.proofs.Numbers.Checks.{one-finds, none-refused-at}
-use Rattle.rules.proofs.Books.Loaded.{loads-plan}
-use Rattle.rules.proofs.Books.ReadBack.{tasks-back, locks-back, uses-back, numbers-back, plan-back, events-back, check-back}
-use Rattle.rules.proofs.Books.WriteBack.{book-again}
-use Rattle.rules.proofs.Books.OfBytes.{book-bytes}
-use Rattle.rules.proofs.Books.Passes.{passed-contents}
+use Rattle.rules.proofs.Numbers.Checks.{check_none, clean_passes, clean_for, check_finds, check_left, check_right, passed_both}
+use Rattle.rules.proofs.Numbers.Checks.{one_finds, none_refused_at}
+use Rattle.rules.proofs.Books.Loaded.{loads_plan}
+use Rattle.rules.proofs.Books.ReadBack.{tasks_back, locks_back, uses_back, numbers_back, plan_back, events_back_lem, check_back}
+use Rattle.rules.proofs.Books.WriteBack.{book_again}
+use Rattle.rules.proofs.Books.OfBytes.{book_bytes}
+use Rattle.rules.proofs.Books.Passes.{passed_contents}
 use Rattle.rules.proofs.Demands.Demand1.{demand1}
 
-verdict-as : (v : Verdict) (b buffer : List ℕ) → (wroteAs v b buffer).verdict ≡ v
-unfolding wroteAs
-verdict-as Verdict.Passed b buffer = refl
-verdict-as (Verdict.Refused why place) b buffer = refl
+verdict_as : (v : Verdict) (b buffer : List ℕ) → (wrote_as v b buffer).verdict ≡ v
+unfolding wrote_as
+verdict_as Verdict.Passed b buffer = refl
+verdict_as (Verdict.Refused why place) b buffer = refl
 
 module _ (tasks locks uses events : List ℕ) where
   abbrev b : List ℕ
-  b = bookOf tasks locks uses events
+  b = book_of tasks locks uses events
 
   abbrev whole : Verdict
-  whole = firstFault (wholeChecks tasks locks uses events)
+  whole = first_fault (whole_checks tasks locks uses events)
 
   -- ---- the reader, with row space enough, and the writer both say what is said of the records
 
   module _ (room : ℕ) where
-    read-refused : (why : Refusal) (place : ℕ) → whole ≡ Verdict.Refused why place → checkOf b room ≡ Verdict.Refused why place
-    read-refused why place e = check-back tasks locks uses events room ∙ check-left (wholeChecks tasks locks uses events) _ why place e
+    read_refused : (why : Refusal) (place : ℕ) → whole ≡ Verdict.Refused why place → check_of b room ≡ Verdict.Refused why place
+    read_refused why place e = check_back tasks locks uses events room ∙ check_left (whole_checks tasks locks uses events) _ why place e
 
-    read-passed : length events * 4 ≤ room → whole ≡ Verdict.Passed → checkOf b room ≡ Verdict.Passed
-    read-passed fits e = check-back tasks locks uses events room ∙ check-right (wholeChecks tasks locks uses events) _ e
-        ∙ clean-passes _ _ (λ i h. le-ltb room (length events * 4) fits) ∙ check-none
+    read_passed : length events * 4 ≤ room → whole ≡ Verdict.Passed → check_of b room ≡ Verdict.Passed
+    read_passed fits e = check_back tasks locks uses events room ∙ check_right (whole_checks tasks locks uses events) _ e
+        ∙ clean_passes _ _ (λ i h. le-ltb room (length events * 4) fits) ∙ check_none
 
-    passed-whole : checkOf b room ≡ Verdict.Passed → whole ≡ Verdict.Passed
-    passed-whole e = (passed-both (wholeChecks tasks locks uses events) _ (sym (check-back tasks locks uses events room) ∙ e)).0
+    passed_whole : check_of b room ≡ Verdict.Passed → whole ≡ Verdict.Passed
+    passed_whole e = (passed_both (whole_checks tasks locks uses events) _ (sym (check_back tasks locks uses events room) ∙ e)).0
 
-    write-refused : (why : Refusal) (place : ℕ) → whole ≡ Verdict.Refused why place
-        → firstFault (writeChecks tasks locks uses events room) ≡ Verdict.Refused why place
-    unfolding writeChecks
-    write-refused why place e = check-left (wholeChecks tasks locks uses events) _ why place e
+    write_refused : (why : Refusal) (place : ℕ) → whole ≡ Verdict.Refused why place
+        → first_fault (write_checks tasks locks uses events room) ≡ Verdict.Refused why place
+    unfolding write_checks
+    write_refused why place e = check_left (whole_checks tasks locks uses events) _ why place e
 
-    write-short : whole ≡ Verdict.Passed → room < length b → firstFault (writeChecks tasks locks uses events room) ≡ Verdict.Refused ShortBuffer 0
-    unfolding writeChecks
-    write-short e h = check-right (wholeChecks tasks locks uses events) _ e
-        ∙ check-finds _ _ 0 (one-finds (ltb room (length b)) (lt-ltb room (length b) h)) (omega arith)
+    write_short : whole ≡ Verdict.Passed → room < length b → first_fault (write_checks tasks locks uses events room) ≡ Verdict.Refused ShortBuffer 0
+    unfolding write_checks
+    write_short e h = check_right (whole_checks tasks locks uses events) _ e
+        ∙ check_finds _ _ 0 (one_finds (ltb room (length b)) (lt-ltb room (length b) h)) (omega arith)
 
-    write-passes : whole ≡ Verdict.Passed → length b ≤ room → firstFault (writeChecks tasks locks uses events room) ≡ Verdict.Passed
-    unfolding writeChecks
-    write-passes e h = check-right (wholeChecks tasks locks uses events) _ e ∙ clean-passes _ _ (λ i _. le-ltb room (length b) h) ∙ check-none
+    write_passes : whole ≡ Verdict.Passed → length b ≤ room → first_fault (write_checks tasks locks uses events room) ≡ Verdict.Passed
+    unfolding write_checks
+    write_passes e h = check_right (whole_checks tasks locks uses events) _ e ∙ clean_passes _ _ (λ i _. le-ltb room (length b) h) ∙ check_none
 
     -- where the writer writes, the records pass and there is room
-    wrote-passed : firstFault (writeChecks tasks locks uses events room) ≡ Verdict.Passed → (whole ≡ Verdict.Passed) × (length b ≤ room)
-    unfolding writeChecks checkFor number_of if◌then◌else◌
-    wrote-passed e =
-        let (x, y) = passed-both (wholeChecks tasks locks uses events) _ e in
-        (x, ltb-false room (length b) (clean-for (_ ∷ []) y ShortBuffer 0 (omega arith)))
+    wrote_passed : first_fault (write_checks tasks locks uses events room) ≡ Verdict.Passed → (whole ≡ Verdict.Passed) × (length b ≤ room)
+    unfolding write_checks check_for number_of if◌then◌else◌
+    wrote_passed e =
+        let (x, y) = passed_both (whole_checks tasks locks uses events) _ e in
+        (x, ltb-false room (length b) (clean_for (_ ∷ []) y ShortBuffer 0 (omega arith)))
 
   -- ---- the book reads as the records
 
   reads_as : whole ≡ Verdict.Passed → ReadsAs tasks locks uses events b
-  unfolding checkedAs verdictNumber wholeChecks
+  unfolding checked_as verdict_number whole_checks
   reads_as e =
-      let loads : firstFault (loadChecks tasks locks uses) ≡ Verdict.Passed = (passed-both (loadChecks tasks locks uses) _
-      (passed-both (countCheck (countsOf tasks locks uses events) ∷ []) _ e).1).0 in
+      let loads : first_fault (load_checks tasks locks uses) ≡ Verdict.Passed = (passed_both (load_checks tasks locks uses) _
+      (passed_both (count_check (counts_of tasks locks uses events) ∷ []) _ e).1).0 in
       record {
-        accepted = λ room fits. ap (λ v. verdictNumber (checkedAs v b).verdict) (read-passed room fits e);
-        plan = λ room fits. ap (λ v. (checkedAs v b).plan) (read-passed room fits e) ∙ plan-back tasks locks uses events
-            ∙ sym (loads-plan tasks locks uses loads);
-        list = events-back tasks locks uses events;
+        accepted = λ room fits. ap (λ v. verdict_number (checked_as v b).verdict) (read_passed room fits e);
+        plan = λ room fits. ap (λ v. (checked_as v b).plan) (read_passed room fits e) ∙ plan_back tasks locks uses events
+            ∙ sym (loads_plan tasks locks uses loads);
+        list = events_back_lem tasks locks uses events;
         records = (
-          tasks-back tasks locks uses events,
-          locks-back tasks locks uses events,
-          uses-back tasks locks uses events,
-          numbers-back tasks locks uses events,
+          tasks_back tasks locks uses events,
+          locks_back tasks locks uses events,
+          uses_back tasks locks uses events,
+          numbers_back tasks locks uses events,
         );
       }
 
   module _ (buffer : List ℕ) where
     abbrev w : Wrote
-    w = writeOf tasks locks uses events buffer
+    w = write_of tasks locks uses events buffer
 
     -- what is written is as the verdict says
-    verdict-is : w.verdict ≡ firstFault (writeChecks tasks locks uses events (length buffer))
-    unfolding writeOf
-    verdict-is = verdict-as (firstFault (writeChecks tasks locks uses events (length buffer))) b buffer
+    verdict_is : w.verdict ≡ first_fault (write_checks tasks locks uses events (length buffer))
+    unfolding write_of
+    verdict_is = verdict_as (first_fault (write_checks tasks locks uses events (length buffer))) b buffer
 
-    module _ (e : verdictNumber w.verdict ≡ 0) where
-      passes : firstFault (writeChecks tasks locks uses events (length buffer)) ≡ Verdict.Passed
-      passes = none-refused-at _ (ap verdictNumber (sym verdict-is) ∙ e)
+    module _ (e : verdict_number w.verdict ≡ 0) where
+      passes : first_fault (write_checks tasks locks uses events (length buffer)) ≡ Verdict.Passed
+      passes = none_refused_at _ (ap verdict_number (sym verdict_is) ∙ e)
 
-      length-is : w.length ≡ length b
-      unfolding writeOf wroteAs
-      length-is = ap (λ v. (wroteAs v b buffer).length) passes
+      length_is : w.length ≡ length b
+      unfolding write_of wrote_as
+      length_is = ap (λ v. (wrote_as v b buffer).length) passes
 
-      in_buffer : bookIn w ≡ b
-      unfolding writeOf wroteAs
-      in_buffer = ap (λ v. bookIn (wroteAs v b buffer)) passes ∙ take-append_seam b (drop (length b) buffer)
+      in_buffer : book_in w ≡ b
+      unfolding write_of wrote_as
+      in_buffer = ap (λ v. book_in (wrote_as v b buffer)) passes ∙ take-append_seam b (drop (length b) buffer)
 
     -- what the reader refuses, the writer refuses
-    same-refusal : (room : ℕ) → length events * 4 ≤ room → 0 < verdictNumber (checkOf b room) → w.verdict ≡ checkOf b room
-    unfolding verdictNumber
-    same-refusal room fits h = go whole refl
+    same_refusal : (room : ℕ) → length events * 4 ≤ room → 0 < verdict_number (check_of b room) → w.verdict ≡ check_of b room
+    unfolding verdict_number
+    same_refusal room fits h = go whole refl
       where
-        go : (v : Verdict) → whole ≡ v → w.verdict ≡ checkOf b room
-        go Verdict.Passed e = absurd (omega (arith, h, ap verdictNumber (read-passed room fits e)))
-        go (Verdict.Refused why place) e = verdict-is ∙ write-refused (length buffer) why place e ∙ sym (read-refused room why place e)
+        go : (v : Verdict) → whole ≡ v → w.verdict ≡ check_of b room
+        go Verdict.Passed e = absurd (omega (arith, h, ap verdict_number (read_passed room fits e)))
+        go (Verdict.Refused why place) e = verdict_is ∙ write_refused (length buffer) why place e ∙ sym (read_refused room why place e)
 
-    module _ (room : ℕ) (e : verdictNumber (checkOf b room) ≡ 0) where
-      records-pass : whole ≡ Verdict.Passed
-      records-pass = passed-whole room (none-refused-at (checkOf b room) e)
+    module _ (room : ℕ) (e : verdict_number (check_of b room) ≡ 0) where
+      records_pass : whole ≡ Verdict.Passed
+      records_pass = passed_whole room (none_refused_at (check_of b room) e)
 
       short : length buffer < length b → w.verdict ≡ Verdict.Refused ShortBuffer 0
-      short h = verdict-is ∙ write-short (length buffer) records-pass h
+      short h = verdict_is ∙ write_short (length buffer) records_pass h
 
       enough : length b ≤ length buffer → w.verdict ≡ Verdict.Passed
-      enough h = verdict-is ∙ write-passes (length buffer) records-pass h
+      enough h = verdict_is ∙ write_passes (length buffer) records_pass h
 
-    refuses-as : RefusesAs tasks locks uses events buffer w
-    unfolding verdictNumber verdictPlace number_of
-    refuses-as = record {
-      number = λ room fits h. ap verdictNumber (same-refusal room fits h);
-      place = λ room fits h. ap verdictPlace (same-refusal room fits h);
-      short = λ room e h. (ap verdictNumber (short room e h), ap verdictPlace (short room e h));
-      enough = λ room e h. ap verdictNumber (enough room e h);
+    refuses_as : RefusesAs tasks locks uses events buffer w
+    unfolding verdict_number verdict_place number_of
+    refuses_as = record {
+      number = λ room fits h. ap verdict_number (same_refusal room fits h);
+      place = λ room fits h. ap verdict_place (same_refusal room fits h);
+      short = λ room e h. (ap verdict_number (short room e h), ap verdict_place (short room e h));
+      enough = λ room e h. ap verdict_number (enough room e h);
     }
 
     -- the bytes after the book
     stays : (i : ℕ) → w.length ≤ i → at w.bytes i ≡ at buffer i
-    unfolding writeOf wroteAs
-    stays = go (firstFault (writeChecks tasks locks uses events (length buffer)))
+    unfolding write_of wrote_as
+    stays = go (first_fault (write_checks tasks locks uses events (length buffer)))
       where
-        go : (v : Verdict) (i : ℕ) → (wroteAs v b buffer).length ≤ i → at (wroteAs v b buffer).bytes i ≡ at buffer i
+        go : (v : Verdict) (i : ℕ) → (wrote_as v b buffer).length ≤ i → at (wrote_as v b buffer).bytes i ≡ at buffer i
         go Verdict.Passed i h =
             let e : i ≡ length b + (i - length b) = omega (arith, h) in
             ap (at (b ++ drop (length b) buffer)) e ∙ get_or-append-add b (drop (length b) buffer) (i - length b) 0
@@ -156,44 +156,44 @@ module _ (tasks locks uses events : List ℕ) where
         go (Verdict.Refused why place) i h = refl
 
     sized : length w.bytes ≡ length buffer
-    unfolding writeOf wroteAs
-    sized = go (firstFault (writeChecks tasks locks uses events (length buffer))) refl
+    unfolding write_of wrote_as
+    sized = go (first_fault (write_checks tasks locks uses events (length buffer))) refl
       where
-        go : (v : Verdict) → firstFault (writeChecks tasks locks uses events (length buffer)) ≡ v → length (wroteAs v b buffer).bytes ≡ length buffer
+        go : (v : Verdict) → first_fault (write_checks tasks locks uses events (length buffer)) ≡ v → length (wrote_as v b buffer).bytes ≡ length buffer
         go Verdict.Passed e = omega (
           arith,
           length-append b (drop (length b) buffer),
           length-drop (length b) buffer,
-          (wrote-passed (length buffer) e).1,
+          (wrote_passed (length buffer) e).1,
         )
         go (Verdict.Refused why place) e = refl
 
     written_as : WrittenAs tasks locks uses events buffer w
     written_as = record {
       book = in_buffer;
-      reads = λ e. subst (ReadsAs tasks locks uses events) (sym (in_buffer e)) (reads_as (wrote-passed (length buffer) (passes e)).0);
-      bytes = book-bytes tasks locks uses events;
+      reads = λ e. subst (ReadsAs tasks locks uses events) (sym (in_buffer e)) (reads_as (wrote_passed (length buffer) (passes e)).0);
+      bytes = book_bytes tasks locks uses events;
       none = (demand1.write tasks locks uses events buffer).none;
       stay = stays;
       size = sized;
-      refuses = refuses-as;
+      refuses = refuses_as;
     }
 
 -- ---- an accepted book of bytes, written again
 
-module _ (c : List ℕ) (room : ℕ) (buffer : List ℕ) (of-bytes : Bytes c) (e : verdictNumber (checkOf c room) ≡ 0) (h : length c ≤ length buffer) where
-  again : bookOf (tasksOf c) (locksOf c) (usesOf c) (eventNumbersOf c) ≡ c
-  again = book-again c of-bytes (passed-contents c room (none-refused-at (checkOf c room) e))
+module _ (c : List ℕ) (room : ℕ) (buffer : List ℕ) (of-bytes : Bytes c) (e : verdict_number (check_of c room) ≡ 0) (h : length c ≤ length buffer) where
+  again : book_of (tasks_of c) (locks_of c) (uses_of c) (event_numbers_of c) ≡ c
+  again = book_again c of-bytes (passed_contents c room (none_refused_at (check_of c room) e))
 
-  written : (writeOf (tasksOf c) (locksOf c) (usesOf c) (eventNumbersOf c) buffer).verdict ≡ Verdict.Passed
-  written = enough (tasksOf c) (locksOf c) (usesOf c) (eventNumbersOf c) buffer room (rw again e) (rw again h)
+  written : (write_of (tasks_of c) (locks_of c) (uses_of c) (event_numbers_of c) buffer).verdict ≡ Verdict.Passed
+  written = enough (tasks_of c) (locks_of c) (uses_of c) (event_numbers_of c) buffer room (rw again e) (rw again h)
 
-  written_back : WrittenBack c (writeOf (tasksOf c) (locksOf c) (usesOf c) (eventNumbersOf c) buffer)
-  unfolding verdictNumber
+  written_back : WrittenBack c (write_of (tasks_of c) (locks_of c) (uses_of c) (event_numbers_of c) buffer)
+  unfolding verdict_number
   written_back = record {
-    accepted = ap verdictNumber written;
-    size = length-is (tasksOf c) (locksOf c) (usesOf c) (eventNumbersOf c) buffer (ap verdictNumber written) ∙ ap length again;
-    book = in_buffer (tasksOf c) (locksOf c) (usesOf c) (eventNumbersOf c) buffer (ap verdictNumber written) ∙ again;
+    accepted = ap verdict_number written;
+    size = length_is (tasks_of c) (locks_of c) (uses_of c) (event_numbers_of c) buffer (ap verdict_number written) ∙ ap length again;
+    book = in_buffer (tasks_of c) (locks_of c) (uses_of c) (event_numbers_of c) buffer (ap verdict_number written) ∙ again;
   }
 
 pub writing : Writing

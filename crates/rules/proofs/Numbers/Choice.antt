@@ -8,29 +8,29 @@ use native.Mathlib.Decide.{ℕ_discrete, dec_lt}
 use native.Mathlib.Omega.{arith}
 use lib.Dec.{T}
 use borrow.Author.Tests.{lt-ltb, le-ltb, le-leb, lt-leb, eq-eqb, ne_eqb, not-true, not-false}
-use Rattle.rules.specs.Numbers.Choice.{if◌then◌else◌, allTrue}
+use Rattle.rules.specs.Numbers.Choice.{if◌then◌else◌, all_true}
 -- every proof rests on this file, so the runs of RULES 18 are checked before them all: a wrong rule that they show is refused there first
 use Rattle.rules.specs.Demands.Crane
 
-pub if-true : {A : Type 0} (t : Bool) (a b : A) → t ≡ true → (if t then a else b) ≡ a
+pub if_true : {A : Type 0} (t : Bool) (a b : A) → t ≡ true → (if t then a else b) ≡ a
 unfolding if◌then◌else◌
-if-true t a b e = rw e
+if_true t a b e = rw e
 
-pub if-false : {A : Type 0} (t : Bool) (a b : A) → t ≡ false → (if t then a else b) ≡ b
+pub if_false : {A : Type 0} (t : Bool) (a b : A) → t ≡ false → (if t then a else b) ≡ b
 unfolding if◌then◌else◌
-if-false t a b e = rw e
+if_false t a b e = rw e
 
 -- what the code answers is what the test chooses
 pub if_yes : {A : Type 0} (t : Bool) (a b r : A) → t ≡ true → r ≡ a → r ≡ (if t then a else b)
-if_yes t a b r e h = h ∙ sym (if-true t a b e)
+if_yes t a b r e h = h ∙ sym (if_true t a b e)
 
 pub if_no : {A : Type 0} (t : Bool) (a b r : A) → t ≡ false → r ≡ b → r ≡ (if t then a else b)
-if_no t a b r e h = h ∙ sym (if-false t a b e)
+if_no t a b r e h = h ∙ sym (if_false t a b e)
 
 -- a proof by cases on a test
-pub by-test : {P : Type 0} (t : Bool) → (t ≡ true → P) → (t ≡ false → P) → P
-by-test true f g = f refl
-by-test false f g = g refl
+pub by_test : {P : Type 0} (t : Bool) → (t ≡ true → P) → (t ≡ false → P) → P
+by_test true f g = f refl
+by_test false f g = g refl
 
 -- what holds of both holds of the one that is chosen
 pub either : {A : Type 0} (P : A → Type 0) (t : Bool) (a b : A) → P a → P b → P (if t then a else b)
@@ -47,56 +47,56 @@ pub not_so : (t : Bool) → (t ≡ true → ⊥) → t ≡ false
 not_so true h = absurd (h refl)
 not_so false h = refl
 
-pub and-true : (a b : Bool) → (a && b) ≡ true → (a ≡ true) × (b ≡ true)
-and-true true b e = (refl, e)
-and-true false b e = untrue (sym e)
+pub and_true : (a b : Bool) → (a && b) ≡ true → (a ≡ true) × (b ≡ true)
+and_true true b e = (refl, e)
+and_true false b e = untrue (sym e)
 
-pub true-and : (a b : Bool) → a ≡ true → b ≡ true → (a && b) ≡ true
-true-and true b e h = h
-true-and false b e h = e
+pub true_and : (a b : Bool) → a ≡ true → b ≡ true → (a && b) ≡ true
+true_and true b e h = h
+true_and false b e h = e
 
-pub or-false : (a b : Bool) → (a || b) ≡ false → (a ≡ false) × (b ≡ false)
-or-false true b e = untrue e
-or-false false b e = (refl, e)
+pub or_false : (a b : Bool) → (a || b) ≡ false → (a ≡ false) × (b ≡ false)
+or_false true b e = untrue e
+or_false false b e = (refl, e)
 
-pub false-or : (a b : Bool) → a ≡ false → b ≡ false → (a || b) ≡ false
-false-or true b e h = e
-false-or false b e h = h
+pub false_or : (a b : Bool) → a ≡ false → b ≡ false → (a || b) ≡ false
+false_or true b e h = e
+false_or false b e h = h
 
-pub or-true : (a b : Bool) → (a || b) ≡ true → (a ≡ true) ⊎ (b ≡ true)
-or-true true b e = inl refl
-or-true false b e = inr e
+pub or_true : (a b : Bool) → (a || b) ≡ true → (a ≡ true) ⊎ (b ≡ true)
+or_true true b e = inl refl
+or_true false b e = inr e
 
 -- by cases on a number: r, or another
-pub at-or : (P : ℕ → Type 0) (r : ℕ) → P r → ((y : ℕ) → (y ≡ r → ⊥) → P y) → (y : ℕ) → P y
-at-or P r h k y = go (ℕ_discrete y r)
+pub at_or : (P : ℕ → Type 0) (r : ℕ) → P r → ((y : ℕ) → (y ≡ r → ⊥) → P y) → (y : ℕ) → P y
+at_or P r h k y = go (ℕ_discrete y r)
   where
     go : Dec (y ≡ r) → P y
     go (yes e) = subst P (sym e) h
     go (no n) = k y n
 
-pub lt-or-le : (m n : ℕ) → (m < n) ⊎ (n ≤ m)
-lt-or-le m n = go (dec_lt m n)
+pub lt_or_le : (m n : ℕ) → (m < n) ⊎ (n ≤ m)
+lt_or_le m n = go (dec_lt m n)
   where
     go : Dec (m < n) → (m < n) ⊎ (n ≤ m)
     go (yes l) = inl l
     go (no k) = inr (omega arith)
 
 -- the code's flag r says what the test t is
-pub said-true : (r t : Bool) → r ≡ t → r ≡ true → t ≡ true
-said-true r t e h = sym e ∙ h
+pub said_true : (r t : Bool) → r ≡ t → r ≡ true → t ≡ true
+said_true r t e h = sym e ∙ h
 
-pub said-false : (r t : Bool) → r ≡ t → r ≡ false → t ≡ false
-said-false r t e h = sym e ∙ h
+pub said_false : (r t : Bool) → r ≡ t → r ≡ false → t ≡ false
+said_false r t e h = sym e ∙ h
 
-pub said-not-true : (r t : Bool) → r ≡ t → not r ≡ true → t ≡ false
-said-not-true r t e h = sym e ∙ not-true r h
+pub said_not_true : (r t : Bool) → r ≡ t → not r ≡ true → t ≡ false
+said_not_true r t e h = sym e ∙ not-true r h
 
-pub said-not-false : (r t : Bool) → r ≡ t → not r ≡ false → t ≡ true
-said-not-false r t e h = sym e ∙ not-false r h
+pub said_not_false : (r t : Bool) → r ≡ t → not r ≡ false → t ≡ true
+said_not_false r t e h = sym e ∙ not-false r h
 
-pub not-of-true : (t : Bool) → t ≡ true → not t ≡ false
-not-of-true t e = ap not e
+pub not_of_true : (t : Bool) → t ≡ true → not t ≡ false
+not_of_true t e = ap not e
 
 pub not_of_false : (t : Bool) → t ≡ false → not t ≡ true
 not_of_false t e = ap not e
@@ -107,44 +107,44 @@ unfoldable pub Each : List Bool → Type 0
 Each [] = Unit {0}
 Each (t ∷ ts) = (t ≡ true) × Each ts
 
-pub all_so : (ts : List Bool) → allTrue ts ≡ true → Each ts
-unfolding Each allTrue
+pub all_so : (ts : List Bool) → all_true ts ≡ true → Each ts
+unfolding Each all_true
 all_so [] e = tt
-all_so (t ∷ ts) e = by-test t
-    (λ q. (q, all_so ts (sym (if-true t (allTrue ts) false q) ∙ e)))
-    (λ q. untrue (sym e ∙ if-false t (allTrue ts) false q))
+all_so (t ∷ ts) e = by_test t
+    (λ q. (q, all_so ts (sym (if_true t (all_true ts) false q) ∙ e)))
+    (λ q. untrue (sym e ∙ if_false t (all_true ts) false q))
 
-pub so-all : (ts : List Bool) → Each ts → allTrue ts ≡ true
-unfolding Each allTrue
-so-all [] h = refl
-so-all (t ∷ ts) h = if-true t (allTrue ts) false h.0 ∙ so-all ts h.1
+pub so_all : (ts : List Bool) → Each ts → all_true ts ≡ true
+unfolding Each all_true
+so_all [] h = refl
+so_all (t ∷ ts) h = if_true t (all_true ts) false h.0 ∙ so_all ts h.1
 
 -- along the code's own tests: one fails, one holds, none is left
-pub all-fails : (t : Bool) (ts : List Bool) → t ≡ false → false ≡ allTrue (t ∷ ts)
-unfolding allTrue
-all-fails t ts e = sym (if-false t (allTrue ts) false e)
+pub all_fails : (t : Bool) (ts : List Bool) → t ≡ false → false ≡ all_true (t ∷ ts)
+unfolding all_true
+all_fails t ts e = sym (if_false t (all_true ts) false e)
 
-pub all-next : (t r : Bool) (ts : List Bool) → t ≡ true → r ≡ allTrue ts → r ≡ allTrue (t ∷ ts)
-unfolding allTrue
-all-next t r ts e h = h ∙ sym (if-true t (allTrue ts) false e)
+pub all_next : (t r : Bool) (ts : List Bool) → t ≡ true → r ≡ all_true ts → r ≡ all_true (t ∷ ts)
+unfolding all_true
+all_next t r ts e h = h ∙ sym (if_true t (all_true ts) false e)
 
-pub all-last : (t r : Bool) → r ≡ t → r ≡ allTrue (t ∷ [])
-unfolding allTrue if◌then◌else◌
-all-last true r e = e
-all-last false r e = e
+pub all_last : (t r : Bool) → r ≡ t → r ≡ all_true (t ∷ [])
+unfolding all_true if◌then◌else◌
+all_last true r e = e
+all_last false r e = e
 
-pub all_done : true ≡ allTrue []
-unfolding allTrue
+pub all_done : true ≡ all_true []
+unfolding all_true
 all_done = refl
 
 -- for `search`: tests of numbers and of flags that are variables; with flags that a call gave
-pub ruleset tests = (lt-ltb, le-ltb, le-leb, lt-leb, eq-eqb, ne_eqb, if-true, if-false)
+pub ruleset tests = (lt-ltb, le-ltb, le-leb, lt-leb, eq-eqb, ne_eqb, if_true, if_false)
 
-pub ruleset alls = (all-fails, all-next, all-last, all_done)
+pub ruleset alls = (all_fails, all_next, all_last, all_done)
 
 pub ruleset picks = (if_yes, if_no)
 
 -- of a test's opposite
-pub ruleset nots = (not-of-true, not_of_false)
+pub ruleset nots = (not_of_true, not_of_false)
 
-pub ruleset flags = (tests, said-true, said-false, said-not-true, said-not-false)
+pub ruleset flags = (tests, said_true, said_false, said_not_true, said_not_false)

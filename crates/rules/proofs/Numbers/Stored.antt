@@ -10,15 +10,15 @@ use lib.Seq.{sets, sets-eq}
 use Rattle.rules.specs.Numbers.Place.{stored}
 use Rattle.rules.specs.Books.Bytes.{two, four}
 
-stored-sets : (xs : List ℕ) (i : ℕ) (vs : List ℕ) → stored xs i vs ≡ sets xs i vs
+stored_sets : (xs : List ℕ) (i : ℕ) (vs : List ℕ) → stored xs i vs ≡ sets xs i vs
 unfolding stored
-stored-sets xs i [] = refl
-stored-sets xs i (v ∷ vs) = stored-sets (set xs i v) (suc i) vs
+stored_sets xs i [] = refl
+stored_sets xs i (v ∷ vs) = stored_sets (set xs i v) (suc i) vs
 
-pub length-stored : (xs : List ℕ) (i : ℕ) (vs : List ℕ) → length (stored xs i vs) ≡ length xs
+pub length_stored : (xs : List ℕ) (i : ℕ) (vs : List ℕ) → length (stored xs i vs) ≡ length xs
 unfolding stored
-length-stored xs i [] = refl
-length-stored xs i (v ∷ vs) = length-stored (set xs i v) (suc i) vs ∙ length-set xs i v
+length_stored xs i [] = refl
+length_stored xs i (v ∷ vs) = length_stored (set xs i v) (suc i) vs ∙ length-set xs i v
 
 -- one run after another
 pub stored_on : (xs : List ℕ) (i j : ℕ) (us vs : List ℕ) → j ≡ i + length us → stored (stored xs i us) j vs ≡ stored xs i (us ++ vs)
@@ -27,11 +27,11 @@ stored_on xs i j [] vs e = ap (λ k. stored xs k vs) (omega (arith, e))
 stored_on xs i j (u ∷ us) vs e = stored_on (set xs i u) (suc i) j us vs (omega (arith, e))
 
 -- what fits stands there whole, between what stood before and after it
-pub stored-whole : (xs : List ℕ) (i : ℕ) (vs : List ℕ) → i + length vs ≤ length xs → stored xs i vs ≡ take i xs ++ vs ++ drop (i + length vs) xs
-stored-whole xs i vs h = stored-sets xs i vs ∙ sets-eq vs xs i h
+pub stored_whole : (xs : List ℕ) (i : ℕ) (vs : List ℕ) → i + length vs ≤ length xs → stored xs i vs ≡ take i xs ++ vs ++ drop (i + length vs) xs
+stored_whole xs i vs h = stored_sets xs i vs ∙ sets-eq vs xs i h
 
-pub stored-front : (xs vs : List ℕ) → length vs ≤ length xs → stored xs 0 vs ≡ vs ++ drop (length vs) xs
-stored-front xs vs h = stored-whole xs 0 vs (omega arith) ∙ ap (λ k. vs ++ drop k xs) (zero-add (length vs))
+pub stored_front : (xs vs : List ℕ) → length vs ≤ length xs → stored xs 0 vs ≡ vs ++ drop (length vs) xs
+stored_front xs vs h = stored_whole xs 0 vs (omega arith) ∙ ap (λ k. vs ++ drop k xs) (zero-add (length vs))
 
 -- in what follows a list
 pub stored_past : (ps xs : List ℕ) (i : ℕ) (vs : List ℕ) → stored (ps ++ xs) (length ps + i) vs ≡ ps ++ stored xs i vs
@@ -46,22 +46,22 @@ stored_past ps xs i (v ∷ vs) =
 
 -- ---- the bytes of a number
 
-pub word-stored : (out : List ℕ) (i w : ℕ) → set (set out i (w % 256)) (i + 1) (w / 256) ≡ stored out i (two w)
+pub word_stored : (out : List ℕ) (i w : ℕ) → set (set out i (w % 256)) (i + 1) (w / 256) ≡ stored out i (two w)
 unfolding stored
-word-stored out i w = ap (λ k. set (set out i (w % 256)) k (w / 256)) (add-one i)
+word_stored out i w = ap (λ k. set (set out i (w % 256)) k (w / 256)) (add-one i)
 
-pub long-stored : (out : List ℕ) (i w : ℕ)
+pub long_stored : (out : List ℕ) (i w : ℕ)
     → set (set (set (set out i (w % 256)) (i + 1) (w / 256 % 256)) (i + 2) (w / 65536 % 256)) (i + 3) (w / 16777216) ≡ stored out i (four w)
 unfolding stored
-long-stored out i w =
+long_stored out i w =
     let a : i + 1 ≡ suc i = add-one i in
     let b : i + 2 ≡ suc (suc i) = omega arith in
     let c : i + 3 ≡ suc (suc (suc i)) = omega arith in
     rw (a, b, c)
 
 -- the bytes after the first are within the list
-pub second-in : (out : List ℕ) (i x : ℕ) → i + 3 < length out → i + 1 < length (set out i x)
-second-in out i x h = omega (arith, length-set out i x)
+pub second_in : (out : List ℕ) (i x : ℕ) → i + 3 < length out → i + 1 < length (set out i x)
+second_in out i x h = omega (arith, length-set out i x)
 
-pub third-in : (out : List ℕ) (i x y : ℕ) → i + 3 < length out → i + 2 < length (set (set out i x) (i + 1) y)
-third-in out i x y h = omega (arith, length-set (set out i x) (i + 1) y, length-set out i x)
+pub third_in : (out : List ℕ) (i x y : ℕ) → i + 3 < length out → i + 2 < length (set (set out i x) (i + 1) y)
+third_in out i x y h = omega (arith, length-set (set out i x) (i + 1) y, length-set out i x)

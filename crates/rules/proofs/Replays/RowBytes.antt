@@ -22,9 +22,9 @@ module _ (xs : List ℕ) (k : ℕ) (h : Head) (call : Bool) where
   abbrev three : List ℕ
   three = set two (k * 4 + 2) h.next.0
 
-  pub row-length : length (with_row xs k h call) ≡ length xs
+  pub row_length : length (with_row xs k h call) ≡ length xs
   unfolding with_row
-  row-length = length-set three (k * 4 + 3) _ ∙ length-set two (k * 4 + 2) _ ∙ length-set one (k * 4 + 1) _ ∙ length-set xs (k * 4) _
+  row_length = length-set three (k * 4 + 3) _ ∙ length-set two (k * 4 + 2) _ ∙ length-set one (k * 4 + 1) _ ∙ length-set xs (k * 4) _
 
   -- any other byte stays
   pub row_other : (i : ℕ) → (k * 4 ≤ i → i < k * 4 + 4 → ⊥) → at (with_row xs k h call) i ≡ at xs i
@@ -34,15 +34,15 @@ module _ (xs : List ℕ) (k : ℕ) (h : Head) (call : Bool) where
       ∙ get_or-set_other one (k * 4 + 1) i _ 0 (λ e. n (omega arith) (omega arith)) ∙ get_or-set_other xs (k * 4) i _ 0 (λ e. n (omega arith) (omega arith))
 
   module _ (room : k * 4 + 4 ≤ length xs) where
-    pub row-running : at (with_row xs k h call) (k * 4) ≡ h.running
+    pub row_running : at (with_row xs k h call) (k * 4) ≡ h.running
     unfolding with_row
-    row-running =
+    row_running =
         get_or-set_other three (k * 4 + 3) (k * 4) _ 0 (λ e. omega arith) ∙ get_or-set_other two (k * 4 + 2) (k * 4) _ 0 (λ e. omega arith)
         ∙ get_or-set_other one (k * 4 + 1) (k * 4) _ 0 (λ e. omega arith) ∙ get_or-set_same xs (k * 4) _ 0 (omega arith)
 
-    pub row-user : at (with_row xs k h call) (k * 4 + 1) ≡ h.user.0
+    pub row_user : at (with_row xs k h call) (k * 4 + 1) ≡ h.user.0
     unfolding with_row
-    row-user =
+    row_user =
         get_or-set_other three (k * 4 + 3) (k * 4 + 1) _ 0 (λ e. omega arith) ∙ get_or-set_other two (k * 4 + 2) (k * 4 + 1) _ 0 (λ e. omega arith)
         ∙ get_or-set_same one (k * 4 + 1) _ 0 (lt-length-set xs (k * 4) _ (omega arith))
 
@@ -52,7 +52,7 @@ module _ (xs : List ℕ) (k : ℕ) (h : Head) (call : Bool) where
         get_or-set_other three (k * 4 + 3) (k * 4 + 2) _ 0 (λ e. omega arith)
         ∙ get_or-set_same two (k * 4 + 2) _ 0 (lt-length-set one (k * 4 + 1) _ (lt-length-set xs (k * 4) _ (omega arith)))
 
-    pub row-call : at (with_row xs k h call) (k * 4 + 3) ≡ (if call then 1 else 0)
+    pub row_call : at (with_row xs k h call) (k * 4 + 3) ≡ (if call then 1 else 0)
     unfolding with_row
-    row-call = get_or-set_same three (k * 4 + 3) _ 0 (lt-length-set two (k * 4 + 2) _
+    row_call = get_or-set_same three (k * 4 + 3) _ 0 (lt-length-set two (k * 4 + 2) _
         (lt-length-set one (k * 4 + 1) _ (lt-length-set xs (k * 4) _ (omega arith))))

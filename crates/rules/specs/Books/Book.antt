@@ -1,12 +1,12 @@
 -- RULES 4 and 5.2 to 5.8: the bytes of a book, its contents and its bodies, and refusals 1 to 7, 24, 8 and 9 in order. Assumes nothing.
 use Rattle.std.specs.Prelude.{Bool, not, ◌||◌, List, [], ◌∷◌, ◌++◌, ℕ, zero, suc, ◌+◌, ◌*◌, ◌/◌, eqb, ltb, length, drop}
-use Rattle.rules.specs.Numbers.Capacity.{maxTasks, maxLocks, maxUses, maxEvents}
+use Rattle.rules.specs.Numbers.Capacity.{max_tasks, max_locks, max_uses, max_events}
 use Rattle.rules.specs.Numbers.Choice.{if◌then◌else◌}
 use Rattle.rules.specs.Numbers.Place.{at, tabulate}
-use Rattle.rules.specs.Numbers.Refusal.{Check, firstFault}
-use Rattle.rules.specs.Books.Event.{eventFault, eventOf}
-use Rattle.rules.specs.Books.Plan.{countFault}
-use Rattle.rules.specs.Books.Load.{loadChecks, plan_of, blankPlan}
+use Rattle.rules.specs.Numbers.Refusal.{Check, first_fault}
+use Rattle.rules.specs.Books.Event.{event_fault, event_of}
+use Rattle.rules.specs.Books.Plan.{count_fault}
+use Rattle.rules.specs.Books.Load.{load_checks, plan_of, blank_plan}
 use Rattle.rules.specs.declared.plan.Plan.{Plan}
 use Rattle.rules.specs.declared.event.Event.{Event}
 use Rattle.rules.specs.declared.answer.Verdict.{Verdict}
@@ -29,11 +29,11 @@ contents = 32
 abbrev pub kind_at : List ℕ → ℕ → ℕ
 kind_at b e = word b (e * 8)
 
-abbrev pub countAt : List ℕ → ℕ → ℕ
-countAt b e = word b (e * 8 + 2)
+abbrev pub count_at : List ℕ → ℕ → ℕ
+count_at b e = word b (e * 8 + 2)
 
-abbrev pub offsetAt : List ℕ → ℕ → ℕ
-offsetAt b e = long b (e * 8 + 4)
+abbrev pub offset_at : List ℕ → ℕ → ℕ
+offset_at b e = long b (e * 8 + 4)
 
 -- a task takes 2 bytes, a lock 4, a use 2, an event 4
 unfoldable pub size_of : ℕ → ℕ
@@ -42,96 +42,96 @@ size_of e = if eqb e 0 then 2 else if eqb e 1 then 4 else if eqb e 2 then 2 else
 -- RULES 4.3: where the body of entry e starts, by the counts of the entries before it; of entry 4 it is where the last body ends
 unfoldable pub body_at : List ℕ → ℕ → ℕ
 body_at b zero = contents
-body_at b (suc e) = body_at b e + countAt b e * size_of e
+body_at b (suc e) = body_at b e + count_at b e * size_of e
 
 -- RULES 2.1: the bytes of a book that has as many records as there may be
-abbrev pub largestBook : ℕ
-largestBook = contents + maxTasks * 2 + maxLocks * 4 + maxUses * 2 + maxEvents * 4
+abbrev pub largest_book : ℕ
+largest_book = contents + max_tasks * 2 + max_locks * 4 + max_uses * 2 + max_events * 4
 
 -- 3: an entry has another kind or another offset than it should; for 4, the last body ends elsewhere than the book
-unfoldable pub layoutFault : List ℕ → ℕ → Bool
-layoutFault b e =
-    if ltb e 4 then not (eqb (kind_at b e) (e + 1)) || not (eqb (offsetAt b e) (body_at b e))
+unfoldable pub layout_fault : List ℕ → ℕ → Bool
+layout_fault b e =
+    if ltb e 4 then not (eqb (kind_at b e) (e + 1)) || not (eqb (offset_at b e) (body_at b e))
     else not (eqb (body_at b 4) (length b))
 
 -- the records of an entry, one number for a record of two or of four bytes
-abbrev pub wordsAt : List ℕ → ℕ → List ℕ
-wordsAt b e = tabulate (countAt b e) (λ i. word b (body_at b e + i * 2))
+abbrev pub words_at : List ℕ → ℕ → List ℕ
+words_at b e = tabulate (count_at b e) (λ i. word b (body_at b e + i * 2))
 
-abbrev pub longsAt : List ℕ → ℕ → List ℕ
-longsAt b e = tabulate (countAt b e) (λ i. long b (body_at b e + i * 4))
+abbrev pub longs_at : List ℕ → ℕ → List ℕ
+longs_at b e = tabulate (count_at b e) (λ i. long b (body_at b e + i * 4))
 
-abbrev pub tasksOf : List ℕ → List ℕ
-tasksOf b = wordsAt b 0
+abbrev pub tasks_of : List ℕ → List ℕ
+tasks_of b = words_at b 0
 
-abbrev pub locksOf : List ℕ → List ℕ
-locksOf b = longsAt b 1
+abbrev pub locks_of : List ℕ → List ℕ
+locks_of b = longs_at b 1
 
-abbrev pub usesOf : List ℕ → List ℕ
-usesOf b = wordsAt b 2
+abbrev pub uses_of : List ℕ → List ℕ
+uses_of b = words_at b 2
 
 -- the records of the events as numbers, and the event body where it lies
-abbrev pub eventNumbersOf : List ℕ → List ℕ
-eventNumbersOf b = longsAt b 3
+abbrev pub event_numbers_of : List ℕ → List ℕ
+event_numbers_of b = longs_at b 3
 
-abbrev pub eventBody : List ℕ → List ℕ
-eventBody b = drop (body_at b 3) b
+abbrev pub event_body : List ℕ → List ℕ
+event_body b = drop (body_at b 3) b
 
 -- RULES 4.7: whether 8 refuses record k of an event body, and the event that stands there
-abbrev pub recordFault : List ℕ → ℕ → Bool
-recordFault body k = eventFault (at body (k * 4)) (at body (k * 4 + 1)) (word body (k * 4 + 2))
+abbrev pub record_fault : List ℕ → ℕ → Bool
+record_fault body k = event_fault (at body (k * 4)) (at body (k * 4 + 1)) (word body (k * 4 + 2))
 
-abbrev pub recordEvent : List ℕ → ℕ → Event
-recordEvent body k = eventOf (at body (k * 4)) (at body (k * 4 + 1)) (word body (k * 4 + 2))
+abbrev pub record_event : List ℕ → ℕ → Event
+record_event body k = event_of (at body (k * 4)) (at body (k * 4 + 1)) (word body (k * 4 + 2))
 
-abbrev pub eventsOf : List ℕ → List Event
-eventsOf b = tabulate (countAt b 3) (recordEvent (eventBody b))
+abbrev pub events_of : List ℕ → List Event
+events_of b = tabulate (count_at b 3) (record_event (event_body b))
 
 -- RULES 4.8: what a reader finds at record k of an event body
 unfoldable pub found_at : List ℕ → ℕ → Found
 found_at body k =
-    if ltb k (length body / 4) then (if recordFault body k then Found.Refused WrongEvent k else Found.Got (recordEvent body k) (k + 1))
+    if ltb k (length body / 4) then (if record_fault body k then Found.Refused WrongEvent k else Found.Got (record_event body k) (k + 1))
     else Found.End
 
-abbrev pub planIn : List ℕ → Plan
-planIn b = plan_of (tasksOf b) (locksOf b) (usesOf b)
+abbrev pub plan_in : List ℕ → Plan
+plan_in b = plan_of (tasks_of b) (locks_of b) (uses_of b)
 
 -- 2, of all four entries by their counts, and 8, of n events
-abbrev pub countCheck : (ℕ → ℕ) → Check
-countCheck counts = record { refusal = WrongCount; first = 1; count = 4; fault = λ e. countFault e (counts e) }
+abbrev pub count_check : (ℕ → ℕ) → Check
+count_check counts = record { refusal = WrongCount; first = 1; count = 4; fault = λ e. count_fault e (counts e) }
 
-abbrev pub eventCheck : ℕ → (ℕ → Bool) → Check
-eventCheck n fault = record { refusal = WrongEvent; first = 0; count = n; fault = fault }
+abbrev pub event_check : ℕ → (ℕ → Bool) → Check
+event_check n fault = record { refusal = WrongEvent; first = 0; count = n; fault = fault }
 
 -- 1 (place 0), 2 (the entry, 1 to 4), 3 (the entry, or 5 for the end)
-unfoldable pub contentsChecks : List ℕ → List Check
-contentsChecks b =
+unfoldable pub contents_checks : List ℕ → List Check
+contents_checks b =
     (record { refusal = ShortBook; first = 0; count = 1; fault = λ _. ltb (length b) contents })
-    ∷ countCheck (countAt b)
-    ∷ (record { refusal = WrongLayout; first = 1; count = 5; fault = layoutFault b })
+    ∷ count_check (count_at b)
+    ∷ (record { refusal = WrongLayout; first = 1; count = 5; fault = layout_fault b })
     ∷ []
 
 -- 8 (the event), 9 (place 0): four bytes of row space for each event
-unfoldable pub eventChecks : List ℕ → ℕ → List Check
-eventChecks b room =
-    eventCheck (countAt b 3) (recordFault (eventBody b))
-    ∷ (record { refusal = ShortRows; first = 0; count = 1; fault = λ _. ltb room (countAt b 3 * 4) })
+unfoldable pub event_checks : List ℕ → ℕ → List Check
+event_checks b room =
+    event_check (count_at b 3) (record_fault (event_body b))
+    ∷ (record { refusal = ShortRows; first = 0; count = 1; fault = λ _. ltb room (count_at b 3 * 4) })
     ∷ []
 
 -- RULES 5.2: 1 to 7, 24, 8 and 9 in order, each at its first offender
-unfoldable pub checkOf : List ℕ → ℕ → Verdict
-checkOf b room = firstFault (contentsChecks b ++ (loadChecks (tasksOf b) (locksOf b) (usesOf b) ++ eventChecks b room))
+unfoldable pub check_of : List ℕ → ℕ → Verdict
+check_of b room = first_fault (contents_checks b ++ (load_checks (tasks_of b) (locks_of b) (uses_of b) ++ event_checks b room))
 
 -- what a book gives: its plan, and the place of its event body; a blank plan and 0 beside a refusal
-abbrev pub passedCheck : Plan → ℕ → Checked
-passedCheck p events = record { verdict = Verdict.Passed; plan = p; events = events }
+abbrev pub passed_check : Plan → ℕ → Checked
+passed_check p events = record { verdict = Verdict.Passed; plan = p; events = events }
 
-abbrev pub refusedCheck : Refusal → ℕ → Checked
-refusedCheck why place = record { verdict = Verdict.Refused why place; plan = blankPlan; events = 0 }
+abbrev pub refused_check : Refusal → ℕ → Checked
+refused_check why place = record { verdict = Verdict.Refused why place; plan = blank_plan; events = 0 }
 
-unfoldable pub checkedAs : Verdict → List ℕ → Checked
-checkedAs Verdict.Passed b = passedCheck (planIn b) (body_at b 3)
-checkedAs (Verdict.Refused why place) b = refusedCheck why place
+unfoldable pub checked_as : Verdict → List ℕ → Checked
+checked_as Verdict.Passed b = passed_check (plan_in b) (body_at b 3)
+checked_as (Verdict.Refused why place) b = refused_check why place
 
-abbrev pub checkedOf : List ℕ → ℕ → Checked
-checkedOf b room = checkedAs (checkOf b room) b
+abbrev pub checked_of : List ℕ → ℕ → Checked
+checked_of b room = checked_as (check_of b room) b

@@ -22,17 +22,17 @@ id_of (Work a) = 0
 id_of Finish = 0
 id_of Tick = 0
 
-unfoldable pub amountOf : Event → ℕ
-amountOf (Release t) = 0
-amountOf (Acquire l) = 0
-amountOf (Unlock l) = 0
-amountOf (Work a) = a
-amountOf Finish = 0
-amountOf Tick = 0
+unfoldable pub amount_of : Event → ℕ
+amount_of (Release t) = 0
+amount_of (Acquire l) = 0
+amount_of (Unlock l) = 0
+amount_of (Work a) = a
+amount_of Finish = 0
+amount_of Tick = 0
 
 -- 8: no event's kind, something in a field without use, or work of no units
-unfoldable pub eventFault : ℕ → ℕ → ℕ → Bool
-eventFault kind id amount =
+unfoldable pub event_fault : ℕ → ℕ → ℕ → Bool
+event_fault kind id amount =
     if eqb kind 0 then true
     else if leb kind 3 then not (eqb amount 0)
     else if eqb kind 4 then (if eqb id 0 then eqb amount 0 else true)
@@ -40,8 +40,8 @@ eventFault kind id amount =
     else true
 
 -- the event of a record that is not refused
-unfoldable pub eventOf : ℕ → ℕ → ℕ → Event
-eventOf kind id amount =
+unfoldable pub event_of : ℕ → ℕ → ℕ → Event
+event_of kind id amount =
     if eqb kind 1 then Release id
     else if eqb kind 2 then Acquire id
     else if eqb kind 3 then Unlock id
@@ -51,22 +51,22 @@ eventOf kind id amount =
 
 -- ---- a record as one number, low byte first
 
-abbrev pub recordKind : ℕ → ℕ
-recordKind w = w % 256
+abbrev pub record_kind : ℕ → ℕ
+record_kind w = w % 256
 
-abbrev pub recordId : ℕ → ℕ
-recordId w = w / 256 % 256
+abbrev pub record_id : ℕ → ℕ
+record_id w = w / 256 % 256
 
-abbrev pub recordAmount : ℕ → ℕ
-recordAmount w = w / 65536
+abbrev pub record_amount : ℕ → ℕ
+record_amount w = w / 65536
 
 -- whether 8 refuses it, and its event
-unfoldable pub numberFault : ℕ → Bool
-numberFault w = eventFault (recordKind w) (recordId w) (recordAmount w)
+unfoldable pub number_fault : ℕ → Bool
+number_fault w = event_fault (record_kind w) (record_id w) (record_amount w)
 
-unfoldable pub numberEvent : ℕ → Event
-numberEvent w = eventOf (recordKind w) (recordId w) (recordAmount w)
+unfoldable pub number_event : ℕ → Event
+number_event w = event_of (record_kind w) (record_id w) (record_amount w)
 
 -- the number of an event's record
-abbrev pub eventNumber : Event → ℕ
-eventNumber e = kind_of e + id_of e * 256 + amountOf e * 65536
+abbrev pub event_number : Event → ℕ
+event_number e = kind_of e + id_of e * 256 + amount_of e * 65536

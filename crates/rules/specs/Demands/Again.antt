@@ -1,14 +1,14 @@
 -- RULES 14.8: a take of a lock that the running task has open raises nothing and calls nobody, and with its own unlock the state is what it was.
 -- Assumes nothing.
 use Rattle.std.specs.Prelude.{◌≡◌, true, List, ℕ, ◌+◌, ◌<◌, set}
-use Rattle.rules.specs.Numbers.Capacity.{maxTakes, maxAccepted}
+use Rattle.rules.specs.Numbers.Capacity.{max_takes, max_accepted}
 use Rattle.rules.specs.Numbers.Place.{at}
 use Rattle.rules.specs.Numbers.Row.{pushed}
-use Rattle.rules.specs.Numbers.Answer.{answerNumber, answerCalls}
+use Rattle.rules.specs.Numbers.Answer.{answer_number, answer_calls}
 use Rattle.rules.specs.Books.Plan.{Obeys}
-use Rattle.rules.specs.Schedulers.Figures.{figuresOf, holds}
+use Rattle.rules.specs.Schedulers.Figures.{figures_of, holds}
 use Rattle.rules.specs.Replays.Step.{step_of}
-use Rattle.rules.specs.Demands.History.{eagerAt, lazyAt, runnerAt}
+use Rattle.rules.specs.Demands.History.{eager_at, lazy_at, runner_at}
 use Rattle.rules.specs.declared.plan.Plan.{Plan}
 use Rattle.rules.specs.declared.protocol.Protocol.{Protocol}
 use Rattle.rules.specs.declared.state.State.{State}
@@ -60,18 +60,18 @@ later n s =
 -- what is asked of state s, in which the running task has lock l open
 pub record TakenAgain (pr : Protocol) (p : Plan) (s : State) (l : ℕ) : Type 0 where
   -- the acquire of l is accepted where there is room for a take and for an event
-  pub accepts : at s.depth s.head.running < maxTakes → s.head.accepted < maxAccepted → answerNumber (step_of pr p s (Acquire l)).answer ≡ 0
+  pub accepts : at s.depth s.head.running < max_takes → s.head.accepted < max_accepted → answer_number (step_of pr p s (Acquire l)).answer ≡ 0
   -- it raises nothing
-  pub taken : answerNumber (step_of pr p s (Acquire l)).answer ≡ 0
+  pub taken : answer_number (step_of pr p s (Acquire l)).answer ≡ 0
       → RowsOnly s (step_of pr p s (Acquire l)).state × OneMore s (step_of pr p s (Acquire l)).state l
   -- an unlock of l after which it is open still lowers nothing, and calls nobody
-  pub given : answerNumber (step_of pr p s (Unlock l)).answer ≡ 0 → holds (figuresOf (step_of pr p s (Unlock l)).state) s.head.running l ≡ true
-      → RowsOnly s (step_of pr p s (Unlock l)).state × (answerCalls (step_of pr p s (Unlock l)).answer ≡ 0)
+  pub given : answer_number (step_of pr p s (Unlock l)).answer ≡ 0 → holds (figures_of (step_of pr p s (Unlock l)).state) s.head.running l ≡ true
+      → RowsOnly s (step_of pr p s (Unlock l)).state × (answer_calls (step_of pr p s (Unlock l)).answer ≡ 0)
   -- one after the other they change nothing but the count of accepted events
-  pub undone : answerNumber (step_of pr p s (Acquire l)).answer ≡ 0 → answerNumber (step_of pr p (step_of pr p s (Acquire l)).state (Unlock l)).answer ≡ 0
+  pub undone : answer_number (step_of pr p s (Acquire l)).answer ≡ 0 → answer_number (step_of pr p (step_of pr p s (Acquire l)).state (Unlock l)).answer ≡ 0
       → (step_of pr p (step_of pr p s (Acquire l)).state (Unlock l)).state ≡ later 2 s
 
 -- by either protocol, at every place of every list from a fresh start
 abbrev pub Again : Type 0
-Again = (pr : Protocol) (p : Plan) → Obeys p → (es : List Event) (k l : ℕ) → holds (eagerAt p es k) (runnerAt p es k) l ≡ true
-    → TakenAgain pr p (lazyAt pr p es k) l
+Again = (pr : Protocol) (p : Plan) → Obeys p → (es : List Event) (k l : ℕ) → holds (eager_at p es k) (runner_at p es k) l ≡ true
+    → TakenAgain pr p (lazy_at pr p es k) l

@@ -1,37 +1,37 @@
 -- RULES 18.1, 18.2, 18.6 to 18.8 and 18.10 to 18.12: the crane plan and its runs P1 to P12, one for the calls, those with takes of an open lock, by both
 -- protocols, the plan with other users and other maxima, and the kernel's cut, as one table under one claim. Assumes nothing.
 use Rattle.std.specs.Prelude.{Bool, true, false, ◌&&◌, List, [], ◌∷◌, ◌++◌, ℕ, suc, T, eqb, length, replicate, take, drop}
-use Rattle.rules.specs.Numbers.Choice.{if◌then◌else◌, allTrue}
-use Rattle.rules.specs.Numbers.Place.{every, any, count, greatest, firstFrom, from, tabulate, renewed, zeros}
-use Rattle.rules.specs.Numbers.Refusal.{number_of, firstTrue, found, firstFault}
-use Rattle.rules.specs.Numbers.Answer.{answerNumber, verdictNumber, verdictPlace}
-use Rattle.rules.specs.Books.Event.{eventFault, eventOf, numberFault}
-use Rattle.rules.specs.Numbers.Mask.{hasBit, withBit}
-use Rattle.rules.specs.Books.Plan.{most, countFault, taskFault, lockFault, declares, users, usersBase, usersFault, ceilingFault}
-use Rattle.rules.specs.Books.Plan.{maximumFault, aboveFault}
-use Rattle.rules.specs.Books.Load.{taskFaultAt, lockFaultAt, countFaultOf, useFault, useAbove, masksOf, plan_of, recordChecks, loadChecks, loadedAs, load_of}
-use Rattle.rules.specs.Books.Book.{size_of, body_at, layoutFault, contentsChecks, eventChecks, checkOf}
-use Rattle.rules.specs.Books.Bytes.{word_bytes, longBytes, bookOf}
-use Rattle.rules.specs.Books.Write.{wholeChecks, writeChecks, wroteAs, writeOf}
+use Rattle.rules.specs.Numbers.Choice.{if◌then◌else◌, all_true}
+use Rattle.rules.specs.Numbers.Place.{every, any, count, greatest, first_from, from, tabulate, renewed, zeros}
+use Rattle.rules.specs.Numbers.Refusal.{number_of, first_true, found, first_fault}
+use Rattle.rules.specs.Numbers.Answer.{answer_number, verdict_number, verdict_place}
+use Rattle.rules.specs.Books.Event.{event_fault, event_of, number_fault}
+use Rattle.rules.specs.Numbers.Mask.{has_bit, with_bit}
+use Rattle.rules.specs.Books.Plan.{most, count_fault, task_fault, lock_fault, declares, users, users_base, users_fault, ceiling_fault}
+use Rattle.rules.specs.Books.Plan.{maximum_fault, above_fault}
+use Rattle.rules.specs.Books.Load.{task_fault_at, lock_fault_at, count_fault_of, use_fault, use_above, masks_of, plan_of, record_checks, load_checks, loaded_as, load_of}
+use Rattle.rules.specs.Books.Book.{size_of, body_at, layout_fault, contents_checks, event_checks, check_of}
+use Rattle.rules.specs.Books.Bytes.{word_bytes, long_bytes, book_of}
+use Rattle.rules.specs.Books.Write.{whole_checks, write_checks, wrote_as, write_of}
 use Rattle.rules.specs.Schedulers.State.{fresh_of}
 use Rattle.rules.specs.Numbers.Row.{has, priority, saves}
-use Rattle.rules.specs.Schedulers.Figures.{Figures, holds, priorityOf, rank_of}
+use Rattle.rules.specs.Schedulers.Figures.{Figures, holds, priority_of, rank_of}
 use Rattle.rules.specs.Schedulers.Elect.{earlier, earliest, elected}
-use Rattle.rules.specs.Schedulers.EventRefusals.{elsewhere, notNewest, pastLimit, testsOf, releaseOrder}
-use Rattle.rules.specs.Schedulers.EventRefusals.{acquireOrder, unlockOrder, workOrder, finishOrder, refusalOf}
-use Rattle.rules.specs.Schedulers.FiguresAfter.{differs, eagerCalls, staysOpen, left_of, charged, delayed, figuresAfter}
-use Rattle.rules.specs.Schedulers.Eager.{runningOf, settle, eagerTest, eagerStep}
-use Rattle.rules.specs.Schedulers.Protocol.{secondWord}
-use Rattle.rules.specs.Schedulers.Lazy.{Words, callsFor, cut_to, entering, runsOn, switched, stays, afterRelease, afterAcquire}
-use Rattle.rules.specs.Schedulers.Lazy.{restored, leaves, afterUnlock, wordsAfter, lazyCall}
-use Rattle.rules.specs.Soundness.Sound.{keptOf, savedOf, ownerOf}
-use Rattle.rules.specs.Soundness.SoundTest.{taskObeys, lockObeys, spareObeys, obeys, rowTest, ownTest, numberNew}
-use Rattle.rules.specs.Soundness.SoundTest.{numberTest, taskTest, lockTest, runsTest, secondTest, headTest, spareTest, soundTest}
-use Rattle.rules.specs.Replays.Step.{after_of, answered, actOf, step_of}
+use Rattle.rules.specs.Schedulers.EventRefusals.{elsewhere, not_newest, past_limit, tests_of, release_order}
+use Rattle.rules.specs.Schedulers.EventRefusals.{acquire_order, unlock_order, work_order, finish_order, refusal_of}
+use Rattle.rules.specs.Schedulers.FiguresAfter.{differs, eager_calls, stays_open, left_of, charged, delayed, figures_after}
+use Rattle.rules.specs.Schedulers.Eager.{running_of, settle, eager_test, eager_step}
+use Rattle.rules.specs.Schedulers.Protocol.{second_word}
+use Rattle.rules.specs.Schedulers.Lazy.{Words, calls_for, cut_to, entering, runs_on, switched, stays, after_release, after_acquire}
+use Rattle.rules.specs.Schedulers.Lazy.{restored, leaves, after_unlock, words_after, lazy_call}
+use Rattle.rules.specs.Soundness.Sound.{kept_of, saved_of, owner_of}
+use Rattle.rules.specs.Soundness.SoundTest.{task_obeys, lock_obeys, spare_obeys, obeys, row_test, own_test, number_new}
+use Rattle.rules.specs.Soundness.SoundTest.{number_test, task_test, lock_test, runs_test, second_test, head_test, spare_test, sound_test}
+use Rattle.rules.specs.Replays.Step.{after_of, answered, act_of, step_of}
 use Rattle.rules.specs.Replays.Run.{with_row, onward, run_from}
-use Rattle.rules.specs.Replays.Replay.{replayAs, replayOf}
-use Rattle.rules.specs.Demands.History.{eagerAt, lazyAt, runnerAt}
-use Rattle.rules.specs.Demands.Bound.{lowerAt, lowerUser, mayBlock, limitIf, longestLimit, boundOf}
+use Rattle.rules.specs.Replays.Replay.{replay_as, replay_of}
+use Rattle.rules.specs.Demands.History.{eager_at, lazy_at, runner_at}
+use Rattle.rules.specs.Demands.Bound.{lower_at, lower_user, may_block, limit_if, longest_limit, bound_of}
 use Rattle.rules.specs.declared.plan.Plan.{Plan}
 use Rattle.rules.specs.declared.protocol.Protocol.{Protocol}
 use Rattle.rules.specs.declared.protocol.Protocol.TheVariants.{Second, First}
@@ -43,20 +43,20 @@ use Rattle.rules.specs.declared.answer.Verdict.{Verdict}
 
 -- RULES 18.1: the maximum and base of four tasks; the limit and ceiling of two locks; the lock and task of four uses; and the events of P1: amount, id and
 -- kind
-taskNumbers : List ℕ
-taskNumbers = 0x0501 ∷ 0x0503 ∷ 0x0505 ∷ 0x0707 ∷ []
+task_numbers : List ℕ
+task_numbers = 0x0501 ∷ 0x0503 ∷ 0x0505 ∷ 0x0707 ∷ []
 
-lockNumbers : List ℕ
-lockNumbers = 0x4_0005 ∷ 0xa_0003 ∷ []
+lock_numbers : List ℕ
+lock_numbers = 0x4_0005 ∷ 0xa_0003 ∷ []
 
-useNumbers : List ℕ
-useNumbers = 0x0000 ∷ 0x0100 ∷ 0x0101 ∷ 0x0002 ∷ []
+use_numbers : List ℕ
+use_numbers = 0x0000 ∷ 0x0100 ∷ 0x0101 ∷ 0x0002 ∷ []
 
-eventNumbers : List ℕ
-eventNumbers = 0x0001 ∷ 0x0002 ∷ 0x0101 ∷ 0x2_0004 ∷ 0x0003 ∷ 0x0005 ∷ 0x0005 ∷ []
+event_numbers : List ℕ
+event_numbers = 0x0001 ∷ 0x0002 ∷ 0x0101 ∷ 0x2_0004 ∷ 0x0003 ∷ 0x0005 ∷ 0x0005 ∷ []
 
 crane : Plan
-crane = plan_of taskNumbers lockNumbers useNumbers
+crane = plan_of task_numbers lock_numbers use_numbers
 
 -- RULES 18.11: the plan of the paper's run: a task at 1, and locks at 2 and 3
 paper : Plan
@@ -94,8 +94,8 @@ data Case : Type 0 where
   write : List ℕ → ℕ → List ℕ → List ℕ → Case
   -- the crane's locks with these tasks, uses and events: the number and the place that a load of the plan, the check of the book and the writer give, and the
   -- number of a tick in a fresh state
-  withPlan : (tasks uses : List ℕ) → ℕ → ℕ → ℕ → Case
-  withBook : (tasks uses events : List ℕ) → ℕ → ℕ → Case
+  with_plan : (tasks uses : List ℕ) → ℕ → ℕ → ℕ → Case
+  with_book : (tasks uses events : List ℕ) → ℕ → ℕ → Case
   -- words that no rule gives, so that there is something to cut: task 0, of maximum 5, runs with this user word, second word and saved word, and task 1 waits
   -- at 3. Who runs after an event, the user and the second word (by the first protocol the last of them), the lazy calls, and what is kept for the four tasks
   words : (user second saved : ℕ) → Event → List ℕ → ℕ → Case
@@ -132,23 +132,23 @@ sames pr (x ∷ xs) (y ∷ ys) = same x (row_by pr y) && sames pr xs ys
 
 -- the running task of the one scheduler is that of the other at place k
 agree : Protocol → Plan → List Event → ℕ → Bool
-agree pr p es k = eqb (lazyAt pr p es k).head.running (runnerAt p es k)
+agree pr p es k = eqb (lazy_at pr p es k).head.running (runner_at p es k)
 
 -- the run of a list by the one protocol, with its end in two parts
-ranRight : Protocol → Plan → List Event → List (List ℕ) → List ℕ → List ℕ → Bool
-ranRight pr p es rows end rest =
-    sames pr (rows_of pr p fresh_of es) rows && same (end_of (lazyAt pr p es (length es))) (row_by pr end ++ rest) && every (agree pr p es) (suc (length es))
+ran_right : Protocol → Plan → List Event → List (List ℕ) → List ℕ → List ℕ → Bool
+ran_right pr p es rows end rest =
+    sames pr (rows_of pr p fresh_of es) rows && same (end_of (lazy_at pr p es (length es))) (row_by pr end ++ rest) && every (agree pr p es) (suc (length es))
 
 -- a verdict has this number and place
 given : ℕ → ℕ → Verdict → Bool
-given number place v = same (verdictNumber v ∷ verdictPlace v ∷ []) (number ∷ place ∷ [])
+given number place v = same (verdict_number v ∷ verdict_place v ∷ []) (number ∷ place ∷ [])
 
-bookRight : (tasks uses events : List ℕ) → ℕ → ℕ → Bool
-bookRight tasks uses events number place =
-    given number place (checkOf (bookOf tasks lockNumbers uses events) 28) && given number place (writeOf tasks lockNumbers uses events (replicate 84 7)).verdict
+book_right : (tasks uses events : List ℕ) → ℕ → ℕ → Bool
+book_right tasks uses events number place =
+    given number place (check_of (book_of tasks lock_numbers uses events) 28) && given number place (write_of tasks lock_numbers uses events (replicate 84 7)).verdict
 
-wordsWith : (user second saved : ℕ) → Words
-wordsWith user second saved =
+words_with : (user second saved : ℕ) → Words
+words_with user second saved =
     record {
       running = 0;
       user = user;
@@ -160,8 +160,8 @@ wordsWith user second saved =
     }
 
 -- beside figures in which task 0 has one take, of lock 0
-oneTake : Figures
-oneTake =
+one_take : Figures
+one_take =
     record {
       accepted = 2;
       eager = 0;
@@ -172,25 +172,25 @@ oneTake =
       units = replicate 2 0;
     }
 
-wordsRight : Protocol → Words → Event → List ℕ
-wordsRight pr w e =
-    let v = wordsAfter pr crane oneTake (1 ∷ 2 ∷ 3 ∷ 3 ∷ []) w e in v.running ∷ v.user ∷ v.next ∷ v.lazy ∷ v.kept
+words_right : Protocol → Words → Event → List ℕ
+words_right pr w e =
+    let v = words_after pr crane one_take (1 ∷ 2 ∷ 3 ∷ 3 ∷ []) w e in v.running ∷ v.user ∷ v.next ∷ v.lazy ∷ v.kept
 
 right : Case → Bool
-right (run p es rows end rest) = ranRight Second p es rows end rest && ranRight First p es rows end rest
-right (bounds bs) = same (tabulate 4 (boundOf crane)) bs
+right (run p es rows end rest) = ran_right Second p es rows end rest && ran_right First p es rows end rest
+right (bounds bs) = same (tabulate 4 (bound_of crane)) bs
 right (replay pr b rows end) =
-    let r = replayOf pr b (replicate (length rows) 0) in eqb (verdictNumber r.verdict) 0 && same r.rows rows && same (end_of r.state) end
+    let r = replay_of pr b (replicate (length rows) 0) in eqb (verdict_number r.verdict) 0 && same r.rows rows && same (end_of r.state) end
 right (write events room answer bytes) =
-    let w = writeOf taskNumbers lockNumbers useNumbers events (replicate room 7) in
-    same (verdictNumber w.verdict ∷ verdictPlace w.verdict ∷ w.length ∷ []) answer && same w.bytes bytes
-right (withPlan tasks uses number place tick) =
-    given number place (load_of tasks lockNumbers uses).verdict && bookRight tasks uses eventNumbers number place
-    && eqb (answerNumber (step_of Second (plan_of tasks lockNumbers uses) fresh_of Tick).answer) tick
-right (withBook tasks uses events number place) = bookRight tasks uses events number place
+    let w = write_of task_numbers lock_numbers use_numbers events (replicate room 7) in
+    same (verdict_number w.verdict ∷ verdict_place w.verdict ∷ w.length ∷ []) answer && same w.bytes bytes
+right (with_plan tasks uses number place tick) =
+    given number place (load_of tasks lock_numbers uses).verdict && book_right tasks uses event_numbers number place
+    && eqb (answer_number (step_of Second (plan_of tasks lock_numbers uses) fresh_of Tick).answer) tick
+right (with_book tasks uses events number place) = book_right tasks uses events number place
 right (words user second saved e after kernelWord) =
-    same (wordsRight Second (wordsWith user second saved) e) after
-    && same (wordsRight First (wordsWith user second saved) e) (take 2 after ++ kernelWord ∷ drop 3 after)
+    same (words_right Second (words_with user second saved) e) after
+    && same (words_right First (words_with user second saved) e) (take 2 after ++ kernelWord ∷ drop 3 after)
 
 all : List Case → Bool
 all [] = true
@@ -206,9 +206,9 @@ cases =
     (0 ∷ 1 ∷ 1 ∷ 0 ∷ 0 ∷ 5 ∷ 1 ∷ 0 ∷ 0 ∷ 5 ∷ 5 ∷ 0 ∷ 0 ∷ 5 ∷ 5 ∷ 0 ∷ 1 ∷ 3 ∷ 3 ∷ 1 ∷ 0 ∷ 1 ∷ 1 ∷ 0 ∷ 255 ∷ 0 ∷ 0 ∷ 0 ∷ [])
     (255 ∷ 0 ∷ 0 ∷ 1 ∷ 2 ∷ 0 ∷ 2 ∷ 0 ∷ 0 ∷ [])
     -- that book, written: into a buffer with two bytes more, and into one that is a byte too short; and with a last event of no kind, whose 8 comes before 23
-    ∷ write eventNumbers 86 (0 ∷ 0 ∷ 84 ∷ []) (book ++ replicate 2 7)
-    ∷ write eventNumbers 83 (23 ∷ 0 ∷ 0 ∷ []) (replicate 83 7)
-    ∷ write (eventNumbers ++ 0x0007 ∷ []) 83 (8 ∷ 7 ∷ 0 ∷ []) (replicate 83 7)
+    ∷ write event_numbers 86 (0 ∷ 0 ∷ 84 ∷ []) (book ++ replicate 2 7)
+    ∷ write event_numbers 83 (23 ∷ 0 ∷ 0 ∷ []) (replicate 83 7)
+    ∷ write (event_numbers ++ 0x0007 ∷ []) 83 (8 ∷ 7 ∷ 0 ∷ []) (replicate 83 7)
     ∷ run crane (Release 0 ∷ Acquire 0 ∷ Release 1 ∷ Work 2 ∷ Unlock 0 ∷ Finish ∷ Finish ∷ [])
     ((0 ∷ 1 ∷ 0 ∷ 0 ∷ 1 ∷ 0 ∷ []) ∷ (0 ∷ 5 ∷ 0 ∷ 0 ∷ 1 ∷ 0 ∷ []) ∷ (0 ∷ 5 ∷ 3 ∷ 0 ∷ 5 ∷ 0 ∷ []) ∷ (0 ∷ 5 ∷ 3 ∷ 0 ∷ 5 ∷ 0 ∷ [])
     ∷ (1 ∷ 3 ∷ 1 ∷ 1 ∷ 3 ∷ 1 ∷ []) ∷ (0 ∷ 1 ∷ 0 ∷ 0 ∷ 1 ∷ 0 ∷ []) ∷ (255 ∷ 0 ∷ 0 ∷ 0 ∷ 0 ∷ 0 ∷ []) ∷ [])
@@ -308,25 +308,25 @@ cases =
     (0 ∷ 1 ∷ 0 ∷ 1 ∷ 1 ∷ 1 ∷ []) (4 ∷ 0 ∷ 10 ∷ 0 ∷ 0 ∷ [])
     -- RULES 18.8: two users for each lock; lock 0 without any, with task 2 alone, whose base is the ceiling, and with task 0 alone; the same of lock 1, with
     -- task 1 alone and with task 0 alone
-    ∷ withPlan taskNumbers useNumbers 0 0 0
-    ∷ withPlan taskNumbers (0x0100 ∷ 0x0101 ∷ []) 7 0 10
-    ∷ withPlan taskNumbers (0x0100 ∷ 0x0101 ∷ 0x0002 ∷ []) 7 0 10
-    ∷ withPlan taskNumbers (0x0000 ∷ 0x0100 ∷ 0x0101 ∷ []) 7 0 10
-    ∷ withPlan taskNumbers (0x0000 ∷ 0x0002 ∷ []) 7 1 10
-    ∷ withPlan taskNumbers (0x0000 ∷ 0x0101 ∷ 0x0002 ∷ []) 7 1 10
-    ∷ withPlan taskNumbers (0x0000 ∷ 0x0100 ∷ 0x0002 ∷ []) 7 1 10
+    ∷ with_plan task_numbers use_numbers 0 0 0
+    ∷ with_plan task_numbers (0x0100 ∷ 0x0101 ∷ []) 7 0 10
+    ∷ with_plan task_numbers (0x0100 ∷ 0x0101 ∷ 0x0002 ∷ []) 7 0 10
+    ∷ with_plan task_numbers (0x0000 ∷ 0x0100 ∷ 0x0101 ∷ []) 7 0 10
+    ∷ with_plan task_numbers (0x0000 ∷ 0x0002 ∷ []) 7 1 10
+    ∷ with_plan task_numbers (0x0000 ∷ 0x0101 ∷ 0x0002 ∷ []) 7 1 10
+    ∷ with_plan task_numbers (0x0000 ∷ 0x0100 ∷ 0x0002 ∷ []) 7 1 10
     -- RULES 18.10: the least maxima that pass, and the greatest; task 3's one below its base. Then lock 0, of ceiling 5, above the maximum 4 of a user: of task
     -- 0, by the first use; of task 1, which may take it too, by a middle one; and of task 3, by the last one, with other bases
-    ∷ withPlan (0x0501 ∷ 0x0303 ∷ 0x0505 ∷ 0x0707 ∷ []) useNumbers 0 0 0
-    ∷ withPlan (0xff01 ∷ 0xff03 ∷ 0xff05 ∷ 0xff07 ∷ []) useNumbers 0 0 0
-    ∷ withPlan (0x0501 ∷ 0x0503 ∷ 0x0505 ∷ 0x0607 ∷ []) useNumbers 4 3 10
-    ∷ withPlan (0x0401 ∷ 0x0503 ∷ 0x0505 ∷ 0x0707 ∷ []) useNumbers 24 0 10
-    ∷ withPlan (0x0501 ∷ 0x0403 ∷ 0x0505 ∷ 0x0707 ∷ []) (0x0000 ∷ 0x0100 ∷ 0x0001 ∷ 0x0101 ∷ 0x0002 ∷ []) 24 2 10
-    ∷ withPlan (0x0503 ∷ 0x0301 ∷ 0x0505 ∷ 0x0403 ∷ []) (0x0000 ∷ 0x0100 ∷ 0x0101 ∷ 0x0002 ∷ 0x0003 ∷ []) 24 4 10
+    ∷ with_plan (0x0501 ∷ 0x0303 ∷ 0x0505 ∷ 0x0707 ∷ []) use_numbers 0 0 0
+    ∷ with_plan (0xff01 ∷ 0xff03 ∷ 0xff05 ∷ 0xff07 ∷ []) use_numbers 0 0 0
+    ∷ with_plan (0x0501 ∷ 0x0503 ∷ 0x0505 ∷ 0x0607 ∷ []) use_numbers 4 3 10
+    ∷ with_plan (0x0401 ∷ 0x0503 ∷ 0x0505 ∷ 0x0707 ∷ []) use_numbers 24 0 10
+    ∷ with_plan (0x0501 ∷ 0x0403 ∷ 0x0505 ∷ 0x0707 ∷ []) (0x0000 ∷ 0x0100 ∷ 0x0001 ∷ 0x0101 ∷ 0x0002 ∷ []) 24 2 10
+    ∷ with_plan (0x0503 ∷ 0x0301 ∷ 0x0505 ∷ 0x0403 ∷ []) (0x0000 ∷ 0x0100 ∷ 0x0101 ∷ 0x0002 ∷ 0x0003 ∷ []) 24 4 10
     -- 4 comes before it, and so does 7: lock 1 has one user; and it comes before 8: an event of no kind
-    ∷ withPlan (0x0401 ∷ 0x0203 ∷ 0x0505 ∷ 0x0707 ∷ []) useNumbers 4 1 10
-    ∷ withPlan (0x0401 ∷ 0x0503 ∷ 0x0505 ∷ 0x0707 ∷ []) (0x0000 ∷ 0x0101 ∷ 0x0002 ∷ []) 7 1 10
-    ∷ withBook (0x0401 ∷ 0x0503 ∷ 0x0505 ∷ 0x0707 ∷ []) useNumbers (0x0007 ∷ []) 24 0
+    ∷ with_plan (0x0401 ∷ 0x0203 ∷ 0x0505 ∷ 0x0707 ∷ []) use_numbers 4 1 10
+    ∷ with_plan (0x0401 ∷ 0x0503 ∷ 0x0505 ∷ 0x0707 ∷ []) (0x0000 ∷ 0x0101 ∷ 0x0002 ∷ []) 7 1 10
+    ∷ with_book (0x0401 ∷ 0x0503 ∷ 0x0505 ∷ 0x0707 ∷ []) use_numbers (0x0007 ∷ []) 24 0
     -- RULES 9.11: a tick cuts 9 to 5, and leaves 5; a newcomer of base 5 does not switch, and one of base 7 does, so that 5 is kept; a finish switches as ever;
     -- an unlock that calls with 8 keeps 5, so that task 0 runs on with it
     ∷ words 9 3 1 Tick (0 ∷ 5 ∷ 3 ∷ 0 ∷ 0 ∷ 3 ∷ 0 ∷ 0 ∷ []) 5
@@ -342,17 +342,17 @@ cases =
     ∷ []
 
 table : T (all cases)
-unfolding taskNumbers lockNumbers useNumbers eventNumbers crane paper book end_of row_by row_of rows_of same sames agree ranRight given bookRight wordsWith oneTake
-    wordsRight right all cases
-    if◌then◌else◌ allTrue every any count greatest firstFrom from renewed zeros number_of firstTrue found firstFault answerNumber verdictNumber verdictPlace
-    eventFault eventOf numberFault hasBit withBit
-    most countFault taskFault lockFault declares users usersBase usersFault ceilingFault maximumFault aboveFault taskFaultAt lockFaultAt countFaultOf
-    useFault useAbove masksOf plan_of
-    recordChecks loadChecks loadedAs load_of size_of body_at layoutFault contentsChecks eventChecks checkOf
-    word_bytes longBytes bookOf wholeChecks writeChecks wroteAs writeOf
-    has priority saves holds priorityOf rank_of earlier earliest elected elsewhere notNewest pastLimit testsOf releaseOrder acquireOrder unlockOrder workOrder
-    finishOrder refusalOf differs eagerCalls staysOpen left_of charged delayed figuresAfter runningOf settle eagerTest eagerStep
-    secondWord callsFor cut_to entering runsOn switched stays afterRelease afterAcquire restored leaves afterUnlock wordsAfter lazyCall keptOf savedOf ownerOf
-    taskObeys lockObeys spareObeys obeys rowTest ownTest numberNew numberTest taskTest lockTest runsTest secondTest headTest spareTest soundTest
-    after_of answered actOf step_of with_row onward run_from replayAs replayOf eagerAt lazyAt lowerAt lowerUser mayBlock limitIf longestLimit
+unfolding task_numbers lock_numbers use_numbers event_numbers crane paper book end_of row_by row_of rows_of same sames agree ran_right given book_right words_with one_take
+    words_right right all cases
+    if◌then◌else◌ all_true every any count greatest first_from from renewed zeros number_of first_true found first_fault answer_number verdict_number verdict_place
+    event_fault event_of number_fault has_bit with_bit
+    most count_fault task_fault lock_fault declares users users_base users_fault ceiling_fault maximum_fault above_fault task_fault_at lock_fault_at count_fault_of
+    use_fault use_above masks_of plan_of
+    record_checks load_checks loaded_as load_of size_of body_at layout_fault contents_checks event_checks check_of
+    word_bytes long_bytes book_of whole_checks write_checks wrote_as write_of
+    has priority saves holds priority_of rank_of earlier earliest elected elsewhere not_newest past_limit tests_of release_order acquire_order unlock_order work_order
+    finish_order refusal_of differs eager_calls stays_open left_of charged delayed figures_after running_of settle eager_test eager_step
+    second_word calls_for cut_to entering runs_on switched stays after_release after_acquire restored leaves after_unlock words_after lazy_call kept_of saved_of owner_of
+    task_obeys lock_obeys spare_obeys obeys row_test own_test number_new number_test task_test lock_test runs_test second_test head_test spare_test sound_test
+    after_of answered act_of step_of with_row onward run_from replay_as replay_of eager_at lazy_at lower_at lower_user may_block limit_if longest_limit
 table = tt

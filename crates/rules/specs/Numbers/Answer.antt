@@ -15,46 +15,46 @@ passes Tested.Passed = true
 passes (Tested.Refused why) = false
 
 -- the refusal's number, and 0 where nothing is refused
-unfoldable pub testedNumber : Tested → ℕ
-testedNumber Tested.Passed = 0
-testedNumber (Tested.Refused why) = number_of why
+unfoldable pub tested_number : Tested → ℕ
+tested_number Tested.Passed = 0
+tested_number (Tested.Refused why) = number_of why
 
-unfoldable pub answerNumber : Answer → ℕ
-answerNumber (Answer.Accepted call) = 0
-answerNumber (Answer.Refused why) = number_of why
+unfoldable pub answer_number : Answer → ℕ
+answer_number (Answer.Accepted call) = 0
+answer_number (Answer.Refused why) = number_of why
 
 -- the lazy calls of a step: 1 where it called the kernel
-unfoldable pub answerCalls : Answer → ℕ
-answerCalls (Answer.Accepted call) = if call then 1 else 0
-answerCalls (Answer.Refused why) = 0
+unfoldable pub answer_calls : Answer → ℕ
+answer_calls (Answer.Accepted call) = if call then 1 else 0
+answer_calls (Answer.Refused why) = 0
 
 -- the refusal's number and its place; both 0 where nothing is refused
-unfoldable pub verdictNumber : Verdict → ℕ
-verdictNumber Verdict.Passed = 0
-verdictNumber (Verdict.Refused why place) = number_of why
+unfoldable pub verdict_number : Verdict → ℕ
+verdict_number Verdict.Passed = 0
+verdict_number (Verdict.Refused why place) = number_of why
 
-unfoldable pub verdictPlace : Verdict → ℕ
-verdictPlace Verdict.Passed = 0
-verdictPlace (Verdict.Refused why place) = place
+unfoldable pub verdict_place : Verdict → ℕ
+verdict_place Verdict.Passed = 0
+verdict_place (Verdict.Refused why place) = place
 
 -- what a reader finds at a place: whether there is an event, which one (a tick where there is none) and the next place
-unfoldable pub foundSome : Found → Bool
-foundSome (Found.Got e next) = true
-foundSome (Found.Refused why place) = false
-foundSome Found.End = false
+unfoldable pub found_some : Found → Bool
+found_some (Found.Got e next) = true
+found_some (Found.Refused why place) = false
+found_some Found.End = false
 
-unfoldable pub foundEvent : Found → Event
-foundEvent (Found.Got e next) = e
-foundEvent (Found.Refused why place) = Tick
-foundEvent Found.End = Tick
+unfoldable pub found_event : Found → Event
+found_event (Found.Got e next) = e
+found_event (Found.Refused why place) = Tick
+found_event Found.End = Tick
 
-unfoldable pub foundNext : Found → ℕ
-foundNext (Found.Got e next) = next
-foundNext (Found.Refused why place) = 0
-foundNext Found.End = 0
+unfoldable pub found_next : Found → ℕ
+found_next (Found.Got e next) = next
+found_next (Found.Refused why place) = 0
+found_next Found.End = 0
 
 -- the number of a record that is refused, and 0 for an event or the end
-unfoldable pub foundNumber : Found → ℕ
-foundNumber (Found.Got e next) = 0
-foundNumber (Found.Refused why place) = number_of why
-foundNumber Found.End = 0
+unfoldable pub found_number : Found → ℕ
+found_number (Found.Got e next) = 0
+found_number (Found.Refused why place) = number_of why
+found_number Found.End = 0

@@ -2,8 +2,8 @@
 use Rattle.std.specs.Prelude.{Bool, ℕ, ◌+◌, ◌/◌, ◌%◌, ◌^◌, eqb}
 use Rattle.rules.specs.Numbers.Choice.{if◌then◌else◌}
 
-unfoldable pub hasBit : ℕ → ℕ → Bool
-hasBit mask l = eqb (mask / 2 ^ l % 2) 1
+unfoldable pub has_bit : ℕ → ℕ → Bool
+has_bit mask l = eqb (mask / 2 ^ l % 2) 1
 
-unfoldable pub withBit : ℕ → ℕ → ℕ
-withBit mask l = if hasBit mask l then mask else mask + 2 ^ l
+unfoldable pub with_bit : ℕ → ℕ → ℕ
+with_bit mask l = if has_bit mask l then mask else mask + 2 ^ l

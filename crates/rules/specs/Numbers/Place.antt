@@ -27,8 +27,8 @@ sum f zero = 0
 sum f (suc k) = sum f k + f k
 
 -- f (i + 1) + f (i + 2) + .. + f (n - 1)
-unfoldable pub sumAfter : ℕ → (ℕ → ℕ) → ℕ → ℕ
-sumAfter i f n = sum (λ k. if ltb i k then f k else 0) n
+unfoldable pub sum_after : ℕ → (ℕ → ℕ) → ℕ → ℕ
+sum_after i f n = sum (λ k. if ltb i k then f k else 0) n
 
 -- the greatest of f 0, f 1, .., f (n - 1), and 0 without any
 unfoldable pub greatest : (ℕ → ℕ) → ℕ → ℕ
@@ -36,9 +36,9 @@ greatest f zero = 0
 greatest f (suc k) = max (greatest f k) (f k)
 
 -- the first of `left` places from place i on at which f holds, or the place after them all
-unfoldable pub firstFrom : (ℕ → Bool) → ℕ → ℕ → ℕ
-firstFrom f i zero = i
-firstFrom f i (suc left) = if f i then i else firstFrom f (suc i) left
+unfoldable pub first_from : (ℕ → Bool) → ℕ → ℕ → ℕ
+first_from f i zero = i
+first_from f i (suc left) = if f i then i else first_from f (suc i) left
 
 -- f i, f (i + 1), .., n of them
 unfoldable pub from : {X : Type 0} → (ℕ → X) → ℕ → ℕ → List X

@@ -1,7 +1,7 @@
 -- RULES 5.1: the refusal numbers, all in this place, and how a list of tests in order gives one. Assumes nothing.
 use Rattle.std.specs.Prelude.{◌≡◌, Bool, true, false, List, [], ◌∷◌, ℕ, ◌+◌, ◌-◌, ◌<◌, eqb, ltb}
 use Rattle.rules.specs.Numbers.Choice.{if◌then◌else◌}
-use Rattle.rules.specs.Numbers.Place.{firstFrom}
+use Rattle.rules.specs.Numbers.Place.{first_from}
 use Rattle.rules.specs.declared.refusal.Refusal.{Refusal}
 use Rattle.rules.specs.declared.answer.Tested.{Tested}
 use Rattle.rules.specs.declared.answer.Verdict.{Verdict}
@@ -64,23 +64,23 @@ unfoldable pub place_of : Refusal → ℕ
 place_of why = if ltb (number_of why) 16 then number_of why else number_of why - 1
 
 -- tests in order, each with its refusal: the first that holds refuses
-unfoldable pub firstTrue : List (Bool × Refusal) → Tested
-firstTrue [] = Tested.Passed
-firstTrue (t ∷ ts) = if t.0 then Tested.Refused t.1 else firstTrue ts
+unfoldable pub first_true : List (Bool × Refusal) → Tested
+first_true [] = Tested.Passed
+first_true (t ∷ ts) = if t.0 then Tested.Refused t.1 else first_true ts
 
 -- a refusal is known by its number
-abbrev pub sameNumber : Refusal → Refusal → Bool
-sameNumber a b = eqb (number_of a) (number_of b)
+abbrev pub same_number : Refusal → Refusal → Bool
+same_number a b = eqb (number_of a) (number_of b)
 
 -- of tests in order the one that gives this refusal, by whether it holds; false where none gives it
-unfoldable pub testFor : Refusal → List (Bool × Refusal) → Bool
-testFor why [] = false
-testFor why (t ∷ ts) = if sameNumber t.1 why then t.0 else testFor why ts
+unfoldable pub test_for : Refusal → List (Bool × Refusal) → Bool
+test_for why [] = false
+test_for why (t ∷ ts) = if same_number t.1 why then t.0 else test_for why ts
 
 -- the tests before it
-unfoldable pub testsBefore : Refusal → List (Bool × Refusal) → List (Bool × Refusal)
-testsBefore why [] = []
-testsBefore why (t ∷ ts) = if sameNumber t.1 why then [] else t ∷ testsBefore why ts
+unfoldable pub tests_before : Refusal → List (Bool × Refusal) → List (Bool × Refusal)
+tests_before why [] = []
+tests_before why (t ∷ ts) = if same_number t.1 why then [] else t ∷ tests_before why ts
 
 -- what tests come to is this refusal
 pub record Given (why : Refusal) (tested : Tested) : Type 0 where
@@ -100,19 +100,19 @@ unfoldable pub found : Check → ℕ → Verdict → Verdict
 found c i rest = if ltb i c.count then Verdict.Refused c.refusal (c.first + i) else rest
 
 -- checks in order: the first that finds an offender refuses, at the first place where it does
-unfoldable pub firstFault : List Check → Verdict
-firstFault [] = Verdict.Passed
-firstFault (c ∷ cs) = found c (firstFrom c.fault 0 c.count) (firstFault cs)
+unfoldable pub first_fault : List Check → Verdict
+first_fault [] = Verdict.Passed
+first_fault (c ∷ cs) = found c (first_from c.fault 0 c.count) (first_fault cs)
 
 -- of checks in order the one that gives this refusal; one of no records where none gives it
-unfoldable pub checkFor : Refusal → List Check → Check
-checkFor why [] = record { refusal = why; first = 0; count = 0; fault = λ _. false }
-checkFor why (c ∷ cs) = if sameNumber c.refusal why then c else checkFor why cs
+unfoldable pub check_for : Refusal → List Check → Check
+check_for why [] = record { refusal = why; first = 0; count = 0; fault = λ _. false }
+check_for why (c ∷ cs) = if same_number c.refusal why then c else check_for why cs
 
 -- the checks before it
-unfoldable pub checksBefore : Refusal → List Check → List Check
-checksBefore why [] = []
-checksBefore why (c ∷ cs) = if sameNumber c.refusal why then [] else c ∷ checksBefore why cs
+unfoldable pub checks_before : Refusal → List Check → List Check
+checks_before why [] = []
+checks_before why (c ∷ cs) = if same_number c.refusal why then [] else c ∷ checks_before why cs
 
 -- what checks come to is this refusal, at this place
 pub record GivenAt (why : Refusal) (place : ℕ) (verdict : Verdict) : Type 0 where
@@ -128,7 +128,7 @@ pub record FirstOffender (c : Check) (i : ℕ) : Type 0 where
 
 -- of checks in order that of this refusal finds its first offender at this place, and those before it find none
 pub record Offended (why : Refusal) (place : ℕ) (cs : List Check) : Type 0 where
-  pub before : firstFault (checksBefore why cs) ≡ Verdict.Passed
+  pub before : first_fault (checks_before why cs) ≡ Verdict.Passed
   pub index : ℕ
-  pub offender : FirstOffender (checkFor why cs) index
-  pub there : place ≡ (checkFor why cs).first + index
+  pub offender : FirstOffender (check_for why cs) index
+  pub there : place ≡ (check_for why cs).first + index

@@ -1,14 +1,14 @@
 -- RULES 9.4 to 9.11 and 10.1: the words of the lazy scheduler, its kept and saved priorities, its switch, its calls and its cut. The protocols differ in what
--- an entry to the kernel leaves in the second word (`secondWord`), and in nothing else. Assumes nothing.
+-- an entry to the kernel leaves in the second word (`second_word`), and in nothing else. Assumes nothing.
 use Rattle.std.specs.Prelude.{◌≡◌, Bool, true, false, List, ℕ, ◌+◌, max, ltb, length, set}
-use Rattle.rules.specs.Numbers.Capacity.{maxTasks, maxLocks}
+use Rattle.rules.specs.Numbers.Capacity.{max_tasks, max_locks}
 use Rattle.rules.specs.Numbers.Choice.{if◌then◌else◌}
 use Rattle.rules.specs.Numbers.Place.{at, greatest}
 use Rattle.rules.specs.Numbers.Row.{newest, under, pushed}
 use Rattle.rules.specs.Schedulers.Figures.{Figures}
-use Rattle.rules.specs.Schedulers.FiguresAfter.{staysOpen, left_of}
+use Rattle.rules.specs.Schedulers.FiguresAfter.{stays_open, left_of}
 use Rattle.rules.specs.Schedulers.Elect.{elected}
-use Rattle.rules.specs.Schedulers.Protocol.{secondWord}
+use Rattle.rules.specs.Schedulers.Protocol.{second_word}
 use Rattle.rules.specs.declared.plan.Plan.{Plan}
 use Rattle.rules.specs.declared.protocol.Protocol.{Protocol}
 use Rattle.rules.specs.declared.state.State.{State}
@@ -27,9 +27,9 @@ pub record Words : Type 0 where
 
 -- there is a place for every task and every lock that a plan may have
 pub record WordsSized (w : Words) : Type 0 where
-  pub kept : length w.kept ≡ maxTasks
-  pub saved : length w.saved ≡ maxTasks
-  pub owner : length w.owner ≡ maxLocks
+  pub kept : length w.kept ≡ max_tasks
+  pub saved : length w.saved ≡ max_tasks
+  pub owner : length w.owner ≡ max_locks
 
 abbrev pub words_of : State → Words
 words_of s =
@@ -66,8 +66,8 @@ state_of f w =
     }
 
 -- RULES 10.1: an unlock calls where the word that it puts back is strictly below the second word
-unfoldable pub callsFor : ℕ → ℕ → Bool
-callsFor back next = ltb back next
+unfoldable pub calls_for : ℕ → ℕ → Bool
+calls_for back next = ltb back next
 
 -- RULES 9.11: what the kernel makes of a user word, by the maximum of the task that runs: a word above it is cut back to it
 unfoldable pub cut_to : (maximum user : ℕ) → ℕ
@@ -87,16 +87,16 @@ entering maximum w =
     }
 
 -- the greatest priority that the kernel keeps for any of n tasks
-abbrev pub bestKept : List ℕ → ℕ → ℕ
-bestKept kept n = greatest (at kept) n
+abbrev pub best_kept : List ℕ → ℕ → ℕ
+best_kept kept n = greatest (at kept) n
 
 -- task q runs, by its kept priority; while it runs nothing is kept for it
-unfoldable pub runsOn : Protocol → ℕ → List ℕ → Words → ℕ → Words
-runsOn pr n kept w q =
+unfoldable pub runs_on : Protocol → ℕ → List ℕ → Words → ℕ → Words
+runs_on pr n kept w q =
     record {
       running = q;
       user = at kept q;
-      next = secondWord pr (at kept q) (bestKept (set kept q 0) n);
+      next = second_word pr (at kept q) (best_kept (set kept q 0) n);
       lazy = w.lazy;
       kept = set kept q 0;
       saved = w.saved;
@@ -105,7 +105,7 @@ runsOn pr n kept w q =
 
 -- RULES 9.10: a switch to the greatest of the kept priorities, the leaving task's among them; ties to the earlier release
 unfoldable pub switched : Protocol → ℕ → List ℕ → List ℕ → Words → Words
-switched pr n released kept w = runsOn pr n kept w (elected (at released) (at kept) n)
+switched pr n released kept w = runs_on pr n kept w (elected (at released) (at kept) n)
 
 -- an entry without a switch: who runs goes on, and so does the user word
 unfoldable pub stays : Protocol → ℕ → List ℕ → Words → Words
@@ -113,7 +113,7 @@ stays pr n kept w =
     record {
       running = w.running;
       user = w.user;
-      next = secondWord pr w.user (bestKept kept n);
+      next = second_word pr w.user (best_kept kept n);
       lazy = w.lazy;
       kept = kept;
       saved = w.saved;
@@ -121,12 +121,12 @@ stays pr n kept w =
     }
 
 -- RULES 9.4: after the release of a task of base b, which is kept already; the kernel switches for a base strictly above the user word only
-unfoldable pub afterRelease : Protocol → ℕ → List ℕ → List ℕ → ℕ → Words → Words
-afterRelease pr n released kept b w = if ltb w.user b then switched pr n released (set kept w.running w.user) w else stays pr n kept w
+unfoldable pub after_release : Protocol → ℕ → List ℕ → List ℕ → ℕ → Words → Words
+after_release pr n released kept b w = if ltb w.user b then switched pr n released (set kept w.running w.user) w else stays pr n kept w
 
 -- RULES 9.5: lock l of this ceiling is taken; the user word is saved, at every take, and raised to the ceiling where it is below it
-unfoldable pub afterAcquire : ℕ → ℕ → Words → Words
-afterAcquire l ceiling w =
+unfoldable pub after_acquire : ℕ → ℕ → Words → Words
+after_acquire l ceiling w =
     record {
       running = w.running;
       user = max w.user ceiling;
@@ -138,15 +138,15 @@ afterAcquire l ceiling w =
     }
 
 -- the word that an unlock puts back: the newest saved one
-abbrev pub backOf : Words → ℕ
-backOf w = newest (at w.saved w.running)
+abbrev pub back_of : Words → ℕ
+back_of w = newest (at w.saved w.running)
 
 -- a take of lock l is given back, after so many calls: the user word is the saved one again, and nobody owns the lock, unless it stays open
 unfoldable pub restored : (stays : Bool) → ℕ → ℕ → Words → Words
 restored stays l calls w =
     record {
       running = w.running;
-      user = backOf w;
+      user = back_of w;
       next = w.next;
       lazy = w.lazy + calls;
       kept = w.kept;
@@ -160,21 +160,21 @@ leaves pr n released w = switched pr n released (set w.kept w.running w.user) w
 
 -- RULES 9.6: a take of lock l is given back, with one lazy call and a switch where the call's rule says so, and with neither elsewhere. The call is an entry,
 -- and finds the word that is put back
-unfoldable pub afterUnlock : Protocol → ℕ → (maximum released : List ℕ) → (stays : Bool) → ℕ → Words → Words
-afterUnlock pr n maximum released stays l w =
-    if callsFor (backOf w) w.next then leaves pr n released (entering maximum (restored stays l 1 w)) else restored stays l 0 w
+unfoldable pub after_unlock : Protocol → ℕ → (maximum released : List ℕ) → (stays : Bool) → ℕ → Words → Words
+after_unlock pr n maximum released stays l w =
+    if calls_for (back_of w) w.next then leaves pr n released (entering maximum (restored stays l 1 w)) else restored stays l 0 w
 
 -- the words after an accepted event; f are the figures before it, and `released` the release numbers after it. A release, a finish and a tick are entries
-unfoldable pub wordsAfter : Protocol → Plan → Figures → (released : List ℕ) → Words → Event → Words
-wordsAfter pr p f released w (Release t) =
-    afterRelease pr p.tasks released (set w.kept t (at p.base t)) (at p.base t) (entering p.maximum w)
-wordsAfter pr p f released w (Acquire l) = afterAcquire l (at p.ceiling l) w
-wordsAfter pr p f released w (Unlock l) = afterUnlock pr p.tasks p.maximum released (staysOpen f w.running l) l w
-wordsAfter pr p f released w (Work a) = w
+unfoldable pub words_after : Protocol → Plan → Figures → (released : List ℕ) → Words → Event → Words
+words_after pr p f released w (Release t) =
+    after_release pr p.tasks released (set w.kept t (at p.base t)) (at p.base t) (entering p.maximum w)
+words_after pr p f released w (Acquire l) = after_acquire l (at p.ceiling l) w
+words_after pr p f released w (Unlock l) = after_unlock pr p.tasks p.maximum released (stays_open f w.running l) l w
+words_after pr p f released w (Work a) = w
 -- RULES 9.8: a finish switches, and nothing is kept for the task that is done
-wordsAfter pr p f released w Finish = switched pr p.tasks released (set w.kept w.running 0) (entering p.maximum w)
+words_after pr p f released w Finish = switched pr p.tasks released (set w.kept w.running 0) (entering p.maximum w)
 -- RULES 9.9: a tick is an entry and no more; in a sound state of the second protocol the next word is what it was
-wordsAfter pr p f released w Tick = stays pr p.tasks w.kept (entering p.maximum w)
+words_after pr p f released w Tick = stays pr p.tasks w.kept (entering p.maximum w)
 
 -- RULES 10.3: whether an accepted event enters the kernel. An unlock does where it calls
 unfoldable pub enters : (call : Bool) → Event → Bool
@@ -186,10 +186,10 @@ enters call Finish = true
 enters call Tick = true
 
 -- whether an accepted event makes a lazy call
-unfoldable pub lazyCall : Words → Event → Bool
-lazyCall w (Release t) = false
-lazyCall w (Acquire l) = false
-lazyCall w (Unlock l) = callsFor (backOf w) w.next
-lazyCall w (Work a) = false
-lazyCall w Finish = false
-lazyCall w Tick = false
+unfoldable pub lazy_call : Words → Event → Bool
+lazy_call w (Release t) = false
+lazy_call w (Acquire l) = false
+lazy_call w (Unlock l) = calls_for (back_of w) w.next
+lazy_call w (Work a) = false
+lazy_call w Finish = false
+lazy_call w Tick = false

@@ -4,12 +4,12 @@ use Rattle.rules.specs.declared.plan.Plan.{Plan}
 use Rattle.rules.specs.declared.state.Head.{Head}
 use Rattle.rules.specs.declared.state.State.{State}
 
-abbrev pub planWith : ℕ → ℕ → List ℕ → List ℕ → List ℕ → List ℕ → List ℕ → Plan
-planWith n m base maximum ceiling limit uses =
+abbrev pub plan_with : ℕ → ℕ → List ℕ → List ℕ → List ℕ → List ℕ → List ℕ → Plan
+plan_with n m base maximum ceiling limit uses =
     record { tasks = n; locks = m; base = base; maximum = maximum; ceiling = ceiling; limit = limit; uses = uses }
 
-abbrev pub stateWith : Head → List ℕ → List ℕ → List ℕ → List ℕ → List ℕ → List ℕ → List ℕ → List ℕ → State
-stateWith h released kept delay depth takes saved units owner =
+abbrev pub state_with : Head → List ℕ → List ℕ → List ℕ → List ℕ → List ℕ → List ℕ → List ℕ → List ℕ → State
+state_with h released kept delay depth takes saved units owner =
     record {
       head = h;
       released = released;

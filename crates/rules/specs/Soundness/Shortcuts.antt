@@ -2,8 +2,8 @@
 -- that a fresh start reaches: the running task may not be the one of greatest priority. Assumes nothing.
 use Rattle.std.specs.Prelude.{◌≡◌, ℕ, ◌≤◌, ◌<◌, max}
 use Rattle.rules.specs.Numbers.Place.{at}
-use Rattle.rules.specs.Schedulers.Protocol.{secondWord}
-use Rattle.rules.specs.Schedulers.Lazy.{bestKept}
+use Rattle.rules.specs.Schedulers.Protocol.{second_word}
+use Rattle.rules.specs.Schedulers.Lazy.{best_kept}
 use Rattle.rules.specs.Replays.Step.{after_of}
 use Rattle.rules.specs.declared.plan.Plan.{Plan}
 use Rattle.rules.specs.declared.protocol.Protocol.{Protocol}
@@ -17,17 +17,17 @@ pub record Rests (p : Plan) (s : State) (t : ℕ) : Type 0 where
   pub unreleased : at s.released t ≡ 0
 
 abbrev best : Plan → State → ℕ
-best p s = bestKept s.kept p.tasks
+best p s = best_kept s.kept p.tasks
 
 pub record Shortcuts (pr : Protocol) (p : Plan) (s : State) : Type 0 where
   -- a newcomer whose base is not above the user word: the greatest kept priority is then the greater of what it was and that base
   pub waits : (t : ℕ) → Rests p s t → at p.base t ≤ s.head.user.0
-      → (after_of pr p s (Release t)).head.next.0 ≡ secondWord pr s.head.user.0 (max (best p s) (at p.base t))
+      → (after_of pr p s (Release t)).head.next.0 ≡ second_word pr s.head.user.0 (max (best p s) (at p.base t))
   -- a newcomer whose base is above the user word and above all that is kept: it runs at its base, and the greatest kept priority is then the greater of what it
   -- was and the user word that the leaving task had
   pub runs : (t : ℕ) → Rests p s t → s.head.user.0 < at p.base t → best p s < at p.base t
       → ((after_of pr p s (Release t)).head.running ≡ t) × ((after_of pr p s (Release t)).head.user.0 ≡ at p.base t)
-      × ((after_of pr p s (Release t)).head.next.0 ≡ secondWord pr (at p.base t) (max (best p s) s.head.user.0))
+      × ((after_of pr p s (Release t)).head.next.0 ≡ second_word pr (at p.base t) (max (best p s) s.head.user.0))
   -- where nothing is kept above the running task's base, work is nobody's delay
   pub spares : (a : ℕ) → best p s ≤ at p.base s.head.running → (after_of pr p s (Work a)).delay ≡ s.delay
 

@@ -9,8 +9,8 @@ invariant-loop out₀ at a n place₀ i₀ out place i = (i ≤ n) × (length ou
 abbrev decreases-loop : tie.decreases-loop
 decreases-loop out₀ at a n place₀ i₀ out place i = n - i
 
-pub give32-spec : {M : Type 1} → statement M
-give32-spec =
+pub give32_spec : {M : Type 1} → statement M
+give32_spec =
     tie.close
     (tie.spec
     invariant-loop decreases-loop (λ c. search rules) (λ c. search rules) (λ c. search rules) (λ c κs. search rules) (λ c. search rules) (λ c. search rules)

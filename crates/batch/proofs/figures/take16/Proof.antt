@@ -9,8 +9,8 @@ invariant-loop a₀ b at n place₀ i₀ a place i = (i ≤ n) × (length a ≡ 
 abbrev decreases-loop : tie.decreases-loop
 decreases-loop a₀ b at n place₀ i₀ a place i = n - i
 
-pub take16-spec : {M : Type 1} → statement M
-take16-spec =
+pub take16_spec : {M : Type 1} → statement M
+take16_spec =
     tie.close
     (tie.spec
     invariant-loop decreases-loop (λ c. search rules) (λ c κs. search rules) (λ c. search rules) (λ c. search rules) (λ c κs. search rules) (λ c. search rules)

@@ -9,8 +9,8 @@ invariant-loop out₀ at plan n place₀ t₀ out place t = (t ≤ n) × (length
 abbrev decreases-loop : tie.decreases-loop
 decreases-loop out₀ at plan n place₀ t₀ out place t = n - t
 
-pub put-bounds-spec : {M : Type 1} → statement M
-put-bounds-spec =
+pub put_bounds_spec : {M : Type 1} → statement M
+put_bounds_spec =
     tie.close
     (tie.spec
     invariant-loop decreases-loop (λ c. search rules) (λ c κs. search rules) (λ c κs. search rules) (λ c. search rules) (λ c. search rules) (λ c. search rules)

@@ -2,7 +2,7 @@
 use mathlib.Core.Path.{◌≡◌}
 use Prim.Native.Nat.{◌+◌, ◌*◌, ◌-◌}
 use lib.ListN.{length}
-use Rattle.rules.proofs.Numbers.Place.{RenewedSoFar, renewed-start, renewed-next, renewed-ends}
+use Rattle.rules.proofs.Numbers.Place.{RenewedSoFar, renewed_start, renewed_next, renewed_ends}
 use Rattle.rules.specs.Books.Book.{word}
 use borrow.Author.Rules.{rules}
 use Rattle.book.proofs.bodies.fill_words.Statement.{statement}
@@ -14,10 +14,10 @@ invariant-loop b from n words₀ i₀ words i = (length words ≡ length words�
 abbrev decreases-loop : tie.decreases-loop
 decreases-loop b from n words₀ i₀ words i = n - i
 
-pub fill-words-spec : {M : Type 1} → statement M
-fill-words-spec =
+pub fill_words_spec : {M : Type 1} → statement M
+fill_words_spec =
     tie.close
     (tie.spec
-    invariant-loop decreases-loop (λ c. (search rules, search renewed-start)) (λ c. search rules) (λ c. search rules)
+    invariant-loop decreases-loop (λ c. (search rules, search renewed_start)) (λ c. search rules) (λ c. search rules)
     (λ c κs. search rules) (λ c. search rules) (λ c. search rules) (λ c. search rules) (λ c. search rules)
-    (λ c. (search rules, search renewed-next)) (λ c. search rules) (λ c. search renewed-ends))
+    (λ c. (search rules, search renewed_next)) (λ c. search rules) (λ c. search renewed_ends))

@@ -1,6 +1,6 @@
 -- `book::entry::body_at` meets its contract. Each turn passes one body. Assumes nothing.
 use Prim.Native.Nat.{◌-◌}
-use Rattle.book.proofs.LaidOut.{BodiesSoFar, bodies-start, bodies-next, bodies-room, bodies-end}
+use Rattle.book.proofs.LaidOut.{BodiesSoFar, bodies_start, bodies_next, bodies_room, bodies_end}
 use borrow.Author.Rules.{rules}
 use Rattle.book.proofs.entry.body_at.Statement.{statement}
 use Rattle.book.proofs.entry.body_at.Tie as tie
@@ -11,9 +11,9 @@ invariant-loop b e place₀ i₀ place i = BodiesSoFar b e i place
 abbrev decreases-loop : tie.decreases-loop
 decreases-loop b e place₀ i₀ place i = e - i
 
-pub body-at-spec : {M : Type 1} → statement M
-body-at-spec =
+pub body_at_spec : {M : Type 1} → statement M
+body_at_spec =
     tie.close
     (tie.spec
-    invariant-loop decreases-loop (λ c. search bodies-start) (λ c κs. search rules) (λ c. search (bodies-room, rules))
-    (λ c. search rules) (λ c. search rules) (λ c. search bodies-next) (λ c. search bodies-end))
+    invariant-loop decreases-loop (λ c. search bodies_start) (λ c κs. search rules) (λ c. search (bodies_room, rules))
+    (λ c. search rules) (λ c. search rules) (λ c. search bodies_next) (λ c. search bodies_end))

@@ -5,9 +5,9 @@ use borrow.Author.Rules.{rules}
 use Rattle.book.proofs.entry.size_of.Statement.{statement}
 use Rattle.book.proofs.entry.size_of.Tie as tie
 
-pub size-of-spec : {M : Type 1} → statement M
+pub size_of_spec : {M : Type 1} → statement M
 unfolding size_of
-size-of-spec =
+size_of_spec =
     tie.close
     (tie.spec
     (λ c. (search tests, search rules)) (λ c. (search tests, search rules))

@@ -3,7 +3,7 @@ use mathlib.Core.Path.{◌≡◌}
 use Prim.Native.Nat.{◌-◌}
 use lib.ListN.{length}
 use borrow.Author.Rules.{rules}
-use Rattle.book.proofs.Laying.{LongsSoFar, longs-start, longs-next, longs-end, longs-after}
+use Rattle.book.proofs.Laying.{LongsSoFar, longs_start, longs_next, longs_end, longs_after}
 use Rattle.book.proofs.lay.put_longs.Statement.{statement}
 use Rattle.book.proofs.lay.put_longs.Tie as tie
 
@@ -13,11 +13,11 @@ invariant-loop out₀ from longs n i₀ out i = (length out ≡ length out₀) �
 abbrev decreases-loop : tie.decreases-loop
 decreases-loop out₀ from longs n i₀ out i = n - i
 
-pub put-longs-spec : {M : Type 1} → statement M
-put-longs-spec =
+pub put_longs_spec : {M : Type 1} → statement M
+put_longs_spec =
     tie.close
     (tie.spec
-    invariant-loop decreases-loop (λ c. (search rules, search longs-start)) (λ c. search rules) (λ c. search rules) (λ c. search rules)
+    invariant-loop decreases-loop (λ c. (search rules, search longs_start)) (λ c. search rules) (λ c. search rules) (λ c. search rules)
     (λ c. search rules) (λ c κs. search rules) (λ c. search rules) (λ c. search rules)
-    (λ c. (search rules, search longs-next)) (λ c. search rules) (λ c. search rules) (λ c. search rules)
-    (λ c. (search longs-after, search longs-end)))
+    (λ c. (search rules, search longs_next)) (λ c. search rules) (λ c. search rules) (λ c. search rules)
+    (λ c. (search longs_after, search longs_end)))

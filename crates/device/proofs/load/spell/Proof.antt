@@ -4,8 +4,8 @@ use borrow.Author.Rules.{rules}
 use Rattle.device.proofs.load.spell.Statement.{statement}
 use Rattle.device.proofs.load.spell.Tie as tie
 
-pub spell-spec : {M : Type 1} → statement M
-spell-spec =
+pub spell_spec : {M : Type 1} → statement M
+spell_spec =
     tie.close
     (tie.spec
     (λ c κs. search rules) (λ c κs. search rules) (λ c. search load_said))

@@ -5,8 +5,8 @@ use borrow.Author.Rules.{rules}
 use Rattle.device.proofs.numbers.load_front.Statement.{statement}
 use Rattle.device.proofs.numbers.load_front.Tie as tie
 
-pub load-front-spec : {M : Type 1} → statement M
-load-front-spec =
+pub load_front_spec : {M : Type 1} → statement M
+load_front_spec =
     tie.close
     (tie.spec
     (λ c. search (length-take-le, counted_is)) (λ c κs. search rules) (λ c. search rules))

@@ -3,5 +3,5 @@ use borrow.Author.Rules.{rules}
 use Rattle.device.proofs.numbers.within.Statement.{statement}
 use Rattle.device.proofs.numbers.within.Tie as tie
 
-pub within-spec : {M : Type 1} → statement M
-within-spec = tie.close (tie.spec (λ c. search rules) (λ c. search rules))
+pub within_spec : {M : Type 1} → statement M
+within_spec = tie.close (tie.spec (λ c. search rules) (λ c. search rules))

@@ -50,8 +50,8 @@ use denote.Triple.Table.{entered, cited}
 use denote.Triple.Walked.{says, Stays, stay_dropped, walk_of, Goes-dropped, Walks, ends_at, walked, walk_Meets}
 use denote.Triple.Clauses.{ensured, lasts}
 use denote.Exit.{yes}
-use Rattle.device.specs.Table.{noNumbers, kept, keptFrom, keptOf}
-use Rattle.device.proofs.Kept.{noRecord, kept-turn, kept-end}
+use Rattle.device.specs.Table.{no_numbers, kept, kept_from, kept_of}
+use Rattle.device.proofs.Kept.{no_record, kept_turn, kept_end}
 use Rattle.device.specs.declared.table.TaskRecord.{TaskRecord}
 use Rattle.device.specs.declared.numbers.Numbers.{Numbers}
 use Rattle.device.specs.contracts.table.TaskRecord as T
@@ -121,7 +121,7 @@ module _ (ys : List TaskRecord) where
     n : Numbers
     u : Val
     is : Is N.the_row n (u ∷ [])
-    inv : keptFrom n (drop i ys) ≡ keptOf ys
+    inv : kept_from n (drop i ys) ≡ kept_of ys
 
   abbrev Nearer : State → State → Type 0
   Nearer s t = length ys - s.i < length ys - t.i
@@ -150,7 +150,7 @@ module _ {M : Type 1} {𝓤 : Ura M} (𝓛 : Logic 𝓤) (mem : Memory → SProp
   typed : (n : Numbers) (u : Val) → Is N.the_row n (u ∷ []) → Holds (has_ty N'.mir u) × WT u
   typed n u is = ((LL.lawful N.the_type N'.the_laws 𝓛).typed n (u ∷ []) is).0
 
-  exits : (n : Numbers) (u : Val) → Is N.the_row n (u ∷ []) → n ≡ keptOf ys → ent 𝓤 (⋆ 𝓛 (‵ (flft κ q) ∷ ‵ ftrue ∷ [])) (Post u)
+  exits : (n : Numbers) (u : Val) → Is N.the_row n (u ∷ []) → n ≡ kept_of ys → ent 𝓤 (⋆ 𝓛 (‵ (flft κ q) ∷ ‵ ftrue ∷ [])) (Post u)
   exits n u is e =
       qed 𝓛 (‵ (flft κ q) ∷ ‵ ftrue ∷ []) ∵
       suffices ! _ (ends_at 𝓛 gather.ended stayed (gather.clauses 𝓛 mem run) (((κ, tt), (q, tt), tt, (x, tt), (v ∷ [], tt)), tt) u n (tt, tt)
@@ -165,23 +165,23 @@ module _ {M : Type 1} {𝓤 : Ura M} (𝓛 : Logic 𝓤) (mem : Memory → SProp
   goes_none : ent 𝓤 (emp 𝓤) ((None 𝓛 mem run).pre to_none)
   goes_none = qed 𝓛 [] ∵ nothing ! $ nothing ! $ join ! $ frame ! $ done !
 
-  none_said : (r : Numbers) → ent 𝓤 (ensured 𝓛 none.ended (none.clauses 𝓛 mem run) tt tt tt r) (fact 𝓤 (r ≡ noNumbers))
-  none_said r = ex_e 𝓤 _ (λ ws. snd∗ 𝓤 (sem 𝓛 (lasts none.ended tt tt ws)) (fact 𝓤 (r ≡ noNumbers)))
+  none_said : (r : Numbers) → ent 𝓤 (ensured 𝓛 none.ended (none.clauses 𝓛 mem run) tt tt tt r) (fact 𝓤 (r ≡ no_numbers))
+  none_said r = ex_e 𝓤 _ (λ ws. snd∗ 𝓤 (sem 𝓛 (lasts none.ended tt tt ws)) (fact 𝓤 (r ≡ no_numbers)))
 
   -- ---- the call of `keep`, at the numbers n with the machine value u and the record t
-  abbrev to-keep : Numbers → Val → TaskRecord → (Keep 𝓛 mem run).Ghost
-  to-keep n u t = ((tt, tt, tt, (n, (t.base, (t.maximum, tt))), (u ∷ [], (vint w8 t.base ∷ [], (vint w8 t.maximum ∷ [], tt)))), tt)
+  abbrev to_keep : Numbers → Val → TaskRecord → (Keep 𝓛 mem run).Ghost
+  to_keep n u t = ((tt, tt, tt, (n, (t.base, (t.maximum, tt))), (u ∷ [], (vint w8 t.base ∷ [], (vint w8 t.maximum ∷ [], tt)))), tt)
 
-  goes-keep : (n : Numbers) (u : Val) (t : TaskRecord) → Is N.the_row n (u ∷ []) → t.base < 2 ^ 8 → t.maximum < 2 ^ 8
-      → ent 𝓤 (emp 𝓤) ((Keep 𝓛 mem run).pre (to-keep n u t))
-  goes-keep n u t is gb gz =
+  goes_keep : (n : Numbers) (u : Val) (t : TaskRecord) → Is N.the_row n (u ∷ []) → t.base < 2 ^ 8 → t.maximum < 2 ^ 8
+      → ent 𝓤 (emp 𝓤) ((Keep 𝓛 mem run).pre (to_keep n u t))
+  goes_keep n u t is gb gz =
       qed 𝓛 [] ∵ nothing ! $ owned ! u8 (Is u8) (uint_Makes 𝓛 w8) t.maximum _ (refl, gz) $ fjoin ! $
       owned ! u8 (Is u8) (uint_Makes 𝓛 w8) t.base _ (refl, gb) $ fjoin ! $
       owned ! N.the_row (Is N.the_row) (LL.makes N.the_type N'.the_plain 𝓛) n (u ∷ []) is $ fjoin ! $ nothing ! $ join ! $ frame ! $ done !
 
-  keep-said : (n : Numbers) (t : TaskRecord) (r : Numbers) → ent 𝓤 (ensured 𝓛 keeps.ended (keeps.clauses 𝓛 mem run) tt
+  keep_said : (n : Numbers) (t : TaskRecord) (r : Numbers) → ent 𝓤 (ensured 𝓛 keeps.ended (keeps.clauses 𝓛 mem run) tt
       (n, (t.base, (t.maximum, tt))) tt r) (fact 𝓤 (r ≡ kept n t.base t.maximum))
-  keep-said n t r = ex_e 𝓤 _ (λ ws. snd∗ 𝓤 (sem 𝓛 (lasts keeps.ended tt (n, (t.base, (t.maximum, tt))) ws)) (fact 𝓤 (r ≡ kept n t.base t.maximum)))
+  keep_said n t r = ex_e 𝓤 _ (λ ws. snd∗ 𝓤 (sem 𝓛 (lasts keeps.ended tt (n, (t.base, (t.maximum, tt))) ws)) (fact 𝓤 (r ≡ kept n t.base t.maximum)))
 
   module _ (𝓣 : Tables 𝓤 H) (known-none : Triple 𝓤 (𝓣.C #device·numbers·none) (None 𝓛 mem run))
       (known-keep : Triple 𝓤 (𝓣.C #device·numbers·keep) (Keep 𝓛 mem run)) (room : Room T.the_row (length ys)) where
@@ -231,21 +231,21 @@ module _ {M : Type 1} {𝓤 : Ura M} (𝓛 : Logic 𝓤) (mem : Memory → SProp
           rewrite ! 4 (λ (p : ℕ). ‵ (fat full_share ty_ptr l₇ 0 (vptr b p))) (sym (place_is 2 o t.i)) refl $
           looks_slice ! tt T.the_row (Is T.the_row) (shows 𝓛 T.the_row) vals (LL.tells T.the_type T'.the_laws)
           (LL.copy T.the_type T'.the_copy 𝓛) ys b o (λ q'.
-          elem_out ! T.the_row (Is T.the_row) (shows 𝓛 T.the_row) vals (LL.tells T.the_type T'.the_laws) q' ys t.i noRecord b o l (λ g.
-          let e : TaskRecord = get_or ys t.i noRecord in
+          elem_out ! T.the_row (Is T.the_row) (shows 𝓛 T.the_row) vals (LL.tells T.the_type T'.the_laws) q' ys t.i no_record b o l (λ g.
+          let e : TaskRecord = get_or ys t.i no_record in
           let wt : Holds (has_ty T'.mir (T'.lowered e)) × WT (T'.lowered e) = ((LL.lawful T.the_type T'.the_laws 𝓛).typed e _ g).0 in
           -- [table[i]; what it owns; the others; what shuts; the borrow; _8; …; _7; …]
           assigns ! (of_opd ! (load ! (from ! (hop ! (look ! 7 refl) (stop !))) (look_raw ! 0 refl))) (from ! (stop !)) (init ! 5 refl wt) $
-          elem_back ! T.the_row q' ys t.i noRecord (vals e) b o l $ shuts_slice ! tt T.the_row q' ys b o $ move ! (1 ∷ 0 ∷ []) $
+          elem_back ! T.the_row q' ys t.i no_record (vals e) b o l $ shuts_slice ! tt T.the_row q' ys b o $ move ! (1 ∷ 0 ∷ []) $
           assigns ! (of_opd ! (load ! (from ! (stop !)) (look ! 2 refl))) (from ! (stop !)) (init ! 10 refl wt) $
           -- the call: what it asks stands at the head, so the locals are one further on
-          use0 𝓛 (raw ((Keep 𝓛 mem run).pre (to-keep t.n t.u e))) (goes-keep t.n t.u e t.is wt.1.0.fits wt.1.1.0.fits) $
-          calls_at ! fm (Keep 𝓛 mem run) known-keep (to-keep t.n t.u e)
+          use0 𝓛 (raw ((Keep 𝓛 mem run).pre (to_keep t.n t.u e))) (goes_keep t.n t.u e t.is wt.1.0.fits wt.1.1.0.fits) $
+          calls_at ! fm (Keep 𝓛 mem run) known-keep (to_keep t.n t.u e)
           (and_then ! (load ! (from ! (stop !)) (look ! 15 refl)) (and_then ! (load ! (from ! (fld ! refl (stop !))) (look_in ! 11 (sub ! 0 refl (whole !))))
           (and_then ! (load ! (from ! (fld ! refl (stop !))) (look_in ! 11 (sub ! 1 refl (whole !)))) (no_more !)))) (λ u'.
           use1 𝓛 (later (some (λ (r : Numbers). (‵ ftrue ⊛ ‵ ((N.the_row).own_val r (u' ∷ []))) ⊛ raw
           (ensured 𝓛 keeps.ended (keeps.clauses 𝓛 mem run) tt (t.n, (e.base, (e.maximum, tt))) tt r)))) (id⊢ 𝓤 _) $ await ! tt $ pick ! (λ r.
-          split ! $ move ! (1 ∷ []) $ use1 𝓛 (raw (fact 𝓤 (r ≡ kept t.n e.base e.maximum))) (keep-said t.n e r) $
+          split ! $ move ! (1 ∷ []) $ use1 𝓛 (raw (fact 𝓤 (r ≡ kept t.n e.base e.maximum))) (keep_said t.n e r) $
           heard ! (r ≡ kept t.n e.base e.maximum) (λ is-kept. split ! $ Kit.drop ! $
           facts ! N.the_row (Is N.the_row) (shows 𝓛 N.the_row) r (u' ∷ []) (λ is.
           land ! (from ! (stop !)) (store ! 14 refl (typed r u' is)) $
@@ -258,7 +258,7 @@ module _ {M : Type 1} {𝓤 : Ura M} (𝓛 : Logic 𝓤) (mem : Memory → SProp
             n = r;
             u = u';
             is = is;
-            inv = ap (λ (m : Numbers). keptFrom m (drop (t.i + 1) ys)) is-kept ∙ sym (kept-turn ys t.i t.n l) ∙ t.inv;
+            inv = ap (λ (m : Numbers). kept_from m (drop (t.i + 1) ys)) is-kept ∙ sym (kept_turn ys t.i t.n l) ∙ t.inv;
           }) (omega (arith, l)))))))))
           (λ over. jumps ! $ exec ! C Λ E part.t-4 (at_ret E Post) $
           assigns ! (of_opd ! (load ! (from ! (stop !)) (look ! 14 refl))) (from ! (stop !)) (init ! 18 refl (typed t.n t.u t.is)) $
@@ -266,7 +266,7 @@ module _ {M : Type 1} {𝓤 : Ura M} (𝓛 : Logic 𝓤) (mem : Memory → SProp
           move ! (18 ∷ 19 ∷ []) $ free1 ! $ move ! (16 ∷ 17 ∷ []) $ free1 ! $ move ! (14 ∷ 15 ∷ []) $ free1 ! $ move ! (12 ∷ 13 ∷ []) $ free1 ! $
           move ! (10 ∷ 11 ∷ []) $ free1 ! $ move ! (8 ∷ 9 ∷ []) $ free1 ! $ move ! (6 ∷ 7 ∷ []) $ free1 ! $ move ! (4 ∷ 5 ∷ []) $ free1 ! $
           move ! (2 ∷ 3 ∷ []) $ free1 ! $ free0 ! $ Kit.drop ! $
-          by ! (exits t.n t.u t.is (sym (kept-end ys t.i t.n (nltb→le t.i (length ys) over)) ∙ t.inv)))
+          by ! (exits t.n t.u t.is (sym (kept_end ys t.i t.n (nltb→le t.i (length ys) over)) ∙ t.inv)))
 
       -- the loop, and what follows it
       looped : (t : State ys) → Sq 𝓛 (At t) (runs C Λ E part.t-3 (at_ret E Post))
@@ -283,7 +283,7 @@ module _ {M : Type 1} {𝓤 : Ura M} (𝓛 : Logic 𝓤) (mem : Memory → SProp
         calls_at ! fm (None 𝓛 mem run) known-none to_none (no_more !) (λ u.
         use1 𝓛 (later (some (λ (r : Numbers). (‵ ftrue ⊛ ‵ ((N.the_row).own_val r (u ∷ []))) ⊛ raw
         (ensured 𝓛 none.ended (none.clauses 𝓛 mem run) tt tt tt r)))) (id⊢ 𝓤 _) $ await ! tt $ pick ! (λ r.
-        split ! $ move ! (1 ∷ []) $ use1 𝓛 (raw (fact 𝓤 (r ≡ noNumbers))) (none_said r) $ heard ! (r ≡ noNumbers) (λ is_none. split ! $ Kit.drop ! $
+        split ! $ move ! (1 ∷ []) $ use1 𝓛 (raw (fact 𝓤 (r ≡ no_numbers))) (none_said r) $ heard ! (r ≡ no_numbers) (λ is_none. split ! $ Kit.drop ! $
         facts ! N.the_row (Is N.the_row) (shows 𝓛 N.the_row) r (u ∷ []) (λ is.
         land ! (from ! (stop !)) (init ! 12 refl (typed r u is)) $
         assigns ! (of_opd ! (lit ! tt)) (from ! (stop !)) (init ! 10 refl (tt, record { fits = lit< tt })) $
@@ -296,31 +296,31 @@ module _ {M : Type 1} {𝓤 : Ura M} (𝓛 : Logic 𝓤) (mem : Memory → SProp
           n = r;
           u = u;
           is = is;
-          inv = ap (λ (m : Numbers). keptFrom m ys) is_none;
+          inv = ap (λ (m : Numbers). kept_from m ys) is_none;
         }))))))))))))))
 
 module _ {M : Type 1} {𝓤 : Ura M} (𝓛 : Logic 𝓤) (mem : Memory → SProp 𝓤) (run : Routine → Fun 𝓤) where
   open 𝓛 use {H}
 
-  gather-walks : (𝓣 : Tables 𝓤 H) → Triple 𝓤 (𝓣.C #device·numbers·none) (None 𝓛 mem run) → Triple 𝓤 (𝓣.C #device·numbers·keep) (Keep 𝓛 mem run)
+  gather_walks : (𝓣 : Tables 𝓤 H) → Triple 𝓤 (𝓣.C #device·numbers·none) (None 𝓛 mem run) → Triple 𝓤 (𝓣.C #device·numbers·keep) (Keep 𝓛 mem run)
       → Walks 𝓛 gather.ended stayed (WpFn 𝓤 H 𝓣.C 𝓣.Λ code.function) (gather.clauses 𝓛 mem run)
-  gather-walks 𝓣 known-none known-keep = walked 𝓛 gather.ended stayed (gather.clauses 𝓛 mem run) (WpFn 𝓤 H 𝓣.C 𝓣.Λ code.function)
+  gather_walks 𝓣 known-none known-keep = walked 𝓛 gather.ended stayed (gather.clauses 𝓛 mem run) (WpFn 𝓤 H 𝓣.C 𝓣.Λ code.function)
       (λ κs. (shr_slice_vals, tt)) (λ κs. (shr_slice_Tells (named 0) κs.0 T.the_row, tt))
       (λ κs qs bounds a g are. via 𝓤 _ (fst∗ 𝓤 _ (emp 𝓤)) (walk 𝓛 mem run κs.0 qs.0 a.0.ptr.0 a.0.ptr.1 0
       a.0.now 𝓣 known-none known-keep are.0.0.1))
 
-gather-meets : {M : Type 1} {𝓤 : Ura M} (𝓛 : Logic 𝓤) (mem : Memory → SProp 𝓤) (run : Routine → Fun 𝓤) (𝓣 : Tables 𝓤 𝓛.H)
+gather_meets : {M : Type 1} {𝓤 : Ura M} (𝓛 : Logic 𝓤) (mem : Memory → SProp 𝓤) (run : Routine → Fun 𝓤) (𝓣 : Tables 𝓤 𝓛.H)
     → Triple 𝓤 (𝓣.C #device·numbers·none) (None 𝓛 mem run) → Triple 𝓤 (𝓣.C #device·numbers·keep) (Keep 𝓛 mem run)
     → Meets 𝓛 gather.signature (WpFn 𝓤 𝓛.H 𝓣.C 𝓣.Λ code.function) (gather.spec 𝓛 mem run)
-gather-meets {𝓤 = 𝓤} 𝓛 mem run 𝓣 known-none known-keep = walk_Meets 𝓛 gather.ended stayed (Goes-dropped 𝓛 1 s₁ yes (λ κs x f. refl), tt)
+gather_meets {𝓤 = 𝓤} 𝓛 mem run 𝓣 known-none known-keep = walk_Meets 𝓛 gather.ended stayed (Goes-dropped 𝓛 1 s₁ yes (λ κs x f. refl), tt)
     (gather.clauses 𝓛 mem run) (WpFn 𝓤 𝓛.H 𝓣.C 𝓣.Λ code.function) (WpFn-mono 𝓤 𝓛.H 𝓛.laws 𝓣 code.function)
-    (gather-walks 𝓛 mem run 𝓣 known-none known-keep)
+    (gather_walks 𝓛 mem run 𝓣 known-none known-keep)
 
-pub gather-spec : {M : Type 1} → stated.statement M
+pub gather_spec : {M : Type 1} → stated.statement M
 unfolding code.routine tables_of
-gather-spec 𝓤 𝓛 𝓜 𝓡 =
+gather_spec 𝓤 𝓛 𝓜 𝓡 =
     entered 𝓤 𝓛.H (triple_of 𝓛 gather.signature (gather.spec 𝓛 𝓜.mem 𝓡.run))
     (tables 𝓤 𝓛.H 𝓜 𝓡 code.env).C (tables 𝓤 𝓛.H 𝓜 𝓡 code.env).Λ #device·table·gather code.function (code.unfolded 𝓤 𝓛.H 𝓜 𝓡)
-    (gather-meets 𝓛 𝓜.mem 𝓡.run (tables_of 𝓤 𝓛.H 𝓜 (tables 𝓤 𝓛.H 𝓜 𝓡 code.env))
+    (gather_meets 𝓛 𝓜.mem 𝓡.run (tables_of 𝓤 𝓛.H 𝓜 (tables 𝓤 𝓛.H 𝓜 𝓡 code.env))
     (cited 𝓤 𝓛.H (None 𝓛 𝓜.mem 𝓡.run) 𝓜 𝓡 code.env #device·numbers·none none-def.routine code.calls-device::numbers::none (none-thm.met 𝓤 𝓛 𝓜 𝓡))
     (cited 𝓤 𝓛.H (Keep 𝓛 𝓜.mem 𝓡.run) 𝓜 𝓡 code.env #device·numbers·keep keep_def.routine code.calls-device::numbers::keep (keep-thm.met 𝓤 𝓛 𝓜 𝓡)))

@@ -43,10 +43,10 @@ use Rattle.rules.specs.Books.Load.{load_of}
 use Rattle.rules.specs.declared.answer.Loaded.{Loaded}
 use Rattle.rules.specs.contracts.answer.Loaded as S
 use Rattle.rules.proofs.answer.Loaded.TheLaws as S'
-use Rattle.device.specs.Table.{numbersOf, keptOf, shown}
+use Rattle.device.specs.Table.{numbers_of, kept_of, shown}
 use Rattle.device.specs.declared.table.TaskRecord.{TaskRecord}
 use Rattle.device.specs.declared.numbers.Numbers.{Numbers}
-use Rattle.device.proofs.Kept.{kept-loads}
+use Rattle.device.proofs.Kept.{kept_loads}
 use Rattle.device.specs.contracts.table.TaskRecord as T
 use Rattle.device.specs.contracts.numbers.Numbers as N
 use Rattle.device.proofs.numbers.Numbers.TheLaws as N'
@@ -108,7 +108,7 @@ module _ {M : Type 1} {𝓤 : Ura M} (𝓛 : Logic 𝓤) (mem : Memory → SProp
   at = (v ∷ [], (vl ∷ [], (vs ∷ [], tt)))
 
   abbrev found : Loaded
-  found = load_of (numbersOf x.now) l.now s.now
+  found = load_of (numbers_of x.now) l.now s.now
 
   abbrev Post : Val → SProp 𝓤
   Post = (walk_of 𝓛 fn.ended stayed (fn.clauses 𝓛 mem run)).post ((κs, (q, (q', (q'', tt))), tt, args, at), tt)
@@ -124,35 +124,35 @@ module _ {M : Type 1} {𝓤 : Ura M} (𝓛 : Logic 𝓤) (mem : Memory → SProp
   Tokens = ‵ (flft κ' q') ⊛ ‵ (flft κ'' q'') ⊛ ‵ ftrue
 
   -- ---- the call of `gather`
-  abbrev to-gather : (Gather 𝓛 mem run).Ghost
-  to-gather = (((κ, tt), (q, tt), tt, (x, tt), (v ∷ [], tt)), tt)
+  abbrev to_gather : (Gather 𝓛 mem run).Ghost
+  to_gather = (((κ, tt), (q, tt), tt, (x, tt), (v ∷ [], tt)), tt)
 
-  goes-gather : ent 𝓤 (⋆ 𝓛 (‵ Table ∷ ‵ (flft κ q) ∷ [])) ((Gather 𝓛 mem run).pre to-gather)
-  goes-gather = qed 𝓛 (‵ Table ∷ ‵ (flft κ q) ∷ []) ∵ nothing ! $ move ! (1 ∷ 0 ∷ []) $ fjoin ! $ nothing ! $ move ! (2 ∷ 0 ∷ []) $ join ! $ join ! $ frame ! $
+  goes_gather : ent 𝓤 (⋆ 𝓛 (‵ Table ∷ ‵ (flft κ q) ∷ [])) ((Gather 𝓛 mem run).pre to_gather)
+  goes_gather = qed 𝓛 (‵ Table ∷ ‵ (flft κ q) ∷ []) ∵ nothing ! $ move ! (1 ∷ 0 ∷ []) $ fjoin ! $ nothing ! $ move ! (2 ∷ 0 ∷ []) $ join ! $ join ! $ frame ! $
       done !
 
-  gather-said : (r : Numbers) → ent 𝓤 (ensured 𝓛 gather.ended (gather.clauses 𝓛 mem run) (κ, tt) (x, tt) tt r) (fact 𝓤 (r ≡ keptOf x.now))
-  gather-said r = ex_e 𝓤 _ (λ ws. snd∗ 𝓤 (sem 𝓛 (lasts gather.ended (κ, tt) (x, tt) ws)) (fact 𝓤 (r ≡ keptOf x.now)))
+  gather_said : (r : Numbers) → ent 𝓤 (ensured 𝓛 gather.ended (gather.clauses 𝓛 mem run) (κ, tt) (x, tt) tt r) (fact 𝓤 (r ≡ kept_of x.now))
+  gather_said r = ex_e 𝓤 _ (λ ws. snd∗ 𝓤 (sem 𝓛 (lasts gather.ended (κ, tt) (x, tt) ws)) (fact 𝓤 (r ≡ kept_of x.now)))
 
   -- ---- the call of `numbers::load`, at the numbers n with the machine value u
-  abbrev check-args : Numbers → Args check.signature (κ', (κ'', tt))
-  check-args n = (n, (l, (s, tt)))
+  abbrev check_args : Numbers → Args check.signature (κ', (κ'', tt))
+  check_args n = (n, (l, (s, tt)))
 
-  abbrev to-check : Numbers → Val → (Check 𝓛 mem run).Ghost
-  to-check n u = (((κ', (κ'', tt)), (q', (q'', tt)), tt, check-args n, (u ∷ [], (vl ∷ [], (vs ∷ [], tt)))), tt)
+  abbrev to_check : Numbers → Val → (Check 𝓛 mem run).Ghost
+  to_check n u = (((κ', (κ'', tt)), (q', (q'', tt)), tt, check_args n, (u ∷ [], (vl ∷ [], (vs ∷ [], tt)))), tt)
 
-  goes-check : (n : Numbers) (u : Val) → Is N.the_row n (u ∷ []) → ent 𝓤 (⋆ 𝓛 (‵ Others ∷ Tokens ∷ [])) ((Check 𝓛 mem run).pre (to-check n u))
-  goes-check n u is =
+  goes_check : (n : Numbers) (u : Val) → Is N.the_row n (u ∷ []) → ent 𝓤 (⋆ 𝓛 (‵ Others ∷ Tokens ∷ [])) ((Check 𝓛 mem run).pre (to_check n u))
+  goes_check n u is =
       qed 𝓛 (‵ Others ∷ Tokens ∷ []) ∵ owned ! N.the_row (Is N.the_row) (LL.makes N.the_type N'.the_plain 𝓛) n (u ∷ []) is $ fjoin ! $ move ! (1 ∷ 0 ∷ []) $
       join ! $ frame ! $ done !
 
-  check-said : (n : Numbers) (r : Loaded) → ent 𝓤 (ensured 𝓛 check.ended (check.clauses 𝓛 mem run) (κ', (κ'', tt)) (check-args n) tt r)
+  check_said : (n : Numbers) (r : Loaded) → ent 𝓤 (ensured 𝓛 check.ended (check.clauses 𝓛 mem run) (κ', (κ'', tt)) (check_args n) tt r)
       (fact 𝓤 (r ≡ load_of (shown n) l.now s.now))
-  check-said n r = ex_e 𝓤 _ (λ ws. snd∗ 𝓤 (sem 𝓛 (lasts check.ended (κ', (κ'', tt)) (check-args n) ws)) (fact 𝓤 (r ≡ load_of (shown n) l.now s.now)))
+  check_said n r = ex_e 𝓤 _ (λ ws. snd∗ 𝓤 (sem 𝓛 (lasts check.ended (κ', (κ'', tt)) (check_args n) ws)) (fact 𝓤 (r ≡ load_of (shown n) l.now s.now)))
 
   -- what the numbers that are kept give is what all the numbers give
-  same : (n : Numbers) (r : Loaded) → n ≡ keptOf x.now → r ≡ load_of (shown n) l.now s.now → r ≡ found
-  same n r e h = h ∙ ap (λ (m : Numbers). load_of (shown m) l.now s.now) e ∙ kept-loads x.now l.now s.now
+  same : (n : Numbers) (r : Loaded) → n ≡ kept_of x.now → r ≡ load_of (shown n) l.now s.now → r ≡ found
+  same n r e h = h ∙ ap (λ (m : Numbers). load_of (shown m) l.now s.now) e ∙ kept_loads x.now l.now s.now
 
   exits : (r : Loaded) (u : Val) → r ≡ found → ent 𝓤 (⋆ 𝓛 (‵ ((S.the_row).own_val r (u ∷ [])) ∷ Tokens ∷ ‵ (flft κ q) ∷ [])) (Post u)
   exits r u e =
@@ -175,22 +175,22 @@ module _ {M : Type 1} {𝓤 : Ura M} (𝓛 : Logic 𝓤) (mem : Memory → SProp
         -- [_4; …; _3; …; _2; …; _1; …; _0; …; the tokens; what is owned]
         move ! (11 ∷ []) $ fsplit ! $ move ! (12 ∷ []) $ split ! $ move ! (2 ∷ 0 ∷ []) $
         -- [the table; κ's token; the other tokens; the others; _4; …]
-        use2 𝓛 (raw ((Gather 𝓛 mem run).pre to-gather)) goes-gather $
-        calls_at ! fm (Gather 𝓛 mem run) known-gather to-gather (and_then ! (load ! (from ! (stop !)) (look ! 9 refl)) (no_more !)) (λ u.
+        use2 𝓛 (raw ((Gather 𝓛 mem run).pre to_gather)) goes_gather $
+        calls_at ! fm (Gather 𝓛 mem run) known-gather to_gather (and_then ! (load ! (from ! (stop !)) (look ! 9 refl)) (no_more !)) (λ u.
         use1 𝓛 (later (some (λ (r : Numbers). ((‵ (flft κ q) ⊛ ‵ ftrue) ⊛ ‵ ((N.the_row).own_val r (u ∷ []))) ⊛ raw
         (ensured 𝓛 gather.ended (gather.clauses 𝓛 mem run) (κ, tt) (x, tt) tt r)))) (id⊢ 𝓤 _) $ await ! tt $ pick ! (λ n.
-        split ! $ move ! (1 ∷ []) $ use1 𝓛 (raw (fact 𝓤 (n ≡ keptOf x.now))) (gather-said n) $ heard ! (n ≡ keptOf x.now) (λ e. split ! $ move ! (1 ∷ []) $
+        split ! $ move ! (1 ∷ []) $ use1 𝓛 (raw (fact 𝓤 (n ≡ kept_of x.now))) (gather_said n) $ heard ! (n ≡ kept_of x.now) (λ e. split ! $ move ! (1 ∷ []) $
         facts ! N.the_row (Is N.the_row) (shows 𝓛 N.the_row) n (u ∷ []) (λ is.
         -- [κ's token and true; the other tokens; the others; _4; …; _3; …]
         land ! (from ! (stop !)) (init ! 3 refl ((LL.lawful N.the_type N'.the_laws 𝓛).typed n _ is).0) $
-        move ! (2 ∷ 1 ∷ []) $ use2 𝓛 (raw ((Check 𝓛 mem run).pre (to-check n u))) (goes-check n u is) $
+        move ! (2 ∷ 1 ∷ []) $ use2 𝓛 (raw ((Check 𝓛 mem run).pre (to_check n u))) (goes_check n u is) $
         -- [what the call asks; κ's token and true; _4; …; _3; …; _2; …; _1; …; _0; …]
-        calls_at ! fm (Check 𝓛 mem run) known-check (to-check n u)
+        calls_at ! fm (Check 𝓛 mem run) known-check (to_check n u)
         (and_then ! (load ! (from ! (stop !)) (look ! 2 refl)) (and_then ! (load ! (from ! (stop !)) (look ! 6 refl))
         (and_then ! (load ! (from ! (stop !)) (look ! 4 refl)) (no_more !)))) (λ u'.
         use1 𝓛 (later (some (λ (r : Loaded). (Tokens ⊛ ‵ ((S.the_row).own_val r (u' ∷ []))) ⊛ raw
-        (ensured 𝓛 check.ended (check.clauses 𝓛 mem run) (κ', (κ'', tt)) (check-args n) tt r)))) (id⊢ 𝓤 _) $ await ! tt $ pick ! (λ r.
-        split ! $ move ! (1 ∷ []) $ use1 𝓛 (raw (fact 𝓤 (r ≡ load_of (shown n) l.now s.now))) (check-said n r) $
+        (ensured 𝓛 check.ended (check.clauses 𝓛 mem run) (κ', (κ'', tt)) (check_args n) tt r)))) (id⊢ 𝓤 _) $ await ! tt $ pick ! (λ r.
+        split ! $ move ! (1 ∷ []) $ use1 𝓛 (raw (fact 𝓤 (r ≡ load_of (shown n) l.now s.now))) (check_said n r) $
         heard ! (r ≡ load_of (shown n) l.now s.now) (λ e'. split ! $ move ! (1 ∷ []) $
         peeks ! S.the_row (Is S.the_row) (shows 𝓛 S.the_row) r (u' ∷ []) (λ is'.
         -- [the result; the other tokens; κ's token and true; _4; …; _0; …]
@@ -204,10 +204,10 @@ module _ {M : Type 1} {𝓤 : Ura M} (𝓛 : Logic 𝓤) (mem : Memory → SProp
 module _ {M : Type 1} {𝓤 : Ura M} (𝓛 : Logic 𝓤) (mem : Memory → SProp 𝓤) (run : Routine → Fun 𝓤) where
   open 𝓛 use {H}
 
-  load-table-walks : (C : Calls 𝓤 H) (Λ : Loops 𝓤 H) → FmC 𝓤 H 𝓛.laws C → Triple 𝓤 (C #device·table·gather) (Gather 𝓛 mem run)
+  load_table_walks : (C : Calls 𝓤 H) (Λ : Loops 𝓤 H) → FmC 𝓤 H 𝓛.laws C → Triple 𝓤 (C #device·table·gather) (Gather 𝓛 mem run)
       → Triple 𝓤 (C #device·numbers·load) (Check 𝓛 mem run)
       → Walks 𝓛 fn.ended stayed (WpFn 𝓤 H C Λ code.function) (fn.clauses 𝓛 mem run)
-  load-table-walks C Λ fm known-gather known-check = walked 𝓛 fn.ended stayed (fn.clauses 𝓛 mem run) (WpFn 𝓤 H C Λ code.function)
+  load_table_walks C Λ fm known-gather known-check = walked 𝓛 fn.ended stayed (fn.clauses 𝓛 mem run) (WpFn 𝓤 H C Λ code.function)
       (λ κs. (shr_slice_vals, (shr_slice_vals, (shr_slice_vals, tt)))) (λ κs. (
         shr_slice_Tells (named 0) κs.0 T.the_row,
         (shr_slice_Tells (named 1) κs.1.0 u32, (shr_slice_Tells (named 2) κs.1.1.0 u16, tt)),
@@ -224,19 +224,19 @@ module _ {M : Type 1} {𝓤 : Ura M} (𝓛 : Logic 𝓤) (mem : Memory → SProp
     ),
   )
 
-load-table-meets : {M : Type 1} {𝓤 : Ura M} (𝓛 : Logic 𝓤) (mem : Memory → SProp 𝓤) (run : Routine → Fun 𝓤) (𝓣 : Tables 𝓤 𝓛.H)
+load_table_meets : {M : Type 1} {𝓤 : Ura M} (𝓛 : Logic 𝓤) (mem : Memory → SProp 𝓤) (run : Routine → Fun 𝓤) (𝓣 : Tables 𝓤 𝓛.H)
     → Triple 𝓤 (𝓣.C #device·table·gather) (Gather 𝓛 mem run) → Triple 𝓤 (𝓣.C #device·numbers·load) (Check 𝓛 mem run)
     → Meets 𝓛 fn.signature (WpFn 𝓤 𝓛.H 𝓣.C 𝓣.Λ code.function) (fn.spec 𝓛 mem run)
-load-table-meets {𝓤 = 𝓤} 𝓛 mem run 𝓣 known-gather known-check = walk_Meets 𝓛 fn.ended stayed (goes 𝓛 mem run) (fn.clauses 𝓛 mem run)
+load_table_meets {𝓤 = 𝓤} 𝓛 mem run 𝓣 known-gather known-check = walk_Meets 𝓛 fn.ended stayed (goes 𝓛 mem run) (fn.clauses 𝓛 mem run)
     (WpFn 𝓤 𝓛.H 𝓣.C 𝓣.Λ code.function) (WpFn-mono 𝓤 𝓛.H 𝓛.laws 𝓣 code.function)
-    (load-table-walks 𝓛 mem run 𝓣.C 𝓣.Λ (fm_of 𝓤 𝓛.H 𝓛.laws 𝓣) known-gather known-check)
+    (load_table_walks 𝓛 mem run 𝓣.C 𝓣.Λ (fm_of 𝓤 𝓛.H 𝓛.laws 𝓣) known-gather known-check)
 
-pub load-table-spec : {M : Type 1} → stated.statement M
+pub load_table_spec : {M : Type 1} → stated.statement M
 unfolding code.routine tables_of
-load-table-spec 𝓤 𝓛 𝓜 𝓡 =
+load_table_spec 𝓤 𝓛 𝓜 𝓡 =
     entered 𝓤 𝓛.H (triple_of 𝓛 fn.signature (fn.spec 𝓛 𝓜.mem 𝓡.run))
     (tables 𝓤 𝓛.H 𝓜 𝓡 code.env).C (tables 𝓤 𝓛.H 𝓜 𝓡 code.env).Λ #device·table·load-table code.function (code.unfolded 𝓤 𝓛.H 𝓜 𝓡)
-    (load-table-meets 𝓛 𝓜.mem 𝓡.run (tables_of 𝓤 𝓛.H 𝓜 (tables 𝓤 𝓛.H 𝓜 𝓡 code.env))
+    (load_table_meets 𝓛 𝓜.mem 𝓡.run (tables_of 𝓤 𝓛.H 𝓜 (tables 𝓤 𝓛.H 𝓜 𝓡 code.env))
     (cited 𝓤 𝓛.H (Gather 𝓛 𝓜.mem 𝓡.run) 𝓜 𝓡 code.env #device·table·gather gather-def.routine code.calls-device::table::gather
     (gather-thm.met 𝓤 𝓛 𝓜 𝓡))
     (cited 𝓤 𝓛.H (Check 𝓛 𝓜.mem 𝓡.run) 𝓜 𝓡 code.env #device·numbers·load check-def.routine code.calls-device::numbers::load

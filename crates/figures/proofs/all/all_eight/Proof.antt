@@ -4,8 +4,8 @@ use Rattle.rules.proofs.Numbers.Choice.{alls}
 use Rattle.figures.proofs.all.all_eight.Statement.{statement}
 use Rattle.figures.proofs.all.all_eight.Tie as tie
 
-pub all-eight-spec : {M : Type 1} → statement M
-all-eight-spec =
+pub all_eight_spec : {M : Type 1} → statement M
+all_eight_spec =
     tie.close
     (tie.spec
     (λ c. search (alls, not-true, not-false) depth 12) (λ c. search (alls, not-true, not-false) depth 12)

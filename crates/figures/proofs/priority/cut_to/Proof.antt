@@ -4,9 +4,9 @@ use Rattle.rules.specs.Schedulers.Lazy.{cut_to}
 use Rattle.figures.proofs.priority.cut_to.Statement.{statement}
 use Rattle.figures.proofs.priority.cut_to.Tie as tie
 
-pub cut-to-spec : {M : Type 1} → statement M
+pub cut_to_spec : {M : Type 1} → statement M
 unfolding cut_to
-cut-to-spec =
+cut_to_spec =
     tie.close
     (tie.spec
     (λ c. search tests) (λ c. search tests))

@@ -1,7 +1,7 @@
 -- `figures::spare::spare64` meets its contract. Each turn joins one place. Assumes nothing.
 use Prim.Native.Nat.{◌-◌}
 use lib.ListN.{length}
-use Rattle.figures.proofs.Joined.{JoinedSoFar, joined-next, joined-ends}
+use Rattle.figures.proofs.Joined.{JoinedSoFar, joined_next, joined_ends}
 use borrow.Author.Rules.{rules}
 use Rattle.figures.proofs.spare.spare64.Statement.{statement}
 use Rattle.figures.proofs.spare.spare64.Tie as tie
@@ -12,9 +12,9 @@ invariant-loop xs n joined₀ i₀ joined i = JoinedSoFar xs n i joined
 abbrev decreases-loop : tie.decreases-loop
 decreases-loop xs n joined₀ i₀ joined i = length xs - i
 
-pub spare64-spec : {M : Type 1} → statement M
-spare64-spec =
+pub spare64_spec : {M : Type 1} → statement M
+spare64_spec =
     tie.close
     (tie.spec
     invariant-loop decreases-loop (λ c. search rules) (λ c. search rules) (λ c. search rules)
-    (λ c. search rules) (λ c. search rules) (λ c. search joined-next) (λ c. search joined-ends))
+    (λ c. search rules) (λ c. search rules) (λ c. search joined_next) (λ c. search joined_ends))

@@ -10,7 +10,7 @@ use borrow.Fn.Kinds.{In}
 use borrow.Fn.PlainCycle.{Measures, is, falls, and}
 use Rattle.jobs.specs.Sheet.{sheet}
 use Rattle.jobs.specs.Said.{Came}
-use Rattle.jobs.proofs.Ways.{within-work, within-left, within-gap, gap-inside, items, body-start, body-next, body-done, body-stopped, body_less, body-over, body-halted}
+use Rattle.jobs.proofs.Ways.{within_work, within_left, within_gap, gap_inside, items, body_start, body_next, body_done, body_stopped, body_less, body_over, body_halted}
 use Rattle.jobs.proofs.read.body.Reads as body
 use Rattle.jobs.proofs.read.body.Kinds as body-kinds
 use Rattle.jobs.proofs.read.+body_item.Lts-body as body-lts
@@ -39,11 +39,11 @@ body_at t = and 2 body-kinds.ps (is 2 body-kinds.ps μ-body t) body.Pre
 abbrev body_below : ℕ → In 2 body-kinds.ps
 body_below t = and 2 body-kinds.ps (falls 2 body-kinds.ps ◌<◌ μ-body t) body.Pre
 
-abbrev item-at : ℕ → In 2 item-kinds.ps
-item-at t = and 2 item-kinds.ps (is 2 item-kinds.ps μ-item t) item.Pre
+abbrev item_at : ℕ → In 2 item-kinds.ps
+item_at t = and 2 item-kinds.ps (is 2 item-kinds.ps μ-item t) item.Pre
 
-abbrev item-below : ℕ → In 2 item-kinds.ps
-item-below t = and 2 item-kinds.ps (falls 2 item-kinds.ps ◌<◌ μ-item t) item.Pre
+abbrev item_below : ℕ → In 2 item-kinds.ps
+item_below t = and 2 item-kinds.ps (falls 2 item-kinds.ps ◌<◌ μ-item t) item.Pre
 
 -- a body's loop has come to an item
 abbrev invariant-loop : body-lts.invariant-loop
@@ -52,34 +52,34 @@ invariant-loop text from k space₀ n i₀ m₀ space i m = (length space ≡ le
 abbrev decreases-loop : body-lts.decreases-loop
 decreases-loop text from k space₀ n i₀ m₀ space i m = length text - i
 
-pub +body-item-spec : {M : Type 1} → statement M
-+body-item-spec = close μ-body μ-item
-    (λ t. body-lts.spec (item-below t, item.Post, byte-Reads.Asked, byte-Reads.Learnt) (body_at t) body.Post invariant-loop decreases-loop
-    (λ c. (search rules, search rules, search rules, search rules, search body-start))
+pub +body_item_spec : {M : Type 1} → statement M
++body_item_spec = close μ-body μ-item
+    (λ t. body-lts.spec (item_below t, item.Post, byte-Reads.Asked, byte-Reads.Learnt) (body_at t) body.Post invariant-loop decreases-loop
+    (λ c. (search rules, search rules, search rules, search rules, search body_start))
     (λ c κs. (omega arith, (search rules, search rules)))
     (λ c κs. search rules)
     (λ c. search rules)
-    (λ c. (search body-done, (search rules, search body-over)))
+    (λ c. (search body_done, (search rules, search body_over)))
     (λ c. search rules)
     (λ c. search (body_less, rules))
-    (λ c. (search rules, search rules, search within-gap, search rules, search body-next))
+    (λ c. (search rules, search rules, search within_gap, search rules, search body_next))
     (λ c. search rules)
-    (λ c. (search body-stopped, (search rules, search body-halted))))
-    (λ t. item-lts.spec (byte-Reads.Asked, byte-Reads.Learnt, work-reads.Asked, work-reads.Learnt, enter-reads.Asked, enter-reads.Learnt, gap-reads.Asked, gap-reads.Learnt, body_below t, body.Post, leave-reads.Asked, leave-reads.Learnt) (item-at t) item.Post
+    (λ c. (search body_stopped, (search rules, search body_halted))))
+    (λ t. item-lts.spec (byte-Reads.Asked, byte-Reads.Learnt, work-reads.Asked, work-reads.Learnt, enter-reads.Asked, enter-reads.Learnt, gap-reads.Asked, gap-reads.Learnt, body_below t, body.Post, leave-reads.Asked, leave-reads.Learnt) (item_at t) item.Post
     (λ c κs. search rules)
     (λ c. search rules)
-    (λ c κs. (search rules, search within-work))
+    (λ c κs. (search rules, search within_work))
     (λ c. search rules)
     (λ c. (search items, search rules))
     (λ c. (search items, search rules))
     (λ c. (search items, search rules))
     (λ c. search rules)
-    (λ c κs. (search rules, search within-left))
+    (λ c κs. (search rules, search within_left))
     (λ c κs. search rules)
     (λ c. search rules)
     (λ c. search rules)
     (λ c. search rules)
-    (λ c κs. (omega arith, (search rules, search gap-inside)))
+    (λ c κs. (omega arith, (search rules, search gap_inside)))
     (λ c κs. search rules)
     (λ c. search rules)
     (λ c. (search items, search rules))

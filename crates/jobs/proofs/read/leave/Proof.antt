@@ -1,14 +1,14 @@
 -- `jobs::read::leave` meets its contract. Assumes nothing.
 use borrow.Author.Rules.{rules}
-use Rattle.jobs.proofs.Ways.{left-did, left-stopped, within-right}
+use Rattle.jobs.proofs.Ways.{left_did, left_stopped, within_right}
 use Rattle.jobs.proofs.read.leave.Statement.{statement}
 use Rattle.jobs.proofs.read.leave.Tie as tie
 
 returns : tie.Need-returns
-returns c = (search left-did, search within-right)
+returns c = (search left_did, search within_right)
 
-returns-2 : tie.Need-returns-2
-returns-2 c = (search left-stopped, search rules)
+returns_2 : tie.Need-returns-2
+returns_2 c = (search left_stopped, search rules)
 
 pub leave_spec : {M : Type 1} → statement M
-leave_spec = tie.close (tie.spec (λ c κs. search rules) (λ c κs. search rules) (λ c κs. search rules) (λ c. search rules) (λ c. search rules) (λ c. search rules) returns returns-2)
+leave_spec = tie.close (tie.spec (λ c κs. search rules) (λ c κs. search rules) (λ c κs. search rules) (λ c. search rules) (λ c. search rules) (λ c. search rules) returns returns_2)

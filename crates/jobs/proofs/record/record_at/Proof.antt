@@ -4,8 +4,8 @@ use Rattle.jobs.proofs.Sheets.{read_fits, read_past}
 use Rattle.jobs.proofs.record.record_at.Statement.{statement}
 use Rattle.jobs.proofs.record.record_at.Tie as tie
 
-pub record-at-spec : {M : Type 1} → statement M
-record-at-spec =
+pub record_at_spec : {M : Type 1} → statement M
+record_at_spec =
     tie.close
     (tie.spec
     (λ c. search rules) (λ c. search rules) (λ c κs. search rules) (λ c. search rules) (λ c. search rules) (λ c κs. search rules) (λ c. search rules)

@@ -3,8 +3,8 @@ use borrow.Author.Rules.{rules}
 use Rattle.kernel.proofs.counts.accepted.Statement.{statement}
 use Rattle.kernel.proofs.counts.accepted.Tie as tie
 
-pub accepted-spec : {M : Type 1} → statement M
-accepted-spec =
+pub accepted_spec : {M : Type 1} → statement M
+accepted_spec =
     tie.close
     (tie.spec
     (λ c κs. search rules) (λ c. search rules) (λ c. search rules) (λ c. search rules) (λ c. cc))

@@ -4,8 +4,8 @@ use borrow.Author.Rules.{rules}
 use Rattle.kernel.proofs.counts.call_count.Statement.{statement}
 use Rattle.kernel.proofs.counts.call_count.Tie as tie
 
-pub call-count-spec : {M : Type 1} → statement M
-call-count-spec =
+pub call_count_spec : {M : Type 1} → statement M
+call_count_spec =
     tie.close
     (tie.spec
     (λ c. (search flags, search rules)) (λ c. (search flags, search rules)))

@@ -5,9 +5,9 @@ use borrow.Author.Rules.{rules}
 use Rattle.kernel.proofs.counts.eager_calls.Statement.{statement}
 use Rattle.kernel.proofs.counts.eager_calls.Tie as tie
 
-pub eager-calls-spec : {M : Type 1} → statement M
+pub eager_calls_spec : {M : Type 1} → statement M
 unfolding differs
-eager-calls-spec =
+eager_calls_spec =
     tie.close
     (tie.spec
     (λ c κs. search rules) (λ c. (search (picks, flags), search rules)) (λ c. (search (picks, flags), search rules)))

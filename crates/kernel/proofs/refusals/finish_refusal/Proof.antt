@@ -1,13 +1,13 @@
 -- `kernel::refusals::finish_refusal` meets its contract. Each test in its turn. Assumes nothing.
 use Rattle.kernel.proofs.RefusalLaws.{order}
-use Rattle.rules.specs.Schedulers.EventRefusals.{finishOrder}
+use Rattle.rules.specs.Schedulers.EventRefusals.{finish_order}
 use borrow.Author.Rules.{rules}
 use Rattle.kernel.proofs.refusals.finish_refusal.Statement.{statement}
 use Rattle.kernel.proofs.refusals.finish_refusal.Tie as tie
 
-pub finish-refusal-spec : {M : Type 1} → statement M
-unfolding finishOrder
-finish-refusal-spec =
+pub finish_refusal_spec : {M : Type 1} → statement M
+unfolding finish_order
+finish_refusal_spec =
     tie.close
     (tie.spec
     (λ c. search order) (λ c. search rules) (λ c. search order) (λ c. search order))

@@ -1,13 +1,13 @@
 -- `kernel::refusals::work_refusal` meets its contract. Each test in its turn. Assumes nothing.
 use Rattle.kernel.proofs.RefusalLaws.{order}
-use Rattle.rules.specs.Schedulers.EventRefusals.{workOrder}
+use Rattle.rules.specs.Schedulers.EventRefusals.{work_order}
 use borrow.Author.Rules.{rules}
 use Rattle.kernel.proofs.refusals.work_refusal.Statement.{statement}
 use Rattle.kernel.proofs.refusals.work_refusal.Tie as tie
 
-pub work-refusal-spec : {M : Type 1} → statement M
-unfolding workOrder
-work-refusal-spec =
+pub work_refusal_spec : {M : Type 1} → statement M
+unfolding work_order
+work_refusal_spec =
     tie.close
     (tie.spec
     (λ c. search order) (λ c. search order) (λ c. search rules) (λ c. search rules) (λ c. search rules)

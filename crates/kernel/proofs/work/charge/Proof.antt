@@ -1,5 +1,5 @@
 -- `kernel::work::charge` meets its contract. Each turn charges one section, or passes a newer take by. Assumes nothing.
-use Rattle.kernel.proofs.WorkLaws.{ChargedSoFar, charge-start, charge-next, charge-ends}
+use Rattle.kernel.proofs.WorkLaws.{ChargedSoFar, charge_start, charge_next, charge_ends}
 use borrow.Author.Rules.{rules}
 use Rattle.kernel.proofs.work.charge.Statement.{statement}
 use Rattle.kernel.proofs.work.charge.Tie as tie
@@ -10,9 +10,9 @@ invariant-loop units₀ row k a left₀ c₀ units left c = ChargedSoFar units�
 abbrev decreases-loop : tie.decreases-loop
 decreases-loop units₀ row k a left₀ c₀ units left c = c
 
-pub charge-spec : {M : Type 1} → statement M
-charge-spec =
+pub charge_spec : {M : Type 1} → statement M
+charge_spec =
     tie.close
     (tie.spec
-    invariant-loop decreases-loop (λ c. search charge-start) (λ c κs. search rules) (λ c κs. search rules) (λ c. search rules) (λ c κs. search rules) (λ c κs. search rules)
-    (λ c. search rules) (λ c. search charge-next) (λ c. search charge-ends))
+    invariant-loop decreases-loop (λ c. search charge_start) (λ c κs. search rules) (λ c κs. search rules) (λ c. search rules) (λ c κs. search rules) (λ c κs. search rules)
+    (λ c. search rules) (λ c. search charge_next) (λ c. search charge_ends))

@@ -1,8 +1,8 @@
 -- `kernel::work::delays` meets its contract. Each turn writes one task's delay. Assumes nothing.
 use Prim.Native.Nat.{◌-◌}
-use Rattle.rules.proofs.Numbers.Place.{RenewedSoFar, renewed-start, renewed-ends}
+use Rattle.rules.proofs.Numbers.Place.{RenewedSoFar, renewed_start, renewed_ends}
 use Rattle.kernel.specs.Work.{waited}
-use Rattle.kernel.proofs.WorkLaws.{waited-next}
+use Rattle.kernel.proofs.WorkLaws.{waited_next}
 use borrow.Author.Rules.{rules}
 use Rattle.kernel.proofs.work.delays.Statement.{statement}
 use Rattle.kernel.proofs.work.delays.Tie as tie
@@ -13,10 +13,10 @@ invariant-loop n base released delay₀ b a t₀ delay t = RenewedSoFar delay₀
 abbrev decreases-loop : tie.decreases-loop
 decreases-loop n base released delay₀ b a t₀ delay t = n - t
 
-pub delays-spec : {M : Type 1} → statement M
-delays-spec =
+pub delays_spec : {M : Type 1} → statement M
+delays_spec =
     tie.close
     (tie.spec
-    invariant-loop decreases-loop (λ c. search renewed-start) (λ c. search rules) (λ c. search rules) (λ c. search rules)
+    invariant-loop decreases-loop (λ c. search renewed_start) (λ c. search rules) (λ c. search rules) (λ c. search rules)
     (λ c. search rules) (λ c. search rules) (λ c κs. search rules) (λ c. search rules) (λ c. search rules)
-    (λ c. search rules) (λ c. search rules) (λ c. search waited-next) (λ c. search renewed-ends))
+    (λ c. search rules) (λ c. search rules) (λ c. search waited_next) (λ c. search renewed_ends))

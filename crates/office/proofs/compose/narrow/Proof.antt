@@ -3,7 +3,7 @@ use mathlib.Core.Path.{◌≡◌}
 use Prim.Native.Nat.{◌-◌, ◌%◌}
 use lib.ListN.{length}
 use Rattle.rules.specs.Numbers.Place.{at}
-use Rattle.rules.proofs.Numbers.Place.{RenewedSoFar, renewed-start, renewed-next, renewed-ends}
+use Rattle.rules.proofs.Numbers.Place.{RenewedSoFar, renewed_start, renewed_next, renewed_ends}
 use borrow.Author.Rules.{rules}
 use Rattle.office.proofs.compose.narrow.Statement.{statement}
 use Rattle.office.proofs.compose.narrow.Tie as tie
@@ -14,10 +14,10 @@ invariant-loop from to₀ n i₀ to i = (length to ≡ length to₀) × RenewedS
 abbrev decreases-loop : tie.decreases-loop
 decreases-loop from to₀ n i₀ to i = length from - i
 
-pub narrow-spec : {M : Type 1} → statement M
-narrow-spec =
+pub narrow_spec : {M : Type 1} → statement M
+narrow_spec =
     tie.close
     (tie.spec
-    invariant-loop decreases-loop (λ c. (search rules, search renewed-start)) (λ c. search rules) (λ c. search rules) (λ c. search rules) (λ c. search rules)
-    (λ c. search rules) (λ c. search rules) (λ c. search rules) (λ c. (search rules, search renewed-next)) (λ c. search rules)
-    (λ c. search renewed-ends))
+    invariant-loop decreases-loop (λ c. (search rules, search renewed_start)) (λ c. search rules) (λ c. search rules) (λ c. search rules) (λ c. search rules)
+    (λ c. search rules) (λ c. search rules) (λ c. search rules) (λ c. (search rules, search renewed_next)) (λ c. search rules)
+    (λ c. search renewed_ends))

@@ -4,8 +4,8 @@ use borrow.Author.Rules.{rules}
 use Rattle.office.proofs.explain.byte_in.Statement.{statement}
 use Rattle.office.proofs.explain.byte_in.Tie as tie
 
-pub byte-in-spec : {M : Type 1} → statement M
-byte-in-spec =
+pub byte_in_spec : {M : Type 1} → statement M
+byte_in_spec =
     tie.close
     (tie.spec
     (λ c. search rules) (λ c κs. search rules) (λ c. (search rules, search rules)) (λ c. (search past_end, search rules)))

@@ -3,22 +3,22 @@ use mathlib.Core.Path.{◌≡◌}
 use Prim.Native.Nat.{◌-◌, ◌≤◌}
 use lib.ListN.{length}
 use Rattle.page.specs.Page.{page, typed}
-use Rattle.office.specs.Explain.{callLines}
-use Rattle.office.proofs.Explaining.{calls-start, calls-next, calls-end}
+use Rattle.office.specs.Explain.{call_lines}
+use Rattle.office.proofs.Explaining.{calls_start, calls_next, calls_end}
 use borrow.Author.Rules.{rules}
 use Rattle.office.proofs.explain.put_calls.Statement.{statement}
 use Rattle.office.proofs.explain.put_calls.Tie as tie
 
 abbrev invariant-loop : tie.invariant-loop
 invariant-loop out₀ i b rows n place₀ k₀ out place k =
-    (length out ≡ length out₀) × (k ≤ n) × (page out place ≡ typed (page out₀ i) (callLines b rows k))
+    (length out ≡ length out₀) × (k ≤ n) × (page out place ≡ typed (page out₀ i) (call_lines b rows k))
 
 abbrev decreases-loop : tie.decreases-loop
 decreases-loop out₀ i b rows n place₀ k₀ out place k = n - k
 
-pub put-calls-spec : {M : Type 1} → statement M
-put-calls-spec =
+pub put_calls_spec : {M : Type 1} → statement M
+put_calls_spec =
     tie.close
     (tie.spec
-    invariant-loop decreases-loop (λ c. (search rules, search rules, search calls-start)) (λ c κs. search rules) (λ c. search rules) (λ c. search rules)
-    (λ c. (search rules, search rules, search calls-next)) (λ c. search rules) (λ c. search calls-end))
+    invariant-loop decreases-loop (λ c. (search rules, search rules, search calls_start)) (λ c κs. search rules) (λ c. search rules) (λ c. search rules)
+    (λ c. (search rules, search rules, search calls_next)) (λ c. search rules) (λ c. search calls_end))

@@ -1,14 +1,14 @@
 -- `office::show::put_event_part` meets its contract. The count, then the lines. Assumes nothing.
 use Rattle.page.specs.Ascii.{ascii}
-use Rattle.office.specs.Show.{eventPart}
-use Rattle.page.proofs.Typed.{typed-two}
+use Rattle.office.specs.Show.{event_part}
+use Rattle.page.proofs.Typed.{typed_two}
 use borrow.Author.Rules.{rules}
 use Rattle.office.proofs.show.put_event_part.Statement.{statement}
 use Rattle.office.proofs.show.put_event_part.Tie as tie
 
-pub put-event-part-spec : {M : Type 1} → statement M
-unfolding ascii eventPart
-put-event-part-spec =
+pub put_event_part_spec : {M : Type 1} → statement M
+unfolding ascii event_part
+put_event_part_spec =
     tie.close
     (tie.spec
-    (λ c. search rules) (λ c κs. search rules) (λ c κs. search rules) (λ c. search rules) (λ c. search typed-two))
+    (λ c. search rules) (λ c κs. search rules) (λ c κs. search rules) (λ c. search rules) (λ c. search typed_two))

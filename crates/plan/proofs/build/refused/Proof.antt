@@ -3,8 +3,8 @@ use borrow.Author.Rules.{rules}
 use Rattle.plan.proofs.build.refused.Statement.{statement}
 use Rattle.plan.proofs.build.refused.Tie as tie
 
-pub refused-spec : {M : Type 1} → statement M
-refused-spec =
+pub refused_spec : {M : Type 1} → statement M
+refused_spec =
     tie.close
     (tie.spec
     (λ c κs. search rules) (λ c. cc))

@@ -4,8 +4,8 @@ use borrow.Author.Rules.{rules}
 use Rattle.plan.proofs.ceilings.if_user.Statement.{statement}
 use Rattle.plan.proofs.ceilings.if_user.Tie as tie
 
-pub if-user-spec : {M : Type 1} → statement M
-if-user-spec =
+pub if_user_spec : {M : Type 1} → statement M
+if_user_spec =
     tie.close
     (tie.spec
     (λ c κs. search rules) (λ c. search flags) (λ c. search flags))

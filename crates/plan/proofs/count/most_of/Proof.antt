@@ -8,20 +8,20 @@ returns : tie.Need-returns
 unfolding most
 returns c = search tests
 
-returns-2 : tie.Need-returns-2
+returns_2 : tie.Need-returns-2
 unfolding most
-returns-2 c = search tests
+returns_2 c = search tests
 
-returns-3 : tie.Need-returns-3
+returns_3 : tie.Need-returns-3
 unfolding most
-returns-3 c = search tests
+returns_3 c = search tests
 
-returns-4 : tie.Need-returns-4
+returns_4 : tie.Need-returns-4
 unfolding most
-returns-4 c = search tests
+returns_4 c = search tests
 
-pub most-of-spec : {M : Type 1} → statement M
-most-of-spec =
+pub most_of_spec : {M : Type 1} → statement M
+most_of_spec =
     tie.close
     (tie.spec
-    returns returns-2 returns-3 returns-4)
+    returns returns_2 returns_3 returns_4)

@@ -3,8 +3,8 @@ use Rattle.rules.proofs.Numbers.Choice.{tests}
 use Rattle.plan.proofs.faults.count_of.Statement.{statement}
 use Rattle.plan.proofs.faults.count_of.Tie as tie
 
-pub count-of-spec : {M : Type 1} → statement M
-count-of-spec =
+pub count_of_spec : {M : Type 1} → statement M
+count_of_spec =
     tie.close
     (tie.spec
     (λ c. search tests) (λ c. search tests) (λ c. search tests))

@@ -2,23 +2,23 @@
 use Prim.Native.Nat.{◌-◌}
 use lib.ListN.{length}
 use Rattle.rules.proofs.Numbers.Choice.{flags}
-use Rattle.rules.proofs.Numbers.Place.{PassedSoFar, passed_start, passed-next, passed-found, passed-ends}
-use Rattle.rules.specs.Books.Load.{taskFaultAt}
+use Rattle.rules.proofs.Numbers.Place.{PassedSoFar, passed_start, passed_next, passed_found, passed_ends}
+use Rattle.rules.specs.Books.Load.{task_fault_at}
 use borrow.Author.Rules.{rules}
 use Rattle.plan.proofs.faults.first_task.Statement.{statement}
 use Rattle.plan.proofs.faults.first_task.Tie as tie
 
 abbrev invariant-loop : tie.invariant-loop
-invariant-loop tasks i₀ i = PassedSoFar (taskFaultAt tasks) (length tasks) i
+invariant-loop tasks i₀ i = PassedSoFar (task_fault_at tasks) (length tasks) i
 
 abbrev decreases-loop : tie.decreases-loop
 decreases-loop tasks i₀ i = length tasks - i
 
-pub first-task-spec : {M : Type 1} → statement M
-unfolding taskFaultAt
-first-task-spec =
+pub first_task_spec : {M : Type 1} → statement M
+unfolding task_fault_at
+first_task_spec =
     tie.close
     (tie.spec
     invariant-loop decreases-loop (λ c. search passed_start) (λ c. search rules) (λ c. search rules) (λ c κs. search rules)
-    (λ c. search (passed-found, flags)) (λ c. search rules) (λ c. search rules)
-    (λ c. search (passed-next, flags)) (λ c. search passed-ends))
+    (λ c. search (passed_found, flags)) (λ c. search rules) (λ c. search rules)
+    (λ c. search (passed_next, flags)) (λ c. search passed_ends))

@@ -4,9 +4,9 @@ use borrow.Author.Rules.{rules}
 use Rattle.report.proofs.lines.put_header.Statement.{statement}
 use Rattle.report.proofs.lines.put_header.Tie as tie
 
-pub put-header-spec : {M : Type 1} → statement M
+pub put_header_spec : {M : Type 1} → statement M
 unfolding header line spaced
-put-header-spec =
+put_header_spec =
     tie.close
     (tie.spec
     (λ c. search rules) (λ c κs. search rules) (λ c. search rules) (λ c. search rules))

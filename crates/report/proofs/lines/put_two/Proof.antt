@@ -4,8 +4,8 @@ use borrow.Author.Rules.{rules}
 use Rattle.report.proofs.lines.put_two.Statement.{statement}
 use Rattle.report.proofs.lines.put_two.Tie as tie
 
-pub put-two-spec : {M : Type 1} → statement M
-put-two-spec =
+pub put_two_spec : {M : Type 1} → statement M
+put_two_spec =
     tie.close
     (tie.spec
     (λ c κs. search rules) (λ c κs. search rules) (λ c. search rules) (λ c. search two_typed))

@@ -4,8 +4,8 @@ use borrow.Author.Rules.{rules}
 use Rattle.report.proofs.row.running.Statement.{statement}
 use Rattle.report.proofs.row.running.Tie as tie
 
-pub running-spec : {M : Type 1} → statement M
-running-spec =
+pub running_spec : {M : Type 1} → statement M
+running_spec =
     tie.close
     (tie.spec
     (λ c κs. search rules) (λ c. search first_byte))

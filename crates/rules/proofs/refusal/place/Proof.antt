@@ -13,9 +13,9 @@ known : (why case : Refusal) (n : ℕ) → why ≡ case → n ≡ place_of case 
 known why case n e h = h ∙ ap place_of (sym e)
 
 -- two for each case: that the match has come to it, and what its arm returns
-pub place-spec : {M : Type 1} → statement M
+pub place_spec : {M : Type 1} → statement M
 unfolding place_of number_of if◌then◌else◌
-place-spec =
+place_spec =
     tie.close
     (tie.spec
     (search rules) (search rules) (search rules) (search rules) (search rules) (search rules) (search rules) (search rules) (search rules) (search rules)

@@ -3,8 +3,8 @@ use Rattle.rules.proofs.Numbers.Choice.{flags}
 use Rattle.scheduler.proofs.turn.call_byte.Statement.{statement}
 use Rattle.scheduler.proofs.turn.call_byte.Tie as tie
 
-pub call-byte-spec : {M : Type 1} → statement M
-call-byte-spec =
+pub call_byte_spec : {M : Type 1} → statement M
+call_byte_spec =
     tie.close
     (tie.spec
     (λ c. search flags) (λ c. search flags))

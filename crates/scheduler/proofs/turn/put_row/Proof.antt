@@ -6,8 +6,8 @@ use borrow.Author.Rules.{rules}
 use Rattle.scheduler.proofs.turn.put_row.Statement.{statement}
 use Rattle.scheduler.proofs.turn.put_row.Tie as tie
 
-pub put-row-spec : {M : Type 1} → statement M
-put-row-spec =
+pub put_row_spec : {M : Type 1} → statement M
+put_row_spec =
     tie.close
     (tie.spec
     (λ c. search rules) (λ c κs. search rules) (λ c. search rules) (λ c κs. search rules) (λ c. search rules) (λ c. simp length-set (omega arith))

@@ -3,8 +3,8 @@ use borrow.Author.Rules.{rules}
 use Rattle.sound.proofs.head.head_fits.Statement.{statement}
 use Rattle.sound.proofs.head.head_fits.Tie as tie
 
-pub head-fits-spec : {M : Type 1} → statement M
-head-fits-spec =
+pub head_fits_spec : {M : Type 1} → statement M
+head_fits_spec =
     tie.close
     (tie.spec
     (λ c κs. search rules) (λ c κs. search rules) (λ c κs. search rules) (λ c. cc))

@@ -1,6 +1,6 @@
 -- `sound::priority::row_priority` meets its contract: it falls on the number open.  Assumes nothing.
 use native.Mathlib.Omega.{arith}
-use Rattle.sound.proofs.Rows.{priority-ends, priority-more}
+use Rattle.sound.proofs.Rows.{priority_ends, priority_more}
 use borrow.Author.Rules.{rules}
 use Prim.Native.Nat.{ℕ, ◌<◌}
 use borrow.Fn.Kinds.{In}
@@ -19,23 +19,23 @@ use Rattle.sound.proofs.priority.+row_priority.Tie.{close}
 abbrev μ-row-priority : Measures 1 row-priority-kinds.ps ℕ
 μ-row-priority κs a = a.1.1.1.0
 
-abbrev row-priority-at : ℕ → In 1 row-priority-kinds.ps
-row-priority-at t =
+abbrev row_priority_at : ℕ → In 1 row-priority-kinds.ps
+row_priority_at t =
     and 1 row-priority-kinds.ps (is 1 row-priority-kinds.ps μ-row-priority t) row-priority.Pre
 
-abbrev row-priority-below : ℕ → In 1 row-priority-kinds.ps
-row-priority-below t =
+abbrev row_priority_below : ℕ → In 1 row-priority-kinds.ps
+row_priority_below t =
     and
     1
     row-priority-kinds.ps
     (falls 1 row-priority-kinds.ps ◌<◌ μ-row-priority t)
     row-priority.Pre
 
-pub +row-priority-spec : {M : Type 1} → statement M
-+row-priority-spec = close μ-row-priority λ t. row-priority-lts.spec (
+pub +row_priority_spec : {M : Type 1} → statement M
++row_priority_spec = close μ-row-priority λ t. row-priority-lts.spec (
   under-of-reads.Asked,
   under-of-reads.Learnt,
-  row-priority-below t,
+  row_priority_below t,
   row-priority.Post,
   newest-of-reads.Asked,
   newest-of-reads.Learnt,
@@ -46,9 +46,9 @@ pub +row-priority-spec : {M : Type 1} → statement M
   raised-reads.Asked,
   raised-reads.Learnt,
 )
-    (row-priority-at t)
+    (row_priority_at t)
     row-priority.Post
-    (λ c. search priority-ends)
+    (λ c. search priority_ends)
     (λ c κs. search rules)
     (λ c. search rules)
     (λ c κs. (omega arith, search rules))
@@ -56,4 +56,4 @@ pub +row-priority-spec : {M : Type 1} → statement M
     (λ c κs. search rules)
     (λ c κs. search rules)
     (λ c κs. search rules)
-    (λ c. search priority-more)
+    (λ c. search priority_more)

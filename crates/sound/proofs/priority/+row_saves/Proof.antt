@@ -1,6 +1,6 @@
 -- `sound::priority::row_saves` meets its contract: it falls on the number open.  Assumes nothing.
 use native.Mathlib.Omega.{arith}
-use Rattle.sound.proofs.Rows.{saves-ends, saves-fits, saves-more, saves-fit}
+use Rattle.sound.proofs.Rows.{saves_ends, saves_fits, saves_more, saves_fit}
 use borrow.Author.Rules.{rules}
 use Prim.Native.Nat.{ℕ, ◌<◌}
 use borrow.Fn.Kinds.{In}
@@ -17,31 +17,31 @@ use Rattle.sound.proofs.priority.+row_saves.Tie.{close}
 abbrev μ-row-saves : Measures 1 row-saves-kinds.ps ℕ
 μ-row-saves κs a = a.1.1.1.0
 
-abbrev row-saves-at : ℕ → In 1 row-saves-kinds.ps
-row-saves-at t = and 1 row-saves-kinds.ps (is 1 row-saves-kinds.ps μ-row-saves t) row-saves.Pre
+abbrev row_saves_at : ℕ → In 1 row-saves-kinds.ps
+row_saves_at t = and 1 row-saves-kinds.ps (is 1 row-saves-kinds.ps μ-row-saves t) row-saves.Pre
 
-abbrev row-saves-below : ℕ → In 1 row-saves-kinds.ps
-row-saves-below t =
+abbrev row_saves_below : ℕ → In 1 row-saves-kinds.ps
+row_saves_below t =
     and 1 row-saves-kinds.ps (falls 1 row-saves-kinds.ps ◌<◌ μ-row-saves t) row-saves.Pre
 
-pub +row-saves-spec : {M : Type 1} → statement M
-+row-saves-spec = close μ-row-saves λ t. row-saves-lts.spec (
+pub +row_saves_spec : {M : Type 1} → statement M
++row_saves_spec = close μ-row-saves λ t. row-saves-lts.spec (
   under-of-reads.Asked,
   under-of-reads.Learnt,
-  row-saves-below t,
+  row_saves_below t,
   row-saves.Post,
   row-priority-reads.Asked,
   row-priority-reads.Learnt,
   push-word-reads.Asked,
   push-word-reads.Learnt,
 )
-    (row-saves-at t)
+    (row_saves_at t)
     row-saves.Post
-    (λ c. (search saves-ends, search saves-fits))
+    (λ c. (search saves_ends, search saves_fits))
     (λ c κs. search rules)
     (λ c. search rules)
     (λ c κs. (omega arith, search rules))
     (λ c. search rules)
     (λ c κs. search rules)
     (λ c κs. search rules)
-    (λ c. (search saves-more, search saves-fit))
+    (λ c. (search saves_more, search saves_fit))

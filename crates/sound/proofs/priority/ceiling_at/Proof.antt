@@ -1,11 +1,11 @@
 -- `sound::priority::ceiling_at` meets its contract. Past the last place there is 0. Assumes nothing.
-use Rattle.rules.proofs.Numbers.Place.{none-past}
+use Rattle.rules.proofs.Numbers.Place.{none_past}
 use borrow.Author.Rules.{rules}
 use Rattle.sound.proofs.priority.ceiling_at.Statement.{statement}
 use Rattle.sound.proofs.priority.ceiling_at.Tie as tie
 
-pub ceiling-at-spec : {M : Type 1} → statement M
-ceiling-at-spec =
+pub ceiling_at_spec : {M : Type 1} → statement M
+ceiling_at_spec =
     tie.close
     (tie.spec
-    (λ c. search rules) (λ c. search rules) (λ c. search none-past))
+    (λ c. search rules) (λ c. search rules) (λ c. search none_past))

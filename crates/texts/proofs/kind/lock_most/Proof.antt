@@ -5,9 +5,9 @@ use borrow.Author.Rules.{rules}
 use Rattle.texts.proofs.kind.lock_most.Statement.{statement}
 use Rattle.texts.proofs.kind.lock_most.Tie as tie
 
-pub lock-most-spec : {M : Type 1} → statement M
+pub lock_most_spec : {M : Type 1} → statement M
 unfolding most_of
-lock-most-spec =
+lock_most_spec =
     tie.close
     (tie.spec
     (λ c. (search tests, search rules)) (λ c. (search tests, search rules)))

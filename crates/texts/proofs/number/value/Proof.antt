@@ -2,14 +2,14 @@
 use mathlib.Core.Path.{refl}
 use Prim.Native.Nat.{◌-◌, ◌≤◌}
 use lib.ListN.{length}
-use Rattle.texts.specs.Number.{tooLarge}
-use Rattle.texts.proofs.Values.{ValueSoFar, value-next, value-ends}
+use Rattle.texts.specs.Number.{too_large}
+use Rattle.texts.proofs.Values.{ValueSoFar, value_next, value_ends}
 use borrow.Author.Rules.{rules}
 use Rattle.texts.proofs.number.value.Statement.{statement}
 use Rattle.texts.proofs.number.value.Tie as tie
 
 abbrev invariant-loop : tie.invariant-loop
-invariant-loop word n v₀ i₀ v i = (v ≤ tooLarge) × ValueSoFar word v i
+invariant-loop word n v₀ i₀ v i = (v ≤ too_large) × ValueSoFar word v i
 
 abbrev decreases-loop : tie.decreases-loop
 decreases-loop word n v₀ i₀ v i = length word - i
@@ -18,5 +18,5 @@ pub value_spec : {M : Type 1} → statement M
 value_spec =
     tie.close
     (tie.spec
-    invariant-loop decreases-loop (λ c. (search rules, refl)) (λ c. search rules) (λ c κs. search rules) (λ c. search rules) (λ c. search rules) (λ c. (search rules, search value-next))
-    (λ c. search value-ends))
+    invariant-loop decreases-loop (λ c. (search rules, refl)) (λ c. search rules) (λ c κs. search rules) (λ c. search rules) (λ c. search rules) (λ c. (search rules, search value_next))
+    (λ c. search value_ends))

@@ -1,12 +1,12 @@
 -- `texts::number::with_digit` meets its contract. A byte below the digits, a number that fits, and a larger one. Assumes nothing.
-use Rattle.texts.proofs.Values.{grown-low, grown-small, grown-large}
+use Rattle.texts.proofs.Values.{grown_low, grown_small, grown_large}
 use borrow.Author.Rules.{rules}
 use Rattle.texts.proofs.number.with_digit.Statement.{statement}
 use Rattle.texts.proofs.number.with_digit.Tie as tie
 
-pub with-digit-spec : {M : Type 1} → statement M
-with-digit-spec =
+pub with_digit_spec : {M : Type 1} → statement M
+with_digit_spec =
     tie.close
     (tie.spec
-    (λ c. (search grown-low, search rules)) (λ c. search rules) (λ c. search rules) (λ c. search rules)
-    (λ c. (search grown-small, search rules)) (λ c. (search grown-large, search rules)))
+    (λ c. (search grown_low, search rules)) (λ c. search rules) (λ c. search rules) (λ c. search rules)
+    (λ c. (search grown_small, search rules)) (λ c. (search grown_large, search rules)))

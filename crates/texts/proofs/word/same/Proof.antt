@@ -2,7 +2,7 @@
 use mathlib.Core.Path.{refl}
 use Prim.Native.Nat.{◌-◌}
 use lib.ListN.{length}
-use Rattle.texts.proofs.Cuts.{SameSoFar, other_length, same_next, same-differ, same_ends}
+use Rattle.texts.proofs.Cuts.{SameSoFar, other_length, same_next, same_differ, same_ends}
 use borrow.Author.Rules.{rules}
 use Rattle.texts.proofs.word.same.Statement.{statement}
 use Rattle.texts.proofs.word.same.Tie as tie
@@ -19,6 +19,6 @@ same_spec =
     (tie.spec
     invariant-loop decreases-loop (λ c. search other_length)
     (λ c. refl) (λ c. search rules) (λ c. search rules)
-    (λ c. search same-differ) (λ c. search rules) (λ c. search rules)
+    (λ c. search same_differ) (λ c. search rules) (λ c. search rules)
     (λ c. search same_next)
     (λ c. search same_ends))

@@ -1,5 +1,5 @@
 -- `tournament::tree::put` meets its contract. Each turn puts one place right. Assumes nothing.
-use Rattle.tournament.proofs.TreeLaws.{ClimbedSoFar, too_many, put-past, put-past-root, climb-start, climb-next, climb-ends, climb-root}
+use Rattle.tournament.proofs.TreeLaws.{ClimbedSoFar, too_many, put_past, put_past_root, climb_start, climb_next, climb_ends, climb_root}
 use borrow.Author.Rules.{rules}
 use Rattle.tournament.proofs.tree.put.Statement.{statement}
 use Rattle.tournament.proofs.tree.put.Tie as tie
@@ -14,7 +14,7 @@ pub put_spec : {M : Type 1} → statement M
 put_spec =
     tie.close
     (tie.spec
-    invariant-loop decreases-loop (λ c. (λ f few e. search too_many, λ f few e. search too_many)) (λ c. search rules) (λ c. (λ f few e. search put-past, λ f few e. search put-past-root)) (λ c. search rules) (λ c. search rules)
-    (λ c. search rules) (λ c. search rules) (λ c. search climb-start) (λ c. search rules) (λ c. search rules) (λ c. search rules) (λ c. search rules)
+    invariant-loop decreases-loop (λ c. (λ f few e. search too_many, λ f few e. search too_many)) (λ c. search rules) (λ c. (λ f few e. search put_past, λ f few e. search put_past_root)) (λ c. search rules) (λ c. search rules)
+    (λ c. search rules) (λ c. search rules) (λ c. search climb_start) (λ c. search rules) (λ c. search rules) (λ c. search rules) (λ c. search rules)
     (λ c. search rules) (λ c. search rules) (λ c κs. search rules) (λ c. search rules) (λ c. search rules) (λ c. search rules)
-    (λ c. search climb-next) (λ c. (λ f few e. search climb-ends, λ f few e. search climb-root)))
+    (λ c. search climb_next) (λ c. (λ f few e. search climb_ends, λ f few e. search climb_root)))

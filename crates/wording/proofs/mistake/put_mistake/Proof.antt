@@ -4,8 +4,8 @@ use borrow.Author.Rules.{rules}
 use Rattle.wording.proofs.mistake.put_mistake.Statement.{statement}
 use Rattle.wording.proofs.mistake.put_mistake.Tie as tie
 
-pub put-mistake-spec : {M : Type 1} → statement M
-put-mistake-spec =
+pub put_mistake_spec : {M : Type 1} → statement M
+put_mistake_spec =
     tie.close
     (tie.spec
     (λ c. search rules) (λ c. search rules) (λ c. search rules) (λ c. search rules) (λ c κs. search rules)

@@ -1,15 +1,15 @@
 -- `wording::mistake::put_refusal` meets its contract. The words with their numbers. Assumes nothing.
 use Rattle.page.specs.Ascii.{ascii}
-use Rattle.wording.specs.Mistakes.{refusalWords}
-use Rattle.wording.proofs.Ways.{said-then}
+use Rattle.wording.specs.Mistakes.{refusal_words}
+use Rattle.wording.proofs.Ways.{said_then}
 use borrow.Author.Rules.{rules}
 use Rattle.wording.proofs.mistake.put_refusal.Statement.{statement}
 use Rattle.wording.proofs.mistake.put_refusal.Tie as tie
 
-pub put-refusal-spec : {M : Type 1} → statement M
-unfolding ascii refusalWords
-put-refusal-spec =
+pub put_refusal_spec : {M : Type 1} → statement M
+unfolding ascii refusal_words
+put_refusal_spec =
     tie.close
     (tie.spec
     (λ c κs. search rules) (λ c. search rules) (λ c. search rules) (λ c κs. search rules) (λ c κs. search rules)
-    (λ c. search rules) (λ c. search said-then))
+    (λ c. search rules) (λ c. search said_then))

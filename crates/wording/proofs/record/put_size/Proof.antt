@@ -1,13 +1,13 @@
 -- `wording::record::put_size` meets its contract. The words with their numbers. Assumes nothing.
 use Rattle.page.specs.Ascii.{ascii}
-use Rattle.wording.specs.Records.{sizeLine}
+use Rattle.wording.specs.Records.{size_line}
 use borrow.Author.Rules.{rules}
 use Rattle.wording.proofs.record.put_size.Statement.{statement}
 use Rattle.wording.proofs.record.put_size.Tie as tie
 
-pub put-size-spec : {M : Type 1} → statement M
-unfolding ascii sizeLine
-put-size-spec =
+pub put_size_spec : {M : Type 1} → statement M
+unfolding ascii size_line
+put_size_spec =
     tie.close
     (tie.spec
     (λ c. search rules) (λ c. search rules) (λ c κs. search rules) (λ c. search rules) (λ c. search rules))

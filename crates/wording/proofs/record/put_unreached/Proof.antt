@@ -5,9 +5,9 @@ use borrow.Author.Rules.{rules}
 use Rattle.wording.proofs.record.put_unreached.Statement.{statement}
 use Rattle.wording.proofs.record.put_unreached.Tie as tie
 
-pub put-unreached-spec : {M : Type 1} → statement M
+pub put_unreached_spec : {M : Type 1} → statement M
 unfolding ascii unreached
-put-unreached-spec =
+put_unreached_spec =
     tie.close
     (tie.spec
     (λ c. search rules) (λ c. search rules) (λ c κs. search rules) (λ c. search rules) (λ c. search rules))

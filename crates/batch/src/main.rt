@@ -9,6 +9,8 @@
 //   8  read the text of a job, into event space of so many bytes (job.rt)
 // The input's end, or a command that is none of these, too long or with counts that do not fit it, ends
 // the program.
+#![tactic(auto)]
+
 mod check;
 mod figures;
 mod job;

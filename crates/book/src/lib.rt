@@ -1,5 +1,7 @@
 // RULES 4 to 6: a book, that is its contents (1 to 3), its plan (2, 4 to 7 and 24), its events where they
 // lie (8), and the row space for them (9); and the writer of one (23).
+#![tactic(auto)]
+
 mod bodies;
 mod contents;
 pub mod cursor;

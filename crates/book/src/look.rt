@@ -6,7 +6,7 @@ ghost use Rattle.book.specs.Look.{entry_in, body_in, word_in, long_in, task_in, 
 use crate::entry::{CONTENTS, body_at, count_at, kind_at, offset_at};
 use crate::number::{long_at, word_at};
 
-#[derive(Drop)]
+#[derive(Clone, Copy)]
 pub struct Entry {
     pub kind: usize,
     pub count: usize,

@@ -7,7 +7,7 @@ ghost use Rattle.book.specs.Reader.{reader_at};
 use crate::cursor::cursor;
 use rules::answer::Found;
 
-#[derive(Drop)]
+#[derive(Clone, Copy)]
 pub struct Reader<'a> {
     pub body: &'a [u8],
     pub place: usize,

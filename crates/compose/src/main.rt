@@ -1,5 +1,7 @@
 // RULES 19.5: the text on standard input, and its book on standard output; or the line that says why there is none, on standard
 // error.
+#![tactic(auto)]
+
 use office::compose::compose;
 use office::space::text_room;
 

@@ -9,7 +9,7 @@ use rules::plan::Plan;
 // The refusal's number and place; the plan, and where the event body starts in the book, all 0 beside
 // a refusal.
 #[repr(C)]
-#[derive(Drop)]
+#[derive(Clone, Copy)]
 pub struct DeviceCheck {
     pub number: u8,
     pub place: usize,

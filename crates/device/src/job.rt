@@ -7,7 +7,7 @@ use rules::answer::{verdict_number, verdict_place};
 
 // The refusal's number and place; how many events the job has, 0 beside a refusal.
 #[repr(C)]
-#[derive(Drop)]
+#[derive(Clone, Copy)]
 pub struct DeviceJob {
     pub number: u8,
     pub place: usize,

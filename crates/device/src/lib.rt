@@ -3,6 +3,8 @@
 // value. An exported function takes and returns no enum: an event is given by its kind, id and amount,
 // a verdict by its number and place and an answer by its number and calls, all 0 where nothing is
 // refused.
+#![tactic(auto)]
+
 pub mod bound;
 pub mod check;
 pub mod job;

@@ -10,7 +10,7 @@ use rules::plan::Plan;
 
 // The refusal's number and place; the plan, every figure 0 beside a refusal.
 #[repr(C)]
-#[derive(Drop)]
+#[derive(Clone, Copy)]
 pub struct DeviceLoad {
     pub number: u8,
     pub place: usize,

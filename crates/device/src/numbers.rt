@@ -10,7 +10,7 @@ use rules::capacity::MAX_TASKS;
 // One more than a plan may have: enough to see that there are too many.
 pub const ROOM: usize = MAX_TASKS + 1;
 
-#[derive(Drop)]
+#[derive(Clone, Copy)]
 pub struct Numbers {
     pub words: [u16; ROOM],
     pub count: usize,

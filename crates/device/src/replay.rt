@@ -13,7 +13,7 @@ use rules::state::State;
 // The refusal's number and place; the plan, and the state where the run stopped: the blank plan and a
 // fresh state where the book itself is refused.
 #[repr(C)]
-#[derive(Drop)]
+#[derive(Clone, Copy)]
 pub struct DeviceReplay {
     pub number: u8,
     pub place: usize,

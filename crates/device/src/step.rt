@@ -13,7 +13,7 @@ use rules::state::{State, fresh};
 // The refusal's number and the lazy calls; the state after the event, which is the given one where it
 // is refused.
 #[repr(C)]
-#[derive(Drop)]
+#[derive(Clone, Copy)]
 pub struct DeviceStep {
     pub number: u8,
     pub calls: u8,

@@ -9,7 +9,7 @@ use rules::answer::Loaded;
 
 // RULES 4.4: the two bytes of a task's record, as they lie in the table.
 #[repr(C)]
-#[derive(Drop)]
+#[derive(Clone, Copy)]
 pub struct TaskRecord {
     pub base: u8,
     pub maximum: u8,

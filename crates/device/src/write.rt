@@ -7,7 +7,7 @@ use rules::answer::{verdict_number, verdict_place};
 
 // The refusal's number and place; the book's length, 0 beside a refusal.
 #[repr(C)]
-#[derive(Drop)]
+#[derive(Clone, Copy)]
 pub struct DeviceWrite {
     pub number: u8,
     pub place: usize,

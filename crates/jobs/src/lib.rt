@@ -1,4 +1,6 @@
 // RULES 20: jobs as they are drawn, with sections in brackets, read into event records.
+#![tactic(auto)]
+
 mod form;
 mod read;
 pub mod record;
@@ -13,7 +15,7 @@ use rules::answer::Verdict;
 use rules::refusal::Refusal;
 
 // What the reading of a job comes to: what was refused, and how many events there are, 0 beside a refusal.
-#[derive(Drop)]
+#[derive(Clone, Copy)]
 pub struct Job {
     pub verdict: Verdict,
     pub events: usize,

@@ -38,7 +38,7 @@ fn unlock_number(lock: u32) -> u32
 }
 
 // Where a reader stands behind what it read, with the count of events; or where it stopped.
-#[derive(Drop)]
+#[derive(Clone, Copy)]
 pub struct At {
     pub ok: bool,
     pub place: usize,

@@ -53,7 +53,7 @@ pub fn digit(text: &[u8], from: usize) -> u32
     b - 48
 }
 
-#[derive(Drop)]
+#[derive(Clone, Copy)]
 pub struct Number {
     pub ok: bool,
     pub place: usize,

@@ -2,7 +2,7 @@
 use rules::answer::Answer;
 use rules::state::Head;
 
-#[derive(Drop)]
+#[derive(Clone, Copy)]
 pub struct Acted {
     pub answer: Answer,
     pub head: Head,

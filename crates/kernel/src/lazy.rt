@@ -124,7 +124,7 @@ pub fn after_acquire(
 
 // The words after an unlock, whether it called the kernel, and the word that it put back: after a
 // switch the user word is another task's.
-#[derive(Drop)]
+#[derive(Clone, Copy)]
 pub struct Unlocked {
     pub turn: Turn,
     pub call: bool,

@@ -1,5 +1,7 @@
 // The six events over lent arrays. This crate is no entry point: `scheduler` alone hands it a state,
 // which is sound, since it was tested or since every event keeps it so.
+#![tactic(auto)]
+
 mod acquire;
 pub mod act;
 pub mod acted;

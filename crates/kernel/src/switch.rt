@@ -18,7 +18,7 @@ use tournament::keys::{key_of, who_of, word_of};
 use tournament::tree::{PLACES, put, top};
 
 // Who runs after a switch, and the two words.
-#[derive(Drop)]
+#[derive(Clone, Copy)]
 pub struct Turn {
     pub running: u8,
     pub user: UserPriority,

@@ -29,7 +29,7 @@ const USE_ROOM: usize = MAX_USES + 1;
 const EVENT_ROOM: usize = MAX_EVENTS + 1;
 
 // What composing comes to: the length of the book, and that of the line that says why there is none. One of them is 0.
-#[derive(Drop)]
+#[derive(Clone, Copy)]
 pub struct Made {
     pub length: usize,
     pub said: usize,

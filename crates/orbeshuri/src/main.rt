@@ -1,5 +1,7 @@
 // RULES 15, 19.9: the replay of a book, which is on standard input, and its report, on standard output. The word
 // `first` asks for the first protocol, and `explain` for what the calls and the refusal were about, in words.
+#![tactic(auto)]
+
 mod words;
 
 ghost use Rattle.std.specs.Prelude.{◌≡◌, ◌≤◌, min, length, take};

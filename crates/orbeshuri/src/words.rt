@@ -7,7 +7,7 @@ use rules::protocol::Protocol;
 use texts::word::same;
 
 // A report by the protocol, a report with its words, or words that ask for nothing.
-#[derive(Drop)]
+#[derive(Clone, Copy)]
 pub enum Asked {
     By(Protocol),
     Explain(Protocol),

@@ -1,5 +1,7 @@
 // A text put into lent bytes part by part: each function answers the place after its part, and what
 // does not fit is cut.
+#![tactic(auto)]
+
 ghost use Rattle.std.specs.Prelude.{◌≡◌, [], ◌∷◌, ◌+◌, ◌%◌, ◌≤◌, ◌<◌, length};
 ghost use Rattle.page.specs.Page.{page, typed};
 ghost use Rattle.rules.specs.Numbers.Place.{at};
@@ -69,7 +71,7 @@ fn number_at(numbers: &[u64], j: usize) -> u64
 }
 
 // Where a sentence has come to: the place after what is put, and the next number.
-#[derive(Drop)]
+#[derive(Clone, Copy)]
 struct Spot {
     place: usize,
     next: usize,

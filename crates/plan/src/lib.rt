@@ -1,4 +1,6 @@
 // RULES 6 and 13.4: a plan from its records, and the bound on a task's delay.
+#![tactic(auto)]
+
 mod build;
 mod ceilings;
 pub mod count;

@@ -16,7 +16,7 @@ fn gap_of(priority: u8) -> u8
 }
 
 // The greatest base of its users, and whether its ceiling is above the maximum of one.
-#[derive(Drop)]
+#[derive(Clone, Copy)]
 pub struct Users {
     pub top: u8,
     pub above: bool,

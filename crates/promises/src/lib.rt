@@ -1,1 +1,2 @@
 // What is promised of the public functions, through their contracts: proofs/ alone.
+#![tactic(auto)]

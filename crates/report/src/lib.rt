@@ -1,4 +1,6 @@
 // RULES 15: the text of the replay's report.
+#![tactic(auto)]
+
 mod lines;
 pub mod row;
 

@@ -7,7 +7,7 @@ use crate::refusal::{Refusal, number};
 use crate::state::State;
 
 // What the tests of an event come to.
-#[derive(Drop)]
+#[derive(Clone, Copy)]
 pub enum Tested {
     Passed,
     Refused(Refusal),
@@ -15,7 +15,7 @@ pub enum Tested {
 
 // What a step answers: the event is accepted, with whether the lazy scheduler called the kernel, or
 // it is refused.
-#[derive(Drop)]
+#[derive(Clone, Copy)]
 pub enum Answer {
     Accepted(bool),
     Refused(Refusal),
@@ -23,7 +23,7 @@ pub enum Answer {
 
 // What a check of records, or the run of a list of events, comes to: nothing is refused, or the
 // first offender is, at its place.
-#[derive(Drop)]
+#[derive(Clone, Copy)]
 pub enum Verdict {
     Passed,
     Refused(Refusal, usize),
@@ -31,7 +31,7 @@ pub enum Verdict {
 
 // What stands at a place of the event body: an event, with the next place; a record that is
 // refused, at its place; or no whole record.
-#[derive(Drop)]
+#[derive(Clone, Copy)]
 pub enum Found {
     Got(Event, usize),
     Refused(Refusal, usize),
@@ -39,7 +39,7 @@ pub enum Found {
 }
 
 // A plan that was loaded, or the blank plan beside a refusal.
-#[derive(Drop)]
+#[derive(Clone, Copy)]
 pub struct Loaded {
     pub verdict: Verdict,
     pub plan: Plan,
@@ -47,7 +47,7 @@ pub struct Loaded {
 
 // A book that was read: its plan and the place of its event body; or a blank plan and 0 beside a
 // refusal.
-#[derive(Drop)]
+#[derive(Clone, Copy)]
 pub struct Checked {
     pub verdict: Verdict,
     pub plan: Plan,
@@ -55,14 +55,14 @@ pub struct Checked {
 }
 
 // What the writing of a book comes to: what was refused, and the book's length, 0 beside a refusal.
-#[derive(Drop)]
+#[derive(Clone, Copy)]
 pub struct Written {
     pub verdict: Verdict,
     pub length: usize,
 }
 
 // The answer of a step and the state after it, which is the given one where the event is refused.
-#[derive(Drop)]
+#[derive(Clone, Copy)]
 pub struct Stepped {
     pub answer: Answer,
     pub state: State,
@@ -70,7 +70,7 @@ pub struct Stepped {
 
 // What the replay of a book comes to: what was refused, the plan that was loaded, and the state where
 // the run stopped; the blank plan and a fresh state where the book itself is refused.
-#[derive(Drop)]
+#[derive(Clone, Copy)]
 pub struct Replayed {
     pub verdict: Verdict,
     pub plan: Plan,

@@ -1,5 +1,5 @@
 // The six events: a release names a task, an acquire and an unlock a lock, work its units.
-#[derive(Drop)]
+#[derive(Clone, Copy)]
 pub enum Event {
     Release(u8),
     Acquire(u8),

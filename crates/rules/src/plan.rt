@@ -6,7 +6,7 @@ use crate::capacity::{MAX_LOCKS, MAX_TASKS};
 // RULES 3.5: a recorder's plan. A task or a lock is its place, from 0. Places past the last one hold 0.
 // Bit l of a task's uses says that the task may take lock l.
 #[repr(C)]
-#[derive(Drop)]
+#[derive(Clone, Copy)]
 pub struct Plan {
     pub tasks: usize,
     pub locks: usize,

@@ -6,7 +6,7 @@ use crate::priority::{KernelPriority, UserPriority};
 
 // The counts of accepted events and of calls, who runs, and the two words shared with the kernel.
 #[repr(C)]
-#[derive(Drop)]
+#[derive(Clone, Copy)]
 pub struct Head {
     pub accepted: u32,
     pub running: u8,
@@ -22,7 +22,7 @@ pub struct Head {
 // plus one, or 0. A row of takes, each by its lock, or of saved words is a number in base 256,
 // newest first.
 #[repr(C)]
-#[derive(Drop)]
+#[derive(Clone, Copy)]
 pub struct State {
     pub head: Head,
     pub released: [u32; MAX_TASKS],

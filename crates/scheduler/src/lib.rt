@@ -1,4 +1,6 @@
 // RULES 12: the step and the replay.
+#![tactic(auto)]
+
 mod by_value;
 mod run;
 mod turn;

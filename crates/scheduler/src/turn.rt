@@ -18,7 +18,7 @@ use rules::state::Head;
 use tournament::tree::PLACES;
 
 // What the run has come to, beside the arrays that it is lent.
-#[derive(Drop)]
+#[derive(Clone, Copy)]
 pub struct Ended {
     pub verdict: Verdict,
     pub head: Head,

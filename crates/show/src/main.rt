@@ -1,4 +1,6 @@
 // RULES 19.7: the book on standard input, and its text on standard output.
+#![tactic(auto)]
+
 ghost use Rattle.std.specs.Prelude.{◌≡◌};
 ghost use Rattle.rules.specs.Numbers.Place.{stored};
 ghost use Rattle.io.specs.Counts.{IsPrefixLen};

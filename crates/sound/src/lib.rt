@@ -1,5 +1,7 @@
 // RULES 8: the test of soundness that stands before every step of a state that is handed in. The arrays
 // of the plan and of the state are lent where they lie, to each test those that it asks.
+#![tactic(auto)]
+
 mod head;
 mod lent;
 mod lock;

@@ -5,7 +5,7 @@ ghost use Rattle.texts.specs.Kind.{event_named, kind_named, fields_of, most_of, 
 
 use crate::word::same;
 
-#[derive(Drop)]
+#[derive(Clone, Copy)]
 pub enum Kind {
     Task,
     Lock,
@@ -20,7 +20,7 @@ pub enum Kind {
 }
 
 // What a word names: a kind of record, a job, or nothing.
-#[derive(Drop)]
+#[derive(Clone, Copy)]
 pub enum Named {
     Is(Kind),
     Nothing,

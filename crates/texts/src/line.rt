@@ -14,7 +14,7 @@ use rules::refusal::Refusal;
 
 // Nothing; a record, with its part and its number; a job, with the number of its release and how many records it is; a name
 // that no record has; for a record of this kind, the word that is wrong, and how; or a job whose items are refused.
-#[derive(Drop)]
+#[derive(Clone, Copy)]
 pub enum Line {
     Blank,
     Record(u8, u32),

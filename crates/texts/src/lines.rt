@@ -13,14 +13,14 @@ use jobs::read_job;
 use jobs::record::record_at;
 
 // No line, or the first with a mistake: its number from 1, and what it says.
-#[derive(Drop)]
+#[derive(Clone, Copy)]
 pub enum First {
     None,
     At(usize, Line),
 }
 
 // What a line says, where it ends, and where the next one starts.
-#[derive(Drop)]
+#[derive(Clone, Copy)]
 pub struct Read {
     pub line: Line,
     pub end: usize,

@@ -3,7 +3,7 @@ ghost use Rattle.std.specs.Prelude.{◌≡◌, ◌≤◌};
 ghost use Rattle.texts.specs.Number.{too_large, is_digit, digital, grown, value_of, number_of};
 
 // What is wrong with the word where a number stands, or after the last one.
-#[derive(Drop)]
+#[derive(Clone, Copy)]
 pub enum Mistake {
     Missing,
     NoNumber,
@@ -11,7 +11,7 @@ pub enum Mistake {
     TooMany,
 }
 
-#[derive(Drop)]
+#[derive(Clone, Copy)]
 pub enum Number {
     Value(u32),
     Wrong(Mistake),

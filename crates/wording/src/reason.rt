@@ -11,7 +11,7 @@ use rules::refusal::Refusal;
 // What the state that refused an event has to say: who runs, the task or lock that the event names and its units, how many
 // tasks and locks the plan has, who has that lock open; of the running task how many takes it has, the newest one's lock, and
 // the least lock whose limit the work would pass, with the units of its section and its limit.
-#[derive(Drop)]
+#[derive(Clone, Copy)]
 pub struct Facts {
     pub running: u64,
     pub named: u64,

@@ -10,11 +10,11 @@ use borrow.Author.Rules.{rules}
 use Rattle.page.proofs.put_says.Statement.{statement}
 use Rattle.page.proofs.put_says.Tie as tie
 
-abbrev invariant-loop : tie.invariant-loop
+abbrev invariant-loop : tie.invariant-loop-k
 invariant-loop out₀ i text numbers spot₀ k₀ out spot k =
     (length out ≡ length out₀) × (spot.next ≤ k) × (left_of out spot text k numbers ≡ typed (page out₀ i) (filled text numbers))
 
-abbrev decreases-loop : tie.decreases-loop
+abbrev decreases-loop : tie.decreases-loop-k
 decreases-loop out₀ i text numbers spot₀ k₀ out spot k = length text - k
 
 pub put_says_spec : {M : Type 1} → statement M

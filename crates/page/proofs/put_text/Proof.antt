@@ -8,10 +8,10 @@ use borrow.Author.Rules.{rules}
 use Rattle.page.proofs.put_text.Statement.{statement}
 use Rattle.page.proofs.put_text.Tie as tie
 
-abbrev invariant-loop : tie.invariant-loop
+abbrev invariant-loop : tie.invariant-loop-k
 invariant-loop out₀ i text place₀ k₀ out place k = (length out ≡ length out₀) × TypedSoFar (page out₀ i) text (page out place) k
 
-abbrev decreases-loop : tie.decreases-loop
+abbrev decreases-loop : tie.decreases-loop-k
 decreases-loop out₀ i text place₀ k₀ out place k = length text - k
 
 pub put_text_spec : {M : Type 1} → statement M

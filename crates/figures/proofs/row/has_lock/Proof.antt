@@ -6,10 +6,10 @@ use borrow.Author.Rules.{rules}
 use Rattle.figures.proofs.row.has_lock.Statement.{statement}
 use Rattle.figures.proofs.row.has_lock.Tie as tie
 
-abbrev invariant-loop : tie.invariant-loop
+abbrev invariant-loop : tie.invariant-loop-left
 invariant-loop row k l rest₀ left₀ rest left = has rest left l ≡ has row k l
 
-abbrev decreases-loop : tie.decreases-loop
+abbrev decreases-loop : tie.decreases-loop-left
 decreases-loop row k l rest₀ left₀ rest left = left
 
 pub has_lock_spec : {M : Type 1} → statement M

@@ -6,10 +6,10 @@ use borrow.Author.Rules.{rules}
 use Rattle.figures.proofs.spare.spare16.Statement.{statement}
 use Rattle.figures.proofs.spare.spare16.Tie as tie
 
-abbrev invariant-loop : tie.invariant-loop
+abbrev invariant-loop : tie.invariant-loop-i
 invariant-loop xs n joined₀ i₀ joined i = JoinedSoFar xs n i joined
 
-abbrev decreases-loop : tie.decreases-loop
+abbrev decreases-loop : tie.decreases-loop-i
 decreases-loop xs n joined₀ i₀ joined i = length xs - i
 
 pub spare16_spec : {M : Type 1} → statement M

@@ -5,10 +5,10 @@ use borrow.Author.Rules.{rules}
 use Rattle.tournament.proofs.build.lay.Statement.{statement}
 use Rattle.tournament.proofs.build.lay.Tie as tie
 
-abbrev invariant-loop : tie.invariant-loop
+abbrev invariant-loop : tie.invariant-loop-t
 invariant-loop n released kept tree₀ t₀ tree t = LaidSoFar n (at released) (at kept) tree₀ t tree
 
-abbrev decreases-loop : tie.decreases-loop
+abbrev decreases-loop : tie.decreases-loop-t
 decreases-loop n released kept tree₀ t₀ tree t = t
 
 pub lay_spec : {M : Type 1} → statement M

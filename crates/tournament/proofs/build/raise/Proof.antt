@@ -4,10 +4,10 @@ use borrow.Author.Rules.{rules}
 use Rattle.tournament.proofs.build.raise.Statement.{statement}
 use Rattle.tournament.proofs.build.raise.Tie as tie
 
-abbrev invariant-loop : tie.invariant-loop
+abbrev invariant-loop : tie.invariant-loop-i
 invariant-loop n tree₀ i₀ tree i = RaisedSoFar n tree₀ i tree
 
-abbrev decreases-loop : tie.decreases-loop
+abbrev decreases-loop : tie.decreases-loop-i
 decreases-loop n tree₀ i₀ tree i = i
 
 pub raise_spec : {M : Type 1} → statement M

@@ -4,10 +4,10 @@ use borrow.Author.Rules.{rules}
 use Rattle.tournament.proofs.tree.put.Statement.{statement}
 use Rattle.tournament.proofs.tree.put.Tie as tie
 
-abbrev invariant-loop : tie.invariant-loop
+abbrev invariant-loop : tie.invariant-loop-i
 invariant-loop tree₀ n t key i₀ v₀ tree i v = ClimbedSoFar n i₀ tree₀ i v tree
 
-abbrev decreases-loop : tie.decreases-loop
+abbrev decreases-loop : tie.decreases-loop-i
 decreases-loop tree₀ n t key i₀ v₀ tree i v = i
 
 pub put_spec : {M : Type 1} → statement M

@@ -8,11 +8,11 @@ use Rattle.jobs.proofs.Ways.{Counts, count_first, count_next, counting, digit_wi
 use Rattle.jobs.proofs.text.units.Statement.{statement}
 use Rattle.jobs.proofs.text.units.Tie as tie
 
-abbrev invariant-loop : tie.invariant-loop
+abbrev invariant-loop : tie.invariant-loop-d
 invariant-loop text from first i₀ v₀ d₀ i v d =
     (from ≤ i) × (i ≤ length text) × (1 ≤ v) × (v ≤ 65535) × Counts text from i v × (d ≡ digit_of (sign_at text i))
 
-abbrev decreases-loop : tie.decreases-loop
+abbrev decreases-loop : tie.decreases-loop-d
 decreases-loop text from first i₀ v₀ d₀ i v d = length text - i
 
 stops : tie.Need-returns-3 invariant-loop decreases-loop

@@ -4,10 +4,10 @@ use borrow.Author.Rules.{rules}
 use Rattle.kernel.proofs.refusals.past.Statement.{statement}
 use Rattle.kernel.proofs.refusals.past.Tie as tie
 
-abbrev invariant-loop : tie.invariant-loop
+abbrev invariant-loop : tie.invariant-loop-c
 invariant-loop limit units row k a more left₀ c₀ left c = WithinSoFar limit units a row k left c
 
-abbrev decreases-loop : tie.decreases-loop
+abbrev decreases-loop : tie.decreases-loop-c
 decreases-loop limit units row k a more left₀ c₀ left c = c
 
 pub past_spec : {M : Type 1} → statement M

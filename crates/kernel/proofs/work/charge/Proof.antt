@@ -4,10 +4,10 @@ use borrow.Author.Rules.{rules}
 use Rattle.kernel.proofs.work.charge.Statement.{statement}
 use Rattle.kernel.proofs.work.charge.Tie as tie
 
-abbrev invariant-loop : tie.invariant-loop
+abbrev invariant-loop : tie.invariant-loop-c
 invariant-loop units₀ row k a left₀ c₀ units left c = ChargedSoFar units₀ a row k units left c
 
-abbrev decreases-loop : tie.decreases-loop
+abbrev decreases-loop : tie.decreases-loop-c
 decreases-loop units₀ row k a left₀ c₀ units left c = c
 
 pub charge_spec : {M : Type 1} → statement M

@@ -7,10 +7,10 @@ use borrow.Author.Rules.{rules}
 use Rattle.kernel.proofs.work.delays.Statement.{statement}
 use Rattle.kernel.proofs.work.delays.Tie as tie
 
-abbrev invariant-loop : tie.invariant-loop
+abbrev invariant-loop : tie.invariant-loop-t
 invariant-loop n base released delay₀ b a t₀ delay t = RenewedSoFar delay₀ (waited base released delay₀ b a) n t delay
 
-abbrev decreases-loop : tie.decreases-loop
+abbrev decreases-loop : tie.decreases-loop-t
 decreases-loop n base released delay₀ b a t₀ delay t = n - t
 
 pub delays_spec : {M : Type 1} → statement M

@@ -8,11 +8,11 @@ use borrow.Author.Rules.{rules}
 use Rattle.plan.proofs.build.fill_locks.Statement.{statement}
 use Rattle.plan.proofs.build.fill_locks.Tie as tie
 
-abbrev invariant-loop : tie.invariant-loop
+abbrev invariant-loop : tie.invariant-loop-l
 invariant-loop locks ceiling₀ limit₀ l₀ ceiling limit l =
     RenewedSoFar ceiling₀ (λ k. lock_ceiling (at locks k)) (length locks) l ceiling × RenewedSoFar limit₀ (λ k. lock_limit (at locks k)) (length locks) l limit
 
-abbrev decreases-loop : tie.decreases-loop
+abbrev decreases-loop : tie.decreases-loop-l
 decreases-loop locks ceiling₀ limit₀ l₀ ceiling limit l = length locks - l
 
 pub fill_locks_spec : {M : Type 1} → statement M

@@ -6,10 +6,10 @@ use borrow.Author.Rules.{rules}
 use Rattle.plan.proofs.build.fill_masks.Statement.{statement}
 use Rattle.plan.proofs.build.fill_masks.Tie as tie
 
-abbrev invariant-loop : tie.invariant-loop
+abbrev invariant-loop : tie.invariant-loop-i
 invariant-loop uses masks₀ i₀ masks i = MasksSoFar uses i masks
 
-abbrev decreases-loop : tie.decreases-loop
+abbrev decreases-loop : tie.decreases-loop-i
 decreases-loop uses masks₀ i₀ masks i = length uses - i
 
 pub fill_masks_spec : {M : Type 1} → statement M

@@ -8,11 +8,11 @@ use borrow.Author.Rules.{rules}
 use Rattle.plan.proofs.build.fill_tasks.Statement.{statement}
 use Rattle.plan.proofs.build.fill_tasks.Tie as tie
 
-abbrev invariant-loop : tie.invariant-loop
+abbrev invariant-loop : tie.invariant-loop-t
 invariant-loop tasks base₀ maximum₀ t₀ base maximum t =
     RenewedSoFar base₀ (λ k. task_base (at tasks k)) (length tasks) t base × RenewedSoFar maximum₀ (λ k. task_maximum (at tasks k)) (length tasks) t maximum
 
-abbrev decreases-loop : tie.decreases-loop
+abbrev decreases-loop : tie.decreases-loop-t
 decreases-loop tasks base₀ maximum₀ t₀ base maximum t = length tasks - t
 
 pub fill_tasks_spec : {M : Type 1} → statement M

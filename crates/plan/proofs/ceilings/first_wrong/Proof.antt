@@ -7,10 +7,10 @@ use borrow.Author.Rules.{rules}
 use Rattle.plan.proofs.ceilings.first_wrong.Statement.{statement}
 use Rattle.plan.proofs.ceilings.first_wrong.Tie as tie
 
-abbrev invariant-loop : tie.invariant-loop
+abbrev invariant-loop : tie.invariant-loop-l
 invariant-loop n m base ceiling uses shared l₀ l = PassedSoFar (wrong_ceiling n base ceiling uses) m l
 
-abbrev decreases-loop : tie.decreases-loop
+abbrev decreases-loop : tie.decreases-loop-l
 decreases-loop n m base ceiling uses shared l₀ l = m - l
 
 pub first_wrong_spec : {M : Type 1} → statement M

@@ -5,10 +5,10 @@ use borrow.Author.Rules.{rules}
 use Rattle.plan.proofs.ceilings.shared_locks.Statement.{statement}
 use Rattle.plan.proofs.ceilings.shared_locks.Tie as tie
 
-abbrev invariant-loop : tie.invariant-loop
+abbrev invariant-loop : tie.invariant-loop-x
 invariant-loop n uses used₀ shared₀ x₀ used shared x = SharedSoFar uses n x used shared
 
-abbrev decreases-loop : tie.decreases-loop
+abbrev decreases-loop : tie.decreases-loop-x
 decreases-loop n uses used₀ shared₀ x₀ used shared x = n - x
 
 pub shared_locks_spec : {M : Type 1} → statement M

@@ -9,10 +9,10 @@ use borrow.Author.Rules.{rules}
 use Rattle.plan.proofs.ceilings.users_base.Statement.{statement}
 use Rattle.plan.proofs.ceilings.users_base.Tie as tie
 
-abbrev invariant-loop : tie.invariant-loop
+abbrev invariant-loop : tie.invariant-loop-x
 invariant-loop n base uses l top₀ x₀ top x = GreatestSoFar (λ y. if has_bit (at uses y) l then at base y else 0) n x top
 
-abbrev decreases-loop : tie.decreases-loop
+abbrev decreases-loop : tie.decreases-loop-x
 decreases-loop n base uses l top₀ x₀ top x = n - x
 
 pub users_base_spec : {M : Type 1} → statement M

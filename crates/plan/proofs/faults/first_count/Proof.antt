@@ -8,10 +8,10 @@ use borrow.Author.Rules.{rules}
 use Rattle.plan.proofs.faults.first_count.Statement.{statement}
 use Rattle.plan.proofs.faults.first_count.Tie as tie
 
-abbrev invariant-loop : tie.invariant-loop
+abbrev invariant-loop : tie.invariant-loop-e
 invariant-loop n m u e₀ e = PassedSoFar (count_fault_of n m u) (3) e
 
-abbrev decreases-loop : tie.decreases-loop
+abbrev decreases-loop : tie.decreases-loop-e
 decreases-loop n m u e₀ e = 3 - e
 
 pub first_count_spec : {M : Type 1} → statement M

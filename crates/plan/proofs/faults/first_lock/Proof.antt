@@ -8,10 +8,10 @@ use borrow.Author.Rules.{rules}
 use Rattle.plan.proofs.faults.first_lock.Statement.{statement}
 use Rattle.plan.proofs.faults.first_lock.Tie as tie
 
-abbrev invariant-loop : tie.invariant-loop
+abbrev invariant-loop : tie.invariant-loop-i
 invariant-loop locks i₀ i = PassedSoFar (lock_fault_at locks) (length locks) i
 
-abbrev decreases-loop : tie.decreases-loop
+abbrev decreases-loop : tie.decreases-loop-i
 decreases-loop locks i₀ i = length locks - i
 
 pub first_lock_spec : {M : Type 1} → statement M

@@ -8,10 +8,10 @@ use borrow.Author.Rules.{rules}
 use Rattle.plan.proofs.faults.first_task.Statement.{statement}
 use Rattle.plan.proofs.faults.first_task.Tie as tie
 
-abbrev invariant-loop : tie.invariant-loop
+abbrev invariant-loop : tie.invariant-loop-i
 invariant-loop tasks i₀ i = PassedSoFar (task_fault_at tasks) (length tasks) i
 
-abbrev decreases-loop : tie.decreases-loop
+abbrev decreases-loop : tie.decreases-loop-i
 decreases-loop tasks i₀ i = length tasks - i
 
 pub first_task_spec : {M : Type 1} → statement M

@@ -8,10 +8,10 @@ use borrow.Author.Rules.{rules}
 use Rattle.plan.proofs.faults.first_use.Statement.{statement}
 use Rattle.plan.proofs.faults.first_use.Tie as tie
 
-abbrev invariant-loop : tie.invariant-loop
+abbrev invariant-loop : tie.invariant-loop-i
 invariant-loop n m uses i₀ i = PassedSoFar (use_fault n m uses) (length uses) i
 
-abbrev decreases-loop : tie.decreases-loop
+abbrev decreases-loop : tie.decreases-loop-i
 decreases-loop n m uses i₀ i = length uses - i
 
 pub first_use_spec : {M : Type 1} → statement M

@@ -6,10 +6,10 @@ use borrow.Author.Rules.{rules}
 use Rattle.plan.proofs.lower.longest_of.Statement.{statement}
 use Rattle.plan.proofs.lower.longest_of.Tie as tie
 
-abbrev invariant-loop : tie.invariant-loop
+abbrev invariant-loop : tie.invariant-loop-l
 invariant-loop n m base ceiling limit uses b top₀ l₀ top l = GreatestSoFar (limit_by n base ceiling limit uses b) m l top
 
-abbrev decreases-loop : tie.decreases-loop
+abbrev decreases-loop : tie.decreases-loop-l
 decreases-loop n m base ceiling limit uses b top₀ l₀ top l = m - l
 
 pub longest_of_spec : {M : Type 1} → statement M

@@ -7,10 +7,10 @@ use borrow.Author.Rules.{rules}
 use Rattle.plan.proofs.lower.lower_user.Statement.{statement}
 use Rattle.plan.proofs.lower.lower_user.Tie as tie
 
-abbrev invariant-loop : tie.invariant-loop
+abbrev invariant-loop : tie.invariant-loop-x
 invariant-loop n base uses b l x₀ x = NoneSoFar (lower_by base uses b l) n x
 
-abbrev decreases-loop : tie.decreases-loop
+abbrev decreases-loop : tie.decreases-loop-x
 decreases-loop n base uses b l x₀ x = n - x
 
 pub lower_user_spec : {M : Type 1} → statement M

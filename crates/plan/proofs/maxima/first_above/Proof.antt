@@ -9,10 +9,10 @@ use borrow.Author.Rules.{rules}
 use Rattle.plan.proofs.maxima.first_above.Statement.{statement}
 use Rattle.plan.proofs.maxima.first_above.Tie as tie
 
-abbrev invariant-loop : tie.invariant-loop
+abbrev invariant-loop : tie.invariant-loop-i
 invariant-loop tasks locks uses i₀ i = PassedSoFar (use_above tasks locks uses) (length uses) i
 
-abbrev decreases-loop : tie.decreases-loop
+abbrev decreases-loop : tie.decreases-loop-i
 decreases-loop tasks locks uses i₀ i = length uses - i
 
 pub first_above_spec : {M : Type 1} → statement M

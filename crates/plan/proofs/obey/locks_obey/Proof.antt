@@ -7,10 +7,10 @@ use borrow.Author.Rules.{rules}
 use Rattle.plan.proofs.obey.locks_obey.Statement.{statement}
 use Rattle.plan.proofs.obey.locks_obey.Tie as tie
 
-abbrev invariant-loop : tie.invariant-loop
+abbrev invariant-loop : tie.invariant-loop-l
 invariant-loop n m base maximum ceiling limit uses shared l₀ l = AllSoFar (lock_by n base maximum ceiling limit uses) m l
 
-abbrev decreases-loop : tie.decreases-loop
+abbrev decreases-loop : tie.decreases-loop-l
 decreases-loop n m base maximum ceiling limit uses shared l₀ l = m - l
 
 pub locks_obey_spec : {M : Type 1} → statement M

@@ -7,10 +7,10 @@ use borrow.Author.Rules.{rules}
 use Rattle.plan.proofs.obey.tasks_obey.Statement.{statement}
 use Rattle.plan.proofs.obey.tasks_obey.Tie as tie
 
-abbrev invariant-loop : tie.invariant-loop
+abbrev invariant-loop : tie.invariant-loop-t
 invariant-loop n m base maximum uses t₀ t = AllSoFar (task_by m base maximum uses) n t
 
-abbrev decreases-loop : tie.decreases-loop
+abbrev decreases-loop : tie.decreases-loop-t
 decreases-loop n m base maximum uses t₀ t = n - t
 
 pub tasks_obey_spec : {M : Type 1} → statement M

@@ -13,12 +13,12 @@ use borrow.Author.Rules.{rules}
 use Rattle.plan.proofs.walk.users_of.Statement.{statement}
 use Rattle.plan.proofs.walk.users_of.Tie as tie
 
-abbrev invariant-loop : tie.invariant-loop
+abbrev invariant-loop : tie.invariant-loop-x
 invariant-loop n base maximum ceiling uses l room top₀ gap₀ x₀ top gap x =
     GreatestSoFar (λ y. if has_bit (at uses y) l then at base y else 0) n x top
     × AskedSoFar (λ y. has_bit (at uses y) l && maximum_fault (at maximum y) ceiling) n x (ltb room gap)
 
-abbrev decreases-loop : tie.decreases-loop
+abbrev decreases-loop : tie.decreases-loop-x
 decreases-loop n base maximum ceiling uses l room top₀ gap₀ x₀ top gap x = n - x
 
 pub users_of_spec : {M : Type 1} → statement M

@@ -8,10 +8,10 @@ use borrow.Author.Rules.{rules}
 use Rattle.report.proofs.lines.put_fields.Statement.{statement}
 use Rattle.report.proofs.lines.put_fields.Tie as tie
 
-abbrev invariant-loop : tie.invariant-loop
+abbrev invariant-loop : tie.invariant-loop-k
 invariant-loop out₀ i xs place₀ k₀ out place k = (length out ≡ length out₀) × FieldsSoFar (page out₀ i) xs (page out place) k
 
-abbrev decreases-loop : tie.decreases-loop
+abbrev decreases-loop : tie.decreases-loop-k
 decreases-loop out₀ i xs place₀ k₀ out place k = length xs - k
 
 pub put_fields_spec : {M : Type 1} → statement M

@@ -8,10 +8,10 @@ use borrow.Author.Rules.{rules}
 use Rattle.report.proofs.lines.put_rows.Statement.{statement}
 use Rattle.report.proofs.lines.put_rows.Tie as tie
 
-abbrev invariant-loop : tie.invariant-loop
+abbrev invariant-loop : tie.invariant-loop-k
 invariant-loop out₀ i rows n place₀ k₀ out place k = (length out ≡ length out₀) × RowsSoFar (page out₀ i) rows n (page out place) k
 
-abbrev decreases-loop : tie.decreases-loop
+abbrev decreases-loop : tie.decreases-loop-k
 decreases-loop out₀ i rows n place₀ k₀ out place k = n - k
 
 pub put_rows_spec : {M : Type 1} → statement M

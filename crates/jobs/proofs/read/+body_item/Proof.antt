@@ -46,10 +46,10 @@ abbrev item_below : ℕ → In 2 item-kinds.ps
 item_below t = and 2 item-kinds.ps (falls 2 item-kinds.ps ◌<◌ μ-item t) item.Pre
 
 -- a body's loop has come to an item
-abbrev invariant-loop : body-lts.invariant-loop
+abbrev invariant-loop : body-lts.invariant-loop-count
 invariant-loop text from k space₀ n i₀ m₀ space i m = (length space ≡ length space₀) × (from ≤ i) × (i ≤ length text) × (m ≤ i) × Came text k from (sheet space₀ n) i (sheet space m)
 
-abbrev decreases-loop : body-lts.decreases-loop
+abbrev decreases-loop : body-lts.decreases-loop-count
 decreases-loop text from k space₀ n i₀ m₀ space i m = length text - i
 
 pub +body_item_spec : {M : Type 1} → statement M

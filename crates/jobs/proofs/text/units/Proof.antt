@@ -15,7 +15,7 @@ invariant-loop text from first i₀ v₀ d₀ i v d =
 abbrev decreases-loop : tie.decreases-loop-d
 decreases-loop text from first i₀ v₀ d₀ i v d = length text - i
 
-stops : tie.Need-returns-3 invariant-loop decreases-loop
+stops : tie.Need-returns-then-w-gt-MAX_UNITS invariant-loop decreases-loop
 stops c = (search counting, (search rules, search rules))
 
 pub units_spec : {M : Type 1} → statement M

@@ -15,5 +15,5 @@ act_spec =
     (λ c. search rules)
     (λ c κs. (search best_ready, search rules)) (λ c κs. search tick_ready)
     (λ c. (search release_acts, search rules)) (λ c. (search acquire_acts, search rules)) (λ c. (search unlock_acts, search rules))
-    (λ c. (search work_acts, search (rules, c.before.before.before.before.before.before.before.before)))
+    (λ c. (search work_acts, search (rules, c.before.before.before.before.before.before.before)))
     (λ c. (search finish_acts, search rules)) (λ c. (search tick_acts, search rules)))

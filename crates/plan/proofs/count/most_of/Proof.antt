@@ -4,19 +4,19 @@ use Rattle.rules.specs.Books.Plan.{most}
 use Rattle.plan.proofs.count.most_of.Statement.{statement}
 use Rattle.plan.proofs.count.most_of.Tie as tie
 
-returns : tie.Need-returns
+returns : tie.Need-returns-then-e-eq0
 unfolding most
 returns c = search tests
 
-returns_2 : tie.Need-returns-2
+returns_2 : tie.Need-returns-then-e-eq1
 unfolding most
 returns_2 c = search tests
 
-returns_3 : tie.Need-returns-3
+returns_3 : tie.Need-returns-then-e-eq2
 unfolding most
 returns_3 c = search tests
 
-returns_4 : tie.Need-returns-4
+returns_4 : tie.Need-returns
 unfolding most
 returns_4 c = search tests
 

@@ -8,4 +8,4 @@ pub put_delayed_spec : {M : Type 1} → statement M
 put_delayed_spec =
     tie.close
     (tie.spec
-    (λ c. search rules) (λ c κs. search rules) (λ c. search rules) (λ c. search delayed_typed))
+    (λ c. search rules) (λ c. search rules) (λ c. search rules) (λ c. search delayed_typed))

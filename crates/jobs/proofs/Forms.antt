@@ -56,6 +56,7 @@ good_followed : (k : ℕ) (a b : Body) → Good k a → Good k b → Good k (fol
 unfolding followed
 good_followed k empty b g h = h
 good_followed k (work n rest) b (good_work p q g) h = good_work p q (good_followed k rest b g h)
+good_followed zero (section l inner rest) b g h = elim g [ ]
 good_followed (suc k) (section l inner rest) b (good_section p gi g) h = good_section p gi (good_followed (suc k) rest b g h)
 
 -- ---- the text that was read

@@ -1,7 +1,7 @@
 -- The reader reads the text of every well-formed body, and gives that body back; so no text has two readings. Assumes nothing.
 use mathlib.Core.Path.{◌≡◌, refl, sym, ◌∙◌, ap}
 use mathlib.Core.List.{List, [], ◌∷◌, ◌++◌, append_assoc, append-nil}
-use Prim.Native.Nat.{ℕ, suc, ◌+◌, ◌<◌}
+use Prim.Native.Nat.{ℕ, zero, suc, ◌+◌, ◌<◌}
 use native.Mathlib.Omega.{arith}
 use lib.Dec.{ltb}
 use lib.ListN.{length}
@@ -59,6 +59,7 @@ tail_read empty k t ls g h d = sym (prepend_none (run t after ls))
 tail_read (work n rest) k t ls (good_work p q g) h d =
     read_gap _ ls ∙ read_letter _ ls ∙ ap (λ x. run x (units 0) ls) (append_assoc (digits n) (tail_of rest) t) ∙ units_read n (tail_of rest ++ t) ls p q
     ∙ units_ends (tail_of rest ++ t) n ls (λ y. omega arith) (turns_tail rest t h) ∙ ap (prepend (Work n ∷ [])) (tail_read rest k t ls g h d) ∙ prepend_two (Work n ∷ []) (events_in rest) (run t after ls)
+tail_read (section l inner rest) zero t ls g h d = elim g [ ]
 tail_read (section l inner rest) (suc k) t ls (good_section p gi gr) h d =
     read_gap _ ls ∙ read_left _ ls (omega arith)
     ∙ ap (λ x. run x bracket ls) (append_assoc (digits l ++ tail_of inner) (93 ∷ tail_of rest) t ∙ append_assoc (digits l) (tail_of inner) (93 ∷ (tail_of rest ++ t)))

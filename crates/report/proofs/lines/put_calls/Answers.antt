@@ -1,0 +1,5 @@
+use Rattle.report.proofs.Printed.{calls_typed}
+use Rattle.report.proofs.lines.put_calls.Goals as goal
+
+pub returns : goal.returns
+returns c = search calls_typed

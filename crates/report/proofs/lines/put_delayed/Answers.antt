@@ -1,0 +1,5 @@
+use Rattle.report.proofs.Printed.{delayed_typed}
+use Rattle.report.proofs.lines.put_delayed.Goals as goal
+
+pub returns : goal.returns
+returns c = search delayed_typed

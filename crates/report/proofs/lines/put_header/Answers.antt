@@ -1,0 +1,7 @@
+use Rattle.std.proofs.Common.{rules}
+use Rattle.report.specs.Report.{spaced, line, header}
+use Rattle.report.proofs.lines.put_header.Goals as goal
+
+pub returns : goal.returns
+unfolding header line spaced
+returns c = search rules

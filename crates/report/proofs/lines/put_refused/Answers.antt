@@ -1,0 +1,5 @@
+use Rattle.report.proofs.Printed.{refused_typed}
+use Rattle.report.proofs.lines.put_refused.Goals as goal
+
+pub returns : goal.returns
+returns c = search refused_typed

@@ -8,10 +8,10 @@ use borrow.Author.Rules.{rules}
 use Rattle.book.proofs.bodies.fill_longs.Statement.{statement}
 use Rattle.book.proofs.bodies.fill_longs.Tie as tie
 
-abbrev invariant-loop : tie.invariant-loop
+abbrev invariant-loop : tie.invariant-loop-i
 invariant-loop b from n longs₀ i₀ longs i = (length longs ≡ length longs₀) × RenewedSoFar longs₀ (λ k. long b (from + k * 4)) n i longs
 
-abbrev decreases-loop : tie.decreases-loop
+abbrev decreases-loop : tie.decreases-loop-i
 decreases-loop b from n longs₀ i₀ longs i = n - i
 
 pub fill_longs_spec : {M : Type 1} → statement M

@@ -8,10 +8,10 @@ use borrow.Author.Rules.{rules}
 use Rattle.book.proofs.bodies.fill_words.Statement.{statement}
 use Rattle.book.proofs.bodies.fill_words.Tie as tie
 
-abbrev invariant-loop : tie.invariant-loop
+abbrev invariant-loop : tie.invariant-loop-i
 invariant-loop b from n words₀ i₀ words i = (length words ≡ length words₀) × RenewedSoFar words₀ (λ k. word b (from + k * 2)) n i words
 
-abbrev decreases-loop : tie.decreases-loop
+abbrev decreases-loop : tie.decreases-loop-i
 decreases-loop b from n words₀ i₀ words i = n - i
 
 pub fill_words_spec : {M : Type 1} → statement M

@@ -9,10 +9,10 @@ use borrow.Author.Rules.{rules}
 use Rattle.book.proofs.contents.first_count.Statement.{statement}
 use Rattle.book.proofs.contents.first_count.Tie as tie
 
-abbrev invariant-loop : tie.invariant-loop
+abbrev invariant-loop : tie.invariant-loop-e
 invariant-loop b e₀ e = PassedSoFar (λ x. count_fault x (count_at b x)) (4) e
 
-abbrev decreases-loop : tie.decreases-loop
+abbrev decreases-loop : tie.decreases-loop-e
 decreases-loop b e₀ e = 4 - e
 
 pub first_count_spec : {M : Type 1} → statement M

@@ -7,10 +7,10 @@ use borrow.Author.Rules.{rules}
 use Rattle.book.proofs.contents.first_layout.Statement.{statement}
 use Rattle.book.proofs.contents.first_layout.Tie as tie
 
-abbrev invariant-loop : tie.invariant-loop
+abbrev invariant-loop : tie.invariant-loop-e
 invariant-loop b e₀ e = PassedSoFar (layout_fault b) (5) e
 
-abbrev decreases-loop : tie.decreases-loop
+abbrev decreases-loop : tie.decreases-loop-e
 decreases-loop b e₀ e = 5 - e
 
 pub first_layout_spec : {M : Type 1} → statement M

@@ -5,10 +5,10 @@ use borrow.Author.Rules.{rules}
 use Rattle.book.proofs.entry.body_at.Statement.{statement}
 use Rattle.book.proofs.entry.body_at.Tie as tie
 
-abbrev invariant-loop : tie.invariant-loop
+abbrev invariant-loop : tie.invariant-loop-i
 invariant-loop b e place₀ i₀ place i = BodiesSoFar b e i place
 
-abbrev decreases-loop : tie.decreases-loop
+abbrev decreases-loop : tie.decreases-loop-i
 decreases-loop b e place₀ i₀ place i = e - i
 
 pub body_at_spec : {M : Type 1} → statement M

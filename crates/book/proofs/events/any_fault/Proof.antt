@@ -6,10 +6,10 @@ use Rattle.rules.proofs.Numbers.Place.{AskedSoFar, asked_start, asked_next, aske
 use Rattle.book.proofs.events.any_fault.Statement.{statement}
 use Rattle.book.proofs.events.any_fault.Tie as tie
 
-abbrev invariant-loop : tie.invariant-loop
+abbrev invariant-loop : tie.invariant-loop-k
 invariant-loop body n found₀ k₀ found k = AskedSoFar (record_fault body) n k found
 
-abbrev decreases-loop : tie.decreases-loop
+abbrev decreases-loop : tie.decreases-loop-k
 decreases-loop body n found₀ k₀ found k = n - k
 
 pub any_fault_spec : {M : Type 1} → statement M

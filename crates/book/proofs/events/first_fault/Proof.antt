@@ -7,10 +7,10 @@ use borrow.Author.Rules.{rules}
 use Rattle.book.proofs.events.first_fault.Statement.{statement}
 use Rattle.book.proofs.events.first_fault.Tie as tie
 
-abbrev invariant-loop : tie.invariant-loop
+abbrev invariant-loop : tie.invariant-loop-k
 invariant-loop body n k₀ k = PassedSoFar (record_fault body) (n) k
 
-abbrev decreases-loop : tie.decreases-loop
+abbrev decreases-loop : tie.decreases-loop-k
 decreases-loop body n k₀ k = n - k
 
 pub first_fault_spec : {M : Type 1} → statement M

@@ -7,10 +7,10 @@ use Rattle.book.proofs.Laying.{LongsSoFar, longs_start, longs_next, longs_end, l
 use Rattle.book.proofs.lay.put_longs.Statement.{statement}
 use Rattle.book.proofs.lay.put_longs.Tie as tie
 
-abbrev invariant-loop : tie.invariant-loop
+abbrev invariant-loop : tie.invariant-loop-i
 invariant-loop out₀ from longs n i₀ out i = (length out ≡ length out₀) × LongsSoFar from longs out₀ i out
 
-abbrev decreases-loop : tie.decreases-loop
+abbrev decreases-loop : tie.decreases-loop-i
 decreases-loop out₀ from longs n i₀ out i = n - i
 
 pub put_longs_spec : {M : Type 1} → statement M

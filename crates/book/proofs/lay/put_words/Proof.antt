@@ -7,10 +7,10 @@ use Rattle.book.proofs.Laying.{WordsSoFar, words_start, words_next, words_end, w
 use Rattle.book.proofs.lay.put_words.Statement.{statement}
 use Rattle.book.proofs.lay.put_words.Tie as tie
 
-abbrev invariant-loop : tie.invariant-loop
+abbrev invariant-loop : tie.invariant-loop-i
 invariant-loop out₀ from words n i₀ out i = (length out ≡ length out₀) × WordsSoFar from words out₀ i out
 
-abbrev decreases-loop : tie.decreases-loop
+abbrev decreases-loop : tie.decreases-loop-i
 decreases-loop out₀ from words n i₀ out i = n - i
 
 pub put_words_spec : {M : Type 1} → statement M

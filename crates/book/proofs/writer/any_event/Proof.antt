@@ -7,10 +7,10 @@ use Rattle.rules.proofs.Numbers.Place.{AskedSoFar, asked_start, asked_next, aske
 use Rattle.book.proofs.writer.any_event.Statement.{statement}
 use Rattle.book.proofs.writer.any_event.Tie as tie
 
-abbrev invariant-loop : tie.invariant-loop
+abbrev invariant-loop : tie.invariant-loop-k
 invariant-loop events n found₀ k₀ found k = AskedSoFar (λ i. number_fault (at events i)) n k found
 
-abbrev decreases-loop : tie.decreases-loop
+abbrev decreases-loop : tie.decreases-loop-k
 decreases-loop events n found₀ k₀ found k = n - k
 
 pub any_event_spec : {M : Type 1} → statement M

@@ -9,10 +9,10 @@ use Rattle.book.proofs.WriteOrder.{count_told}
 use Rattle.book.proofs.writer.first_count.Statement.{statement}
 use Rattle.book.proofs.writer.first_count.Tie as tie
 
-abbrev invariant-loop : tie.invariant-loop
+abbrev invariant-loop : tie.invariant-loop-e
 invariant-loop n m u k e₀ e = PassedSoFar (λ i. count_fault i (count_of n m u k i)) 4 e
 
-abbrev decreases-loop : tie.decreases-loop
+abbrev decreases-loop : tie.decreases-loop-e
 decreases-loop n m u k e₀ e = 4 - e
 
 pub first_count_spec : {M : Type 1} → statement M

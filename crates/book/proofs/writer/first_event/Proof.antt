@@ -8,10 +8,10 @@ use Rattle.rules.proofs.Numbers.Place.{PassedSoFar, passed_start, passed_next, p
 use Rattle.book.proofs.writer.first_event.Statement.{statement}
 use Rattle.book.proofs.writer.first_event.Tie as tie
 
-abbrev invariant-loop : tie.invariant-loop
+abbrev invariant-loop : tie.invariant-loop-k
 invariant-loop events n k₀ k = PassedSoFar (λ i. number_fault (at events i)) n k
 
-abbrev decreases-loop : tie.decreases-loop
+abbrev decreases-loop : tie.decreases-loop-k
 decreases-loop events n k₀ k = n - k
 
 pub first_event_spec : {M : Type 1} → statement M

@@ -30,17 +30,17 @@ turns_spec =
     (tie.spec
     invariant-loop decreases-loop (λ c κs. search rules) (λ c. (search (going_start, rules), search made_tree)) (λ c κs. search rules)
     (λ c κs. let b = begun c in (
-      going_ready _ _ _ _ _ _ _ _ _ _ b.before.before.before.loop.inv.0 _ b.before.before.goes_on_lem.ensures b.before.if1.taken,
+      going_ready _ _ _ _ _ _ _ _ _ _ b.before.before.before.loop.inv.0 _ b.before.before.goes_on.ensures b.before.if1.taken,
       b.before.before.before.loop.inv.1,
     ))
     (λ c. let b = begun c.before.before.before in record {
       fits = going_place _ _ _ _ _ _ _ _ _ _ b.before.before.before.loop.inv.0 _
-          b.before.before.goes_on_lem.ensures b.before.if1.taken;
+          b.before.before.goes_on.ensures b.before.if1.taken;
     })
     (λ c. let b = begun c.before.before.before in going_falls _ _ _ _ _ _ _ _ _ _ b.before.before.before.loop.inv.0 _
-    b.before.before.goes_on_lem.ensures b.before.if1.taken)
+    b.before.before.goes_on.ensures b.before.if1.taken)
     (λ c. let b = begun c.before.before.before in (
-      going_next _ _ _ _ _ _ _ _ _ _ b.before.before.before.loop.inv.0 _ b.before.before.goes_on_lem.ensures b.before.if1.taken _
+      going_next _ _ _ _ _ _ _ _ _ _ b.before.before.before.loop.inv.0 _ b.before.before.goes_on.ensures b.before.if1.taken _
           c.before.before.turn.ensures.0,
       c.before.before.turn.ensures.1,
     ))

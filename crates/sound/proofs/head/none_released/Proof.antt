@@ -8,10 +8,10 @@ use borrow.Author.Rules.{rules}
 use Rattle.sound.proofs.head.none_released.Statement.{statement}
 use Rattle.sound.proofs.head.none_released.Tie as tie
 
-abbrev invariant-loop : tie.invariant-loop
+abbrev invariant-loop : tie.invariant-loop-x
 invariant-loop released n x₀ x = AllSoFar (λ y. eqb (at released y) 0) n x
 
-abbrev decreases-loop : tie.decreases-loop
+abbrev decreases-loop : tie.decreases-loop-x
 decreases-loop released n x₀ x = n - x
 
 pub none_released_spec : {M : Type 1} → statement M

@@ -7,10 +7,10 @@ use borrow.Author.Rules.{rules}
 use Rattle.sound.proofs.lock.locks_sound.Statement.{statement}
 use Rattle.sound.proofs.lock.locks_sound.Tie as tie
 
-abbrev invariant-loop : tie.invariant-loop
+abbrev invariant-loop : tie.invariant-loop-l
 invariant-loop n m limit depth takes units owner l₀ l = AllSoFar (lock_by n limit depth takes units owner) m l
 
-abbrev decreases-loop : tie.decreases-loop
+abbrev decreases-loop : tie.decreases-loop-l
 decreases-loop n m limit depth takes units owner l₀ l = m - l
 
 pub locks_sound_spec : {M : Type 1} → statement M

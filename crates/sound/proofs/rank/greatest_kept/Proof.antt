@@ -6,10 +6,10 @@ use borrow.Author.Rules.{rules}
 use Rattle.sound.proofs.rank.greatest_kept.Statement.{statement}
 use Rattle.sound.proofs.rank.greatest_kept.Tie as tie
 
-abbrev invariant-loop : tie.invariant-loop
+abbrev invariant-loop : tie.invariant-loop-x
 invariant-loop n kept top₀ x₀ top x = GreatestSoFar (at kept) n x top.0
 
-abbrev decreases-loop : tie.decreases-loop
+abbrev decreases-loop : tie.decreases-loop-x
 decreases-loop n kept top₀ x₀ top x = n - x
 
 pub greatest_kept_spec : {M : Type 1} → statement M

@@ -9,10 +9,10 @@ use borrow.Author.Rules.{rules}
 use Rattle.sound.proofs.task.number_new.Statement.{statement}
 use Rattle.sound.proofs.task.number_new.Tie as tie
 
-abbrev invariant-loop : tie.invariant-loop
+abbrev invariant-loop : tie.invariant-loop-z
 invariant-loop released y x new₀ z₀ new z = AskedSoFar (λ i. not (eqb (at released i) y)) x z new
 
-abbrev decreases-loop : tie.decreases-loop
+abbrev decreases-loop : tie.decreases-loop-z
 decreases-loop released y x new₀ z₀ new z = x - z
 
 pub number_new_spec : {M : Type 1} → statement M

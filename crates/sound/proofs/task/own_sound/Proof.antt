@@ -6,10 +6,10 @@ use borrow.Author.Rules.{rules}
 use Rattle.sound.proofs.task.own_sound.Statement.{statement}
 use Rattle.sound.proofs.task.own_sound.Tie as tie
 
-abbrev invariant-loop : tie.invariant-loop
+abbrev invariant-loop : tie.invariant-loop-left
 invariant-loop owner x row k rest₀ left₀ rest left = own_test owner x rest left ≡ own_test owner x row k
 
-abbrev decreases-loop : tie.decreases-loop
+abbrev decreases-loop : tie.decreases-loop-left
 decreases-loop owner x row k rest₀ left₀ rest left = left
 
 pub own_sound_spec : {M : Type 1} → statement M

@@ -6,10 +6,10 @@ use borrow.Author.Rules.{rules}
 use Rattle.sound.proofs.task.row_sound.Statement.{statement}
 use Rattle.sound.proofs.task.row_sound.Tie as tie
 
-abbrev invariant-loop : tie.invariant-loop
+abbrev invariant-loop : tie.invariant-loop-left
 invariant-loop m uses row k rest₀ left₀ rest left = row_test m uses rest left ≡ row_test m uses row k
 
-abbrev decreases-loop : tie.decreases-loop
+abbrev decreases-loop : tie.decreases-loop-left
 decreases-loop m uses row k rest₀ left₀ rest left = left
 
 pub row_sound_spec : {M : Type 1} → statement M

@@ -7,11 +7,11 @@ use borrow.Author.Rules.{rules}
 use Rattle.sound.proofs.task.tasks_sound.Statement.{statement}
 use Rattle.sound.proofs.task.tasks_sound.Tie as tie
 
-abbrev invariant-loop : tie.invariant-loop
+abbrev invariant-loop : tie.invariant-loop-x
 invariant-loop accepted running n m base ceiling uses released kept delay depth takes saved owner x₀ x =
     AllSoFar (task_by accepted running m base ceiling uses released kept delay depth takes saved owner) n x
 
-abbrev decreases-loop : tie.decreases-loop
+abbrev decreases-loop : tie.decreases-loop-x
 decreases-loop accepted running n m base ceiling uses released kept delay depth takes saved owner x₀ x = n - x
 
 pub tasks_sound_spec : {M : Type 1} → statement M

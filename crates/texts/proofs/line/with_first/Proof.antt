@@ -1,8 +1,8 @@
 -- `texts::line::with_first` meets its contract. The number, or what is wrong. Assumes nothing.
 use Rattle.texts.proofs.Said.{field_within, first_value, first_wrong_lem}
 use borrow.Author.Rules.{rules}
-use Rattle.texts.proofs.line.with_first_lem.Statement.{statement}
-use Rattle.texts.proofs.line.with_first_lem.Tie as tie
+use Rattle.texts.proofs.line.with_first.Statement.{statement}
+use Rattle.texts.proofs.line.with_first.Tie as tie
 
 pub with_first_spec : {M : Type 1} → statement M
 with_first_spec =

@@ -9,11 +9,11 @@ use borrow.Author.Rules.{rules}
 use Rattle.texts.proofs.lines.collect.Statement.{statement}
 use Rattle.texts.proofs.lines.collect.Tie as tie
 
-abbrev invariant-loop : tie.invariant-loop
+abbrev invariant-loop : tie.invariant-loop-i
 invariant-loop text part out₀ place₀ i₀ out place i =
     (length out ≡ length out₀) × (typed (page out place) (records_of part (lines_of (drop i text))) ≡ typed (page out₀ 0) (records_of part (lines_of text)))
 
-abbrev decreases-loop : tie.decreases-loop
+abbrev decreases-loop : tie.decreases-loop-i
 decreases-loop text part out₀ place₀ i₀ out place i = length text - i
 
 pub collect_spec : {M : Type 1} → statement M

@@ -8,10 +8,10 @@ use borrow.Author.Rules.{rules}
 use Rattle.texts.proofs.lines.first_wrong.Statement.{statement}
 use Rattle.texts.proofs.lines.first_wrong.Tie as tie
 
-abbrev invariant-loop : tie.invariant-loop
+abbrev invariant-loop : tie.invariant-loop-i
 invariant-loop text n₀ i₀ n i = (n ≤ i) × (first_wrong n (read_lines (drop i text)) ≡ first_wrong 0 (read_lines text))
 
-abbrev decreases-loop : tie.decreases-loop
+abbrev decreases-loop : tie.decreases-loop-i
 decreases-loop text n₀ i₀ n i = length text - i
 
 pub first_wrong_spec : {M : Type 1} → statement M

@@ -8,10 +8,10 @@ use borrow.Author.Rules.{rules}
 use Rattle.texts.proofs.lines.line_of_record.Statement.{statement}
 use Rattle.texts.proofs.lines.line_of_record.Tie as tie
 
-abbrev invariant-loop : tie.invariant-loop
+abbrev invariant-loop : tie.invariant-loop-i
 invariant-loop text part k left₀ n₀ i₀ left n i = (n ≤ i) × (line_of_record part left n (read_lines (drop i text)) ≡ line_of_record part k 0 (read_lines text))
 
-abbrev decreases-loop : tie.decreases-loop
+abbrev decreases-loop : tie.decreases-loop-i
 decreases-loop text part k left₀ n₀ i₀ left n i = length text - i
 
 pub line_of_record_spec : {M : Type 1} → statement M

@@ -10,11 +10,11 @@ use borrow.Author.Rules.{rules}
 use Rattle.texts.proofs.lines.put_records.Statement.{statement}
 use Rattle.texts.proofs.lines.put_records.Tie as tie
 
-abbrev invariant-loop : tie.invariant-loop
+abbrev invariant-loop : tie.invariant-loop-i
 invariant-loop out₀ place space n next₀ i₀ out next i =
     (length out ≡ length out₀) × (typed (page out next) (from (record_in space) i (n - i)) ≡ typed (page out₀ place) (tabulate n (record_in space)))
 
-abbrev decreases-loop : tie.decreases-loop
+abbrev decreases-loop : tie.decreases-loop-i
 decreases-loop out₀ place space n next₀ i₀ out next i = n - i
 
 pub put_records_spec : {M : Type 1} → statement M

@@ -7,10 +7,10 @@ use borrow.Author.Rules.{rules}
 use Rattle.texts.proofs.number.all_digits.Statement.{statement}
 use Rattle.texts.proofs.number.all_digits.Tie as tie
 
-abbrev invariant-loop : tie.invariant-loop
+abbrev invariant-loop : tie.invariant-loop-i
 invariant-loop word n i₀ i = DigitalSoFar word i
 
-abbrev decreases-loop : tie.decreases-loop
+abbrev decreases-loop : tie.decreases-loop-i
 decreases-loop word n i₀ i = length word - i
 
 pub all_digits_spec : {M : Type 1} → statement M

@@ -8,10 +8,10 @@ use borrow.Author.Rules.{rules}
 use Rattle.texts.proofs.number.value.Statement.{statement}
 use Rattle.texts.proofs.number.value.Tie as tie
 
-abbrev invariant-loop : tie.invariant-loop
+abbrev invariant-loop : tie.invariant-loop-i
 invariant-loop word n v₀ i₀ v i = (v ≤ too_large) × ValueSoFar word v i
 
-abbrev decreases-loop : tie.decreases-loop
+abbrev decreases-loop : tie.decreases-loop-i
 decreases-loop word n v₀ i₀ v i = length word - i
 
 pub value_spec : {M : Type 1} → statement M

@@ -7,10 +7,10 @@ use borrow.Author.Rules.{rules}
 use Rattle.texts.proofs.word.find.Statement.{statement}
 use Rattle.texts.proofs.word.find.Tie as tie
 
-abbrev invariant-loop : tie.invariant-loop
+abbrev invariant-loop : tie.invariant-loop-i
 invariant-loop bytes x n i₀ i = SoFar (up_to x) bytes i
 
-abbrev decreases-loop : tie.decreases-loop
+abbrev decreases-loop : tie.decreases-loop-i
 decreases-loop bytes x n i₀ i = length bytes - i
 
 pub find_spec : {M : Type 1} → statement M

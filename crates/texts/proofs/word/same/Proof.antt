@@ -7,10 +7,10 @@ use borrow.Author.Rules.{rules}
 use Rattle.texts.proofs.word.same.Statement.{statement}
 use Rattle.texts.proofs.word.same.Tie as tie
 
-abbrev invariant-loop : tie.invariant-loop
+abbrev invariant-loop : tie.invariant-loop-i
 invariant-loop word name n i₀ i = SameSoFar word name i
 
-abbrev decreases-loop : tie.decreases-loop
+abbrev decreases-loop : tie.decreases-loop-i
 decreases-loop word name n i₀ i = length word - i
 
 pub same_spec : {M : Type 1} → statement M

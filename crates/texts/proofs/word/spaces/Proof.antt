@@ -7,10 +7,10 @@ use borrow.Author.Rules.{rules}
 use Rattle.texts.proofs.word.spaces.Statement.{statement}
 use Rattle.texts.proofs.word.spaces.Tie as tie
 
-abbrev invariant-loop : tie.invariant-loop
+abbrev invariant-loop : tie.invariant-loop-i
 invariant-loop bytes n i₀ i = SoFar spaces_of bytes i
 
-abbrev decreases-loop : tie.decreases-loop
+abbrev decreases-loop : tie.decreases-loop-i
 decreases-loop bytes n i₀ i = length bytes - i
 
 pub spaces_spec : {M : Type 1} → statement M

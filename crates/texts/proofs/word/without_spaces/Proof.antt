@@ -6,10 +6,10 @@ use borrow.Author.Rules.{rules}
 use Rattle.texts.proofs.word.without_spaces.Statement.{statement}
 use Rattle.texts.proofs.word.without_spaces.Tie as tie
 
-abbrev invariant-loop : tie.invariant-loop
+abbrev invariant-loop : tie.invariant-loop-n
 invariant-loop bytes n₀ n = (n ≤ length bytes) × BareSoFar bytes n
 
-abbrev decreases-loop : tie.decreases-loop
+abbrev decreases-loop : tie.decreases-loop-n
 decreases-loop bytes n₀ n = n
 
 pub without_spaces_spec : {M : Type 1} → statement M

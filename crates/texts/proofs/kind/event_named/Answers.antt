@@ -1,0 +1,46 @@
+use Rattle.rules.proofs.Numbers.Choice.{flags}
+use Rattle.page.specs.Ascii.{ascii}
+use Rattle.std.proofs.Common.{rules, ◌≡◌, ◌≤◌, ℕ, ◌+◌, ◌-◌, ◌*◌, ◌<◌, length, ◌/◌, ◌%◌, Bool, true, false, nat_eq, nat_lt, List, [], ◌∷◌, ◌++◌, slice_index_or, slice_set, bit_and, bit_or, Fits, w8, w32, w64, Bor, MutBor}
+use Rattle.texts.specs.declared.kind.Kind.{Kind}
+use Rattle.texts.specs.Kind.{event_named, kind_named, fields_of, most_of, part_of, has_items}
+use Rattle.texts.proofs.kind.event_named.Goals as goal
+
+-- src/kind.rt:34:9
+pub returns-then-same : goal.returns-then-same
+unfolding ascii event_named
+returns-then-same c = search (flags, rules)
+
+-- src/kind.rt:37:9
+pub returns-then-same-2 : goal.returns-then-same-2
+unfolding ascii event_named
+returns-then-same-2 c = search (flags, rules)
+
+-- src/kind.rt:40:9
+pub returns-then-same-3 : goal.returns-then-same-3
+unfolding ascii event_named
+returns-then-same-3 c = search (flags, rules)
+
+-- src/kind.rt:43:9
+pub returns-then-same-4 : goal.returns-then-same-4
+unfolding ascii event_named
+returns-then-same-4 c = search (flags, rules)
+
+-- src/kind.rt:46:9
+pub returns-then-same-5 : goal.returns-then-same-5
+unfolding ascii event_named
+returns-then-same-5 c = search (flags, rules)
+
+-- src/kind.rt:49:9
+pub returns-then-same-6 : goal.returns-then-same-6
+unfolding ascii event_named
+returns-then-same-6 c = search (flags, rules)
+
+-- src/kind.rt:52:9
+pub returns-then-same-7 : goal.returns-then-same-7
+unfolding ascii event_named
+returns-then-same-7 c = search (flags, rules)
+
+-- src/kind.rt:30:1
+pub returns : goal.returns
+unfolding ascii event_named
+returns c = search (flags, rules)

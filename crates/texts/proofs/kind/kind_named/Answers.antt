@@ -1,0 +1,26 @@
+use Rattle.rules.proofs.Numbers.Choice.{flags}
+use Rattle.page.specs.Ascii.{ascii}
+use Rattle.std.proofs.Common.{rules, ◌≡◌, ◌≤◌, ℕ, ◌+◌, ◌-◌, ◌*◌, ◌<◌, length, ◌/◌, ◌%◌, Bool, true, false, nat_eq, nat_lt, List, [], ◌∷◌, ◌++◌, slice_index_or, slice_set, bit_and, bit_or, Fits, w8, w32, w64, Bor, MutBor}
+use Rattle.texts.specs.declared.kind.Kind.{Kind}
+use Rattle.texts.specs.Kind.{event_named, kind_named, fields_of, most_of, part_of, has_items}
+use Rattle.texts.proofs.kind.kind_named.Goals as goal
+
+-- src/kind.rt:61:9
+pub returns-then-same : goal.returns-then-same
+unfolding ascii kind_named
+returns-then-same c = search (flags, rules)
+
+-- src/kind.rt:64:9
+pub returns-then-same-2 : goal.returns-then-same-2
+unfolding ascii kind_named
+returns-then-same-2 c = search (flags, rules)
+
+-- src/kind.rt:67:9
+pub returns-then-same-3 : goal.returns-then-same-3
+unfolding ascii kind_named
+returns-then-same-3 c = search (flags, rules)
+
+-- src/kind.rt:57:1
+pub returns : goal.returns
+unfolding ascii kind_named
+returns c = search (flags, rules)

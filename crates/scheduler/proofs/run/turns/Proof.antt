@@ -9,14 +9,14 @@ use borrow.Author.Rules.{rules}
 use Rattle.scheduler.proofs.run.turns.Statement.{statement}
 use Rattle.scheduler.proofs.run.turns.Tie as tie
 
-abbrev invariant-loop : tie.invariant-loop
+abbrev invariant-loop : tie.invariant-loop-protocol
 invariant-loop protocol n m base maximum ceiling limit uses released₀ kept₀ delay₀ depth₀ takes₀ saved₀ units₀ owner₀ first body rows₀ c tree₀ ended₀ k₀
     released kept delay depth takes saved units owner rows tree ended k =
     (Going protocol (plan_with n m base maximum ceiling limit uses) (event_on first body) c
-    (state_with ended₀.head released₀ kept₀ delay₀ depth₀ takes₀ saved₀ units₀ owner₀) rows₀ k
+    (state_with ended₀.head-1 released₀ kept₀ delay₀ depth₀ takes₀ saved₀ units₀ owner₀) rows₀ k
     (ended_as ended released kept delay depth takes saved units owner rows)) × (tree ≡ tournament_of n released kept)
 
-abbrev decreases-loop : tie.decreases-loop
+abbrev decreases-loop : tie.decreases-loop-protocol
 decreases-loop protocol n m base maximum ceiling limit uses released₀ kept₀ delay₀ depth₀ takes₀ saved₀ units₀ owner₀ first body rows₀ c tree₀ ended₀ k₀
     released kept delay depth takes saved units owner rows tree ended k = c - k
 
@@ -30,18 +30,18 @@ turns_spec =
     (tie.spec
     invariant-loop decreases-loop (λ c κs. search rules) (λ c. (search (going_start, rules), search made_tree)) (λ c κs. search rules)
     (λ c κs. let b = begun c in (
-      going_ready _ _ _ _ _ _ _ _ _ _ b.before.before.before.loop.inv.0 _ b.before.before.goes_on.ensures b.before.if1.taken,
-      b.before.before.before.loop.inv.1,
+      going_ready _ _ _ _ _ _ _ _ _ _ b.before.before.before.loop-protocol.inv.0 _ b.before.before.goes_on.ensures b.before.loop-protocol-test.taken,
+      b.before.before.before.loop-protocol.inv.1,
     ))
     (λ c. let b = begun c.before.before.before in record {
-      fits = going_place _ _ _ _ _ _ _ _ _ _ b.before.before.before.loop.inv.0 _
-          b.before.before.goes_on.ensures b.before.if1.taken;
+      fits = going_place _ _ _ _ _ _ _ _ _ _ b.before.before.before.loop-protocol.inv.0 _
+          b.before.before.goes_on.ensures b.before.loop-protocol-test.taken;
     })
-    (λ c. let b = begun c.before.before.before in going_falls _ _ _ _ _ _ _ _ _ _ b.before.before.before.loop.inv.0 _
-    b.before.before.goes_on.ensures b.before.if1.taken)
+    (λ c. let b = begun c.before.before.before in going_falls _ _ _ _ _ _ _ _ _ _ b.before.before.before.loop-protocol.inv.0 _
+    b.before.before.goes_on.ensures b.before.loop-protocol-test.taken)
     (λ c. let b = begun c.before.before.before in (
-      going_next _ _ _ _ _ _ _ _ _ _ b.before.before.before.loop.inv.0 _ b.before.before.goes_on.ensures b.before.if1.taken _
-          c.before.before.turn.ensures.0,
-      c.before.before.turn.ensures.1,
+      going_next _ _ _ _ _ _ _ _ _ _ b.before.before.before.loop-protocol.inv.0 _ b.before.before.goes_on.ensures b.before.loop-protocol-test.taken _
+          c.before.before.turn-ended.ensures.0,
+      c.before.before.turn-ended.ensures.1,
     ))
     (λ c. search going_same) (λ c. search going_end))

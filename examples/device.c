@@ -1,5 +1,5 @@
 /* Checks and replays a book from C: `device [--first] [BOOK]`, or the book on standard input. Build it so:
- *     rt staticlib device
+ *     tools/archive
  *     cc -Iinclude examples/device.c target/staticlib/libdevice.a -o device */
 #include <stdio.h>
 #include <string.h>

@@ -1,5 +1,5 @@
 /* A recorder's kernel in small: loads its tasks from a table, and steps one event after the other. Build it so:
- *     rt staticlib device
+ *     tools/archive
  *     cc -Iinclude examples/kernel.c target/staticlib/libdevice.a -o kernel */
 #include <stdio.h>
 

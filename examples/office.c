@@ -1,5 +1,5 @@
 /* Writes a book from C, to standard output: the crane plan with the events of P1, as the office types them. Build it so:
- *     rt staticlib device
+ *     tools/archive
  *     cc -Iinclude examples/office.c target/staticlib/libdevice.a -o office */
 #include <stdio.h>
 

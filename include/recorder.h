@@ -1,4 +1,4 @@
-/* The recorder's library: target/staticlib/libdevice.a, as `rt staticlib device` writes it for x86-64 Linux.
+/* The recorder's library: target/staticlib/libdevice.a, as `tools/archive` writes it for x86-64 Linux.
  *
  * A slice is passed as its address and its length in elements. An address is never null, also where the length is 0;
  * the library keeps none of them after it returns. Rows, a buffer and event space overlap nothing else that is passed.

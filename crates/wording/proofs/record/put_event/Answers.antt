@@ -1,0 +1,37 @@
+use Rattle.page.specs.Ascii.{ascii}
+use Rattle.wording.proofs.Ways.{event_known}
+use Rattle.std.proofs.Common.{rules, ◌≡◌, [], ◌∷◌, ◌%◌, ◌/◌, ℕ, ◌+◌, ◌-◌, ◌*◌, ◌<◌, ◌≤◌, length, Bool, true, false, nat_eq, nat_lt, List, ◌++◌, slice_index_or, slice_set, bit_and, bit_or, Fits, w8, w32, w64, Bor, MutBor}
+use Rattle.page.specs.Page.{page, typed}
+use Rattle.page.specs.Says.{filled}
+use Rattle.wording.specs.Records.{task_line, lock_line, use_line, event_words, no_event_line, ran_comment, refused_comment, unreached, size_line, entry_line}
+use Rattle.wording.proofs.record.put_event.Goals as goal
+
+-- src/record.rt:76:1
+pub returns-in-Release : goal.returns-in-Release
+unfolding ascii event_words
+returns-in-Release c = search (event_known, rules)
+
+-- src/record.rt:76:1
+pub returns-in-Acquire : goal.returns-in-Acquire
+unfolding ascii event_words
+returns-in-Acquire c = search (event_known, rules)
+
+-- src/record.rt:76:1
+pub returns-in-Unlock : goal.returns-in-Unlock
+unfolding ascii event_words
+returns-in-Unlock c = search (event_known, rules)
+
+-- src/record.rt:76:1
+pub returns-in-Work : goal.returns-in-Work
+unfolding ascii event_words
+returns-in-Work c = search (event_known, rules)
+
+-- src/record.rt:76:1
+pub returns-in-Finish : goal.returns-in-Finish
+unfolding ascii event_words
+returns-in-Finish c = search (event_known, rules)
+
+-- src/record.rt:76:1
+pub returns-in-Tick : goal.returns-in-Tick
+unfolding ascii event_words
+returns-in-Tick c = search (event_known, rules)

@@ -1,0 +1,10 @@
+-- `wording::mistake::put_refusal_at` meets its contract. The words with their numbers. Assumes nothing.
+use Rattle.std.proofs.Common.{rules}
+use Rattle.page.specs.Ascii.{ascii}
+use Rattle.wording.specs.Mistakes.{refusal_at_line}
+use Rattle.wording.proofs.Ways.{said_then}
+use Rattle.wording.proofs.mistake.put_refusal_at.Goals as goal
+
+pub returns : goal.returns
+unfolding ascii refusal_at_line
+returns c = search (said_then, rules)

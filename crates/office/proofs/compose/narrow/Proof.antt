@@ -8,10 +8,10 @@ use borrow.Author.Rules.{rules}
 use Rattle.office.proofs.compose.narrow.Statement.{statement}
 use Rattle.office.proofs.compose.narrow.Tie as tie
 
-abbrev invariant-loop : tie.invariant-loop
+abbrev invariant-loop : tie.invariant-loop-i
 invariant-loop from to₀ n i₀ to i = (length to ≡ length to₀) × RenewedSoFar to₀ (λ k. at from k % 65536) (length from) i to
 
-abbrev decreases-loop : tie.decreases-loop
+abbrev decreases-loop : tie.decreases-loop-i
 decreases-loop from to₀ n i₀ to i = length from - i
 
 pub narrow_spec : {M : Type 1} → statement M

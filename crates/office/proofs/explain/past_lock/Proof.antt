@@ -9,10 +9,10 @@ use borrow.Author.Rules.{rules}
 use Rattle.office.proofs.explain.past_lock.Statement.{statement}
 use Rattle.office.proofs.explain.past_lock.Tie as tie
 
-abbrev invariant-loop : tie.invariant-loop
+abbrev invariant-loop : tie.invariant-loop-l
 invariant-loop limit owner units t amount l₀ l = PassedSoFar (past_at limit owner units t amount) max_locks l
 
-abbrev decreases-loop : tie.decreases-loop
+abbrev decreases-loop : tie.decreases-loop-l
 decreases-loop limit owner units t amount l₀ l = max_locks - l
 
 pub past_lock_spec : {M : Type 1} → statement M

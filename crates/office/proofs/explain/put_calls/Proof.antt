@@ -9,11 +9,11 @@ use borrow.Author.Rules.{rules}
 use Rattle.office.proofs.explain.put_calls.Statement.{statement}
 use Rattle.office.proofs.explain.put_calls.Tie as tie
 
-abbrev invariant-loop : tie.invariant-loop
+abbrev invariant-loop : tie.invariant-loop-k
 invariant-loop out₀ i b rows n place₀ k₀ out place k =
     (length out ≡ length out₀) × (k ≤ n) × (page out place ≡ typed (page out₀ i) (call_lines b rows k))
 
-abbrev decreases-loop : tie.decreases-loop
+abbrev decreases-loop : tie.decreases-loop-k
 decreases-loop out₀ i b rows n place₀ k₀ out place k = n - k
 
 pub put_calls_spec : {M : Type 1} → statement M

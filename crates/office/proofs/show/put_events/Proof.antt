@@ -9,11 +9,11 @@ use borrow.Author.Rules.{rules}
 use Rattle.office.proofs.show.put_events.Statement.{statement}
 use Rattle.office.proofs.show.put_events.Tie as tie
 
-abbrev invariant-loop : tie.invariant-loop
+abbrev invariant-loop : tie.invariant-loop-k
 invariant-loop out₀ i b verdict accepted rows n place₀ k₀ out place k =
     (length out ≡ length out₀) × (k ≤ n) × (page out place ≡ typed (page out₀ i) (event_lines b verdict accepted rows k))
 
-abbrev decreases-loop : tie.decreases-loop
+abbrev decreases-loop : tie.decreases-loop-k
 decreases-loop out₀ i b verdict accepted rows n place₀ k₀ out place k = n - k
 
 pub put_events_spec : {M : Type 1} → statement M

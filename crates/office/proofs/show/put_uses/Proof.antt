@@ -9,10 +9,10 @@ use borrow.Author.Rules.{rules}
 use Rattle.office.proofs.show.put_uses.Statement.{statement}
 use Rattle.office.proofs.show.put_uses.Tie as tie
 
-abbrev invariant-loop : tie.invariant-loop
+abbrev invariant-loop : tie.invariant-loop-k
 invariant-loop out₀ i b n place₀ k₀ out place k = (length out ≡ length out₀) × (k ≤ n) × (page out place ≡ typed (page out₀ i) (use_lines b k))
 
-abbrev decreases-loop : tie.decreases-loop
+abbrev decreases-loop : tie.decreases-loop-k
 decreases-loop out₀ i b n place₀ k₀ out place k = n - k
 
 pub put_uses_spec : {M : Type 1} → statement M

@@ -1,6 +1,6 @@
 // The check of a book. The reply: the refusal's number or 0, its place, the place of the event body,
 // and the plan figure by figure.
-use crate::figures::{PLAN_SIZE, put_plan};
+use crate::each_figure::{PLAN_SIZE, put_plan};
 use crate::wire::{put_place, put8, write_front};
 use rules::answer::{verdict_number, verdict_place};
 

@@ -12,7 +12,7 @@
 #![tactic(auto)]
 
 mod check;
-mod figures;
+mod each_figure;
 mod job;
 mod office_replies;
 mod replay;

@@ -1,7 +1,7 @@
 // The replay of a book by a protocol. The reply: the refusal's number or 0, its place, the lazy and the eager
 // calls, the number of tasks, each task's delay and then each task's bound, and the whole row space,
 // which held 0xEE before the replay.
-use crate::figures::give16;
+use crate::each_figure::give16;
 use crate::wire::{put_place, put8, put16, put32, write_front};
 use plan::bound;
 use rules::answer::{Verdict, verdict_number, verdict_place};

@@ -1,7 +1,7 @@
 // A single step by a protocol. It is handed a plan, a state and an event's four bytes (kind, id, amount; work of 0
 // may be handed in too). The reply: the refusal's number or 0, the lazy calls, 1 or 0, and the
 // state after it, figure by figure.
-use crate::figures::{PLAN_SIZE, STATE_SIZE, plan_at, put_state, state_at};
+use crate::each_figure::{PLAN_SIZE, STATE_SIZE, plan_at, put_state, state_at};
 use crate::wire::{put8, read8, read16, write_front};
 use book::record::event_of;
 use rules::answer::{answer_calls, answer_number};

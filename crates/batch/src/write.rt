@@ -1,7 +1,7 @@
 // The writing of a book. It is handed four counts, of tasks, locks, uses and events, four bytes each,
 // and then so many records of each kind, as numbers. The reply: the refusal's number or 0, its place,
 // the book's length, and the whole buffer, which held 0xEE before.
-use crate::figures::{take16, take32};
+use crate::each_figure::{take16, take32};
 use crate::replay::fill;
 use crate::wire::{put_place, put8, read32, write_front};
 use rules::answer::{Written, verdict_number, verdict_place};

@@ -9,7 +9,7 @@ use lib.ListN.{length, take, drop, length-drop}
 use lib.Seq.{take_all}
 use borrow.Author.Tests.{lt-ltb, le-ltb, ltb-false, eqb-true, not-false}
 use Rattle.rules.specs.Numbers.Capacity.{max_tasks, max_locks, max_uses}
-use Rattle.rules.specs.Numbers.Choice.{if◌then◌else◌}
+use Rattle.rules.specs.Numbers.Choice.{when◌then◌else◌}
 use Rattle.rules.specs.Numbers.Place.{any, first_from}
 use Rattle.rules.specs.Numbers.Refusal.{number_of, first_fault, check_for}
 use Rattle.rules.specs.Books.Plan.{most, count_fault}
@@ -56,7 +56,7 @@ module _ (b : List ℕ) where
       no_wrong h = sym (check_passes _ _ 1 one (omega arith) ∙ check_passes _ _ e count counts ∙ check_passes _ _ l layout h ∙ check_none)
 
   pub laid_out : (v : Verdict) → v ≡ first_fault (contents_checks b) → v ≡ Verdict.Passed → Laid b
-  unfolding contents_checks check_for number_of count_fault most layout_fault if◌then◌else◌
+  unfolding contents_checks check_for number_of count_fault most layout_fault when◌then◌else◌
   laid_out v said passed =
       let clean = clean_for (contents_checks b) (sym said ∙ passed) in
       record {

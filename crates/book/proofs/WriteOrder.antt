@@ -8,7 +8,7 @@ use lib.Dec.{eqb}
 use lib.ListN.{length, drop}
 use borrow.Author.Tests.{ltb-false}
 use Rattle.rules.specs.Numbers.Capacity.{max_tasks, max_locks, max_uses, max_events}
-use Rattle.rules.specs.Numbers.Choice.{if◌then◌else◌}
+use Rattle.rules.specs.Numbers.Choice.{when◌then◌else◌}
 use Rattle.rules.specs.Numbers.Place.{at, any, first_from}
 use Rattle.rules.specs.Numbers.Refusal.{number_of, first_fault, check_for}
 use Rattle.rules.specs.Books.Event.{event_fault, record_kind, record_id, record_amount, number_fault, event_of, number_event}
@@ -64,7 +64,7 @@ module _ (events : List ℕ) (size room : ℕ) (r : Bool) (said : r ≡ any (λ 
 -- counts that pass 2
 few_counts : (tasks locks uses events : List ℕ) → ((i : ℕ) → i < 4 → count_fault i (counts_of tasks locks uses events i) ≡ false)
     → Few (length tasks) (length locks) (length uses) (length events)
-unfolding count_fault most if◌then◌else◌
+unfolding count_fault most when◌then◌else◌
 few_counts tasks locks uses events clean = record {
   tasks = ltb-false max_tasks (length tasks) (or_false (eqb (length tasks) 0) _ (clean 0 (omega arith))).1;
   locks = ltb-false max_locks (length locks) (clean 1 (omega arith));
@@ -118,7 +118,7 @@ module _ (tasks locks uses events out : List ℕ) (v : Verdict) (said : v ≡ fi
     passed = sym said ∙ e
 
     pub room_for : Room tasks locks uses events out
-    unfolding write_checks whole_checks check_for number_of if◌then◌else◌
+    unfolding write_checks whole_checks check_for number_of when◌then◌else◌
     room_for = record {
       few = few_counts tasks locks uses events (clean_for (write_checks tasks locks uses events (length out)) passed WrongCount);
       fits = ltb-false (length out) (length (book_of tasks locks uses events))

@@ -5,7 +5,7 @@ use Prim.Native.Nat.{ℕ, zero, suc, ◌*◌, ◌^◌, ◌<◌}
 use native.Mathlib.Omega.{arith}
 use lib.ListN.{length, get_or, length-map}
 use borrow.Author.Tests.{le-ltb}
-use Rattle.rules.specs.Numbers.Choice.{if◌then◌else◌}
+use Rattle.rules.specs.Numbers.Choice.{when◌then◌else◌}
 use Rattle.rules.specs.Numbers.Place.{at}
 use Rattle.rules.specs.Books.Plan.{most, count_fault}
 use Rattle.rules.specs.Books.Load.{load_of}
@@ -29,7 +29,7 @@ module _ (ts : List TaskRecord) (locks uses : List ℕ) where
 
   -- nothing but the plan can be refused in it
   only_plan : OnlyPlan b 0
-  unfolding count_fault most event_checks if◌then◌else◌
+  unfolding count_fault most event_checks when◌then◌else◌
   only_plan = record {
     whole = omega (arith, book_size (numbers_of ts) locks uses []);
     layout = layout_right (numbers_of ts) locks uses [];

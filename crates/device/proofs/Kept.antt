@@ -12,7 +12,7 @@ use lib.ListN.{length, get_or, set, take, drop, replicate, length-map, length-se
 use lib.Seq.{sets, sets-eq, drop-cons, take_at, length-take-le}
 use borrow.Author.Tests.{lt-ltb, le-ltb}
 use Rattle.rules.specs.Numbers.Capacity.{max_tasks}
-use Rattle.rules.specs.Numbers.Choice.{if◌then◌else◌}
+use Rattle.rules.specs.Numbers.Choice.{when◌then◌else◌}
 use Rattle.rules.specs.Books.Plan.{most, count_fault}
 use Rattle.rules.specs.Books.Load.{plan_of, count_fault_of, record_checks, load_checks, refused_load, loaded_as, load_of}
 use Rattle.rules.specs.declared.answer.Loaded.{Loaded}
@@ -92,7 +92,7 @@ full (t ∷ ts) n a w b = ⊎_elim
 
 -- more tasks than a plan may have are refused, whatever they are
 pub too_many : (tasks locks uses : List ℕ) → max_tasks < length tasks → load_of tasks locks uses ≡ refused_load WrongCount 1
-unfolding load_of load_checks record_checks loaded_as count_fault_of count_fault most if◌then◌else◌
+unfolding load_of load_checks record_checks loaded_as count_fault_of count_fault most when◌then◌else◌
 too_many tasks locks uses h =
     ap (λ v. loaded_as v (plan_of tasks locks uses)) (check_finds _ _ 0 (sym
     (first_stop (count_fault_of (length tasks) (length locks) (length uses)) 0 2

@@ -9,7 +9,7 @@ use lib.Dec.{ltb}
 use lib.ListN.{length, length-map}
 use borrow.Author.Tests.{le-ltb}
 use Rattle.rules.specs.Numbers.Capacity.{max_tasks}
-use Rattle.rules.specs.Numbers.Choice.{if◌then◌else◌}
+use Rattle.rules.specs.Numbers.Choice.{when◌then◌else◌}
 use Rattle.rules.specs.Numbers.Place.{from, first_from}
 use Rattle.rules.specs.Numbers.Refusal.{Check, first_fault}
 use Rattle.rules.specs.Books.Plan.{count_fault}
@@ -80,7 +80,7 @@ module _ (b : List ℕ) where
     counts_here = count_fault_of (length (tasks_of b)) (length (locks_of b)) (length (uses_of b))
 
     same_counts : (e : ℕ) → 0 ≤ e → e < 0 + 3 → counts_there e ≡ counts_here e
-    unfolding count_fault_of if◌then◌else◌
+    unfolding count_fault_of when◌then◌else◌
     same_counts zero _ h = ap (count_fault 0) (sym (length_from _ 0 (count_at b 0)))
     same_counts (suc zero) _ h = ap (count_fault 1) (sym (length_from _ 0 (count_at b 1)))
     same_counts (suc (suc zero)) _ h = ap (count_fault 2) (sym (length_from _ 0 (count_at b 2)))

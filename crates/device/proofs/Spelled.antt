@@ -6,7 +6,7 @@ use Prim.Native.Nat.{ℕ}
 use lib.Dec.{eqb}
 use lib.ListN.{length}
 use borrow.Author.Tests.{ne_eqb}
-use Rattle.rules.specs.Numbers.Choice.{if◌then◌else◌}
+use Rattle.rules.specs.Numbers.Choice.{when◌then◌else◌}
 use Rattle.rules.specs.Numbers.Refusal.{number_of}
 use Rattle.rules.specs.Numbers.Answer.{verdict_number, verdict_place, answer_number, answer_calls}
 use Rattle.rules.specs.Books.Event.{event_fault, event_of}
@@ -107,8 +107,8 @@ bound_said b room c reads n t h = h ∙ ap (λ (k : Checked). bound_of k.plan t)
 
 module _ (kind id amount : ℕ) where
   pub work_handed : kind ≡ 4 → (z : Bool) → z ≡ not (eqb id 0) → z ≡ no_event kind id amount
-  unfolding if◌then◌else◌
-  work_handed e z h = h ∙ ap (λ (k : ℕ). if eqb k 4 then not (eqb id 0) else event_fault kind id amount) (sym e)
+  unfolding when◌then◌else◌
+  work_handed e z h = h ∙ ap (λ (k : ℕ). when eqb k 4 then not (eqb id 0) else event_fault kind id amount) (sym e)
 
   pub other_handed : ¬ (kind ≡ 4) → (z : Bool) → z ≡ event_fault kind id amount → z ≡ no_event kind id amount
   other_handed h z e = e ∙ sym (if_false (eqb kind 4) (not (eqb id 0)) (event_fault kind id amount) (ne_eqb kind 4 h))

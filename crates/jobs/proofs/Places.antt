@@ -8,7 +8,7 @@ use lib.Dec.{eqb}
 use lib.ListN.{length, take, drop, length-append}
 use lib.Seq.{take_at, take-add}
 use borrow.Author.Tests.{eqb-true, eqb-false}
-use Rattle.rules.specs.Numbers.Choice.{if◌then◌else◌}
+use Rattle.rules.specs.Numbers.Choice.{when◌then◌else◌}
 use Rattle.rules.specs.declared.event.Event.{Event}
 use Rattle.jobs.specs.Grammar.{text_of}
 use Rattle.rules.specs.declared.event.Event.TheVariants.{Acquire, Unlock, Work, Finish}
@@ -49,7 +49,7 @@ closes (l ∷ ls) =
     (fs, read_right l (closed ls) ls ∙ g)
 
 turns_closed : (ls : List ℕ) → Turns (closed ls)
-unfolding closed Turns sign mark_of if◌then◌else◌
+unfolding closed Turns sign mark_of when◌then◌else◌
 turns_closed [] = tt
 turns_closed (l ∷ ls) = (right, refl)
 

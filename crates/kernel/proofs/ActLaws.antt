@@ -9,7 +9,7 @@ use lib.Dec.{leb}
 use lib.ListN.{length}
 use borrow.Author.Tests.{le-leb, lt-leb}
 use Rattle.rules.specs.Numbers.Capacity.{max_tasks, max_locks, max_accepted}
-use Rattle.rules.specs.Numbers.Choice.{if◌then◌else◌}
+use Rattle.rules.specs.Numbers.Choice.{when◌then◌else◌}
 use Rattle.rules.specs.Numbers.Place.{at, renewed}
 use Rattle.rules.specs.Numbers.Refusal.{first_true}
 use Rattle.rules.specs.Schedulers.Figures.{Figures, figures_of}
@@ -191,7 +191,7 @@ module _ (pr : Protocol) (p : Plan) (s : State) where
       pub tick_acts : (most : KernelPriority) → most.0 ≡ best_kept s.kept p.tasks
           → r ≡ accepted_with s.head (ticked_turn pr (entering_head p.maximum s.head) most.0) false 0
           → e ≡ Event.Tick → out ≡ beside s r → out ≡ act_of pr p s e
-      unfolding tests_of first_true answered after_of figures_after eager_calls words_after entering stays lazy_call if◌then◌else◌
+      unfolding tests_of first_true answered after_of figures_after eager_calls words_after entering stays lazy_call when◌then◌else◌
       tick_acts most b q arm o =
           let after : ℕ → Turn = ticked_turn pr (entering_head p.maximum s.head) in
           o ∙ ap (beside s) (q ∙ ap (λ v. accepted_with s.head (after v) false 0) b)

@@ -6,7 +6,7 @@ use Prim.Native.Nat.{ℕ, ◌+◌, ◌-◌, ◌%◌, ◌^◌, ◌<◌, max}
 use native.Mathlib.Nat.{add-zero}
 use lib.ListN.{set}
 use lib.Seq.{set-get_or}
-use Rattle.rules.specs.Numbers.Choice.{if◌then◌else◌}
+use Rattle.rules.specs.Numbers.Choice.{when◌then◌else◌}
 use Rattle.rules.specs.Numbers.Place.{at, renewed}
 use Rattle.rules.specs.Numbers.Row.{under, pushed, has}
 use Rattle.rules.specs.Schedulers.FiguresAfter.{differs, left_of}
@@ -28,7 +28,7 @@ use Rattle.kernel.specs.declared.switch.Turn.{Turn}
 -- the head of an event without a lazy call: its words are those of the turn
 module _ (h : Head) (turn : Turn) where
   uncalled : (kept saved owner : List ℕ) → words_with (accepted_with h turn false 0).head kept saved owner ≡ words_on turn h.lazy kept saved owner
-  unfolding if◌then◌else◌
+  unfolding when◌then◌else◌
   uncalled kept saved owner = ap (λ z. words_on turn z kept saved owner) (add-zero h.lazy)
 
   -- without an eager call either

@@ -9,7 +9,7 @@ use lib.ListN.{set}
 use lib.Seq.{set-get_or}
 use borrow.Author.Tests.{ltb-true}
 use Rattle.rules.specs.Numbers.Capacity.{max_tasks}
-use Rattle.rules.specs.Numbers.Choice.{if◌then◌else◌}
+use Rattle.rules.specs.Numbers.Choice.{when◌then◌else◌}
 use Rattle.rules.specs.Numbers.Place.{at}
 use Rattle.rules.specs.Numbers.Row.{newest, under, pushed}
 use Rattle.rules.specs.Schedulers.Lazy.{Words, calls_for, cut_to, entering, best_kept, runs_on, switched, stays, after_release, after_acquire, restored, leaves}
@@ -124,7 +124,7 @@ module _ (pr : Protocol) (n row u : ℕ) (h : Head) (maximum released kept saved
   pub unlock_calls : r ≡ true → (found : UserPriority) (kept₂ : List ℕ) (after : Turn) → found.0 ≡ cut_to (at maximum h.running) back.0
       → ((w : Words) → turned after kept₂ w ≡ switched pr n released (set kept h.running found.0) w)
       → UnlockWords pr h n maximum released kept saved (record { turn = after; call = true; back = back }) kept₂ (set saved h.running u)
-  unfolding after_unlock leaves entering restored if◌then◌else◌
+  unfolding after_unlock leaves entering restored when◌then◌else◌
   unlock_calls y found kept₂ after cut e = record {
     call = sym (calls true y);
     back = newest_back;
@@ -139,7 +139,7 @@ module _ (pr : Protocol) (n row u : ℕ) (h : Head) (maximum released kept saved
         call = false;
         back = back;
       }) kept (set saved h.running u)
-  unfolding after_unlock restored if◌then◌else◌
+  unfolding after_unlock restored when◌then◌else◌
   unlock_stays y = record {
     call = sym (calls false y);
     back = newest_back;

@@ -1,7 +1,7 @@
 -- RULES 7.1, 12.1: what the code answers beside the arrays that it is lent. Assumes nothing.
 use Rattle.std.specs.Prelude.{Bool, List, ℕ, ◌+◌}
 use Rattle.rules.specs.Numbers.Capacity.{nobody}
-use Rattle.rules.specs.Numbers.Choice.{if◌then◌else◌}
+use Rattle.rules.specs.Numbers.Choice.{when◌then◌else◌}
 use Rattle.rules.specs.Schedulers.Whole.{state_with}
 use Rattle.rules.specs.Schedulers.Protocol.{second_word}
 use Rattle.rules.specs.Numbers.Place.{at}
@@ -42,7 +42,7 @@ accepted_with h t call eager =
         running = t.running;
         user = t.user;
         next = t.next;
-        lazy = h.lazy + (if call then 1 else 0);
+        lazy = h.lazy + (when call then 1 else 0);
         eager = h.eager + eager;
       };
     }

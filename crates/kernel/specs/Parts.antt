@@ -2,7 +2,7 @@
 -- their definition. Assumes nothing.
 use Rattle.std.specs.Prelude.{◌≡◌, Bool, false, not, ◌&&◌, ◌||◌, List, [], ◌∷◌, ℕ, ◌+◌, ◌-◌, max, eqb, leb, ltb, set}
 use Rattle.rules.specs.Numbers.Capacity.{max_tasks, max_takes}
-use Rattle.rules.specs.Numbers.Choice.{if◌then◌else◌}
+use Rattle.rules.specs.Numbers.Choice.{when◌then◌else◌}
 use Rattle.rules.specs.Numbers.Place.{at, renewed}
 use Rattle.rules.specs.Numbers.Mask.{has_bit}
 use Rattle.rules.specs.Numbers.Row.{newest, under, pushed, has}
@@ -77,7 +77,7 @@ pub record UnlockWords (pr : Protocol) (h : Head) (n : ℕ) (maximum released ke
   pub call : r.call ≡ calls_for (newest (at saved h.running)) h.next.0
   pub back : r.back.0 ≡ newest (at saved h.running)
   pub words : (lazy l : ℕ) (more : Bool) (owner : List ℕ)
-      → words_on r.turn (lazy + (if r.call then 1 else 0)) kept₂ saved₂ (set owner l (left_of more (at owner l)))
+      → words_on r.turn (lazy + (when r.call then 1 else 0)) kept₂ saved₂ (set owner l (left_of more (at owner l)))
       ≡ after_unlock pr n maximum released more l (words_on (turn_of h) lazy kept saved owner)
 
 abbrev pub unlock_tested : ℕ → ℕ → ℕ → (depth takes : List ℕ) → Tested

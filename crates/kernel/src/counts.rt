@@ -1,6 +1,6 @@
 // The head after an event: as it was where the event is refused, or one event further.
 ghost use Rattle.std.specs.Prelude.{◌≡◌, ◌≤◌};
-ghost use Rattle.rules.specs.Numbers.Choice.{if◌then◌else◌};
+ghost use Rattle.rules.specs.Numbers.Choice.{when◌then◌else◌};
 ghost use Rattle.rules.specs.Schedulers.FiguresAfter.{differs};
 ghost use Rattle.kernel.specs.Lent.{accepted_with, refused_as, turn_of};
 ghost use Rattle.kernel.specs.Ready.{Counts};
@@ -48,7 +48,7 @@ pub fn turn_of(h: Head) -> Turn
 }
 
 fn call_count(call: bool) -> u32
-    ensures { (result ≡ (if call then 1 else 0)) × (result ≤ 1) }
+    ensures { (result ≡ (when call then 1 else 0)) × (result ≤ 1) }
 {
     if call {
         return 1;

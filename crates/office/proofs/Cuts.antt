@@ -10,7 +10,7 @@ use lib.ListN.{length, take, drop, set, length-take, length-set}
 use lib.Seq.{take_all, take-append_seam, set_out, ext_get_or}
 use borrow.Author.Tests.{lt-ltb, ltb-false, ne_eqb}
 use Rattle.rules.specs.Numbers.Capacity.{max_tasks, max_locks, max_uses, max_events}
-use Rattle.rules.specs.Numbers.Choice.{if◌then◌else◌}
+use Rattle.rules.specs.Numbers.Choice.{when◌then◌else◌}
 use Rattle.rules.specs.Numbers.Place.{at, renewed, stored, tabulate}
 use Rattle.rules.specs.Numbers.Refusal.{Check, number_of, first_fault, check_for}
 use Rattle.rules.specs.Books.Plan.{most, count_fault}
@@ -77,7 +77,7 @@ abbrev counted : (a b c d : List ℕ) → List Check
 counted a b c d = count_check (counts_of a b c d) ∷ []
 
 counts_clean : (a b c d : List ℕ) → first_fault (counted a b c d) ≡ Verdict.Passed → Clean (count_check (counts_of a b c d))
-unfolding check_for number_of if◌then◌else◌
+unfolding check_for number_of when◌then◌else◌
 counts_clean a b c d e = clean_for (counted a b c d) e WrongCount
 
 module _ (ts ls us es : List ℕ) where
@@ -94,7 +94,7 @@ module _ (ts ls us es : List ℕ) where
   e' = take (suc max_events) es
 
   same_counts : (i : ℕ) → i < 4 → count_fault i (counts_of t' l' u' e' i) ≡ count_fault i (counts_of ts ls us es i)
-  unfolding most if◌then◌else◌
+  unfolding most when◌then◌else◌
   same_counts zero l = ap (count_fault 0) (length-take (suc max_tasks) ts) ∙ count_cut 0 (length ts) max_tasks refl (omega arith)
   same_counts (suc zero) l = ap (count_fault 1) (length-take (suc max_locks) ls) ∙ count_cut 1 (length ls) max_locks refl (omega arith)
   same_counts (suc (suc zero)) l = ap (count_fault 2) (length-take (suc max_uses) us) ∙ count_cut 2 (length us) max_uses refl (omega arith)
@@ -105,7 +105,7 @@ module _ (ts ls us es : List ℕ) where
   same_two = same_faults WrongCount 1 4 (λ i. count_fault i (counts_of t' l' u' e' i)) (λ i. count_fault i (counts_of ts ls us es i)) [] [] same_counts refl
 
   cut_none : Clean (count_check (counts_of ts ls us es)) → (t' ≡ ts) × (l' ≡ ls) × (u' ≡ us) × (e' ≡ es)
-  unfolding most if◌then◌else◌
+  unfolding most when◌then◌else◌
   cut_none C = (
     take_all (suc max_tasks) ts (omega (arith, count_fits 0 (length ts) max_tasks refl (C 0 (omega arith)))),
     take_all (suc max_locks) ls (omega (arith, count_fits 1 (length ls) max_locks refl (C 1 (omega arith)))),

@@ -1,6 +1,6 @@
 -- RULES 19.7, 19.8: the text of a book. Assumes nothing.
 use Rattle.std.specs.Prelude.{List, [], ◌∷◌, ◌++◌, ℕ, zero, suc, ◌+◌, ◌*◌, eqb, leb, ltb, length}
-use Rattle.rules.specs.Numbers.Choice.{if◌then◌else◌}
+use Rattle.rules.specs.Numbers.Choice.{when◌then◌else◌}
 use Rattle.rules.specs.Numbers.Place.{at}
 use Rattle.rules.specs.Numbers.Refusal.{number_of}
 use Rattle.rules.specs.Books.Book.{check_of}
@@ -36,8 +36,8 @@ stop_comment (Verdict.Refused why place) n = refused_comment n why
 
 unfoldable pub comment_of : Verdict → (accepted : ℕ) → (rows : List ℕ) → ℕ → List ℕ
 comment_of verdict accepted rows k =
-    if ltb k accepted then ran_comment (k + 1) (at rows (k * 4)) (at rows (k * 4 + 1))
-    else if eqb k accepted then stop_comment verdict (k + 1)
+    when ltb k accepted then ran_comment (k + 1) (at rows (k * 4)) (at rows (k * 4 + 1))
+    else when eqb k accepted then stop_comment verdict (k + 1)
     else unreached (k + 1)
 
 unfoldable pub event_lines : List ℕ → Verdict → (accepted : ℕ) → (rows : List ℕ) → ℕ → List ℕ
@@ -79,8 +79,8 @@ entries_of b = size_line (length b) ++ entry_pair b 0 ++ entry_pair b 2
 -- of a book that this number refuses
 unfoldable pub refused_body : ℕ → List ℕ → List ℕ
 refused_body number b =
-    if eqb number 1 then size_line (length b)
-    else if leb number 3 then entries_of b
+    when eqb number 1 then size_line (length b)
+    else when leb number 3 then entries_of b
     else parts_of b Verdict.Passed 0 []
 
 unfoldable pub refused_head : Refusal → ℕ → List ℕ

@@ -20,6 +20,7 @@ use rules::capacity::{MAX_EVENTS, MAX_TASKS};
 use rules::protocol::Protocol;
 use rules::state::Head;
 use scheduler::replay;
+use std::env::{Env, FillError};
 use words::{Asked, asked_by};
 
 // Four row bytes for each event that a book may have, so 9 is never given.
@@ -103,13 +104,39 @@ fn report_input(protocol: Protocol, explained: bool) {
     }
 }
 
+// The word i that the program is started with, at the front of `out`, and how many bytes it has: 0 where there is no such
+// word, and where it has more bytes than `out`.
+fn word(env: &impl Env, i: usize, out: &mut [u8]) -> usize
+    ensures { IsPrefixLen result out.new }
+{
+    match env.arg(i, out) {
+        Ok(n) => n,
+        Err(_) => 0,
+    }
+}
+
+fn has_word(env: &impl Env, i: usize) -> bool {
+    let mut out = [0u8; 8];
+    !matches!(env.arg(i, &mut out), Err(FillError::NotPresent))
+}
+
+// How many words there are, the program's own name among them, but never more than 4: with so many nothing is asked for.
+fn word_count(env: &impl Env) -> usize {
+    for i in 1..4usize {
+        if !has_word(env, i) {
+            return i;
+        }
+    }
+    4
+}
+
 // Words that ask for nothing are told to standard error, and nothing is replayed.
-fn main() {
+fn main(rt: HostRuntime) {
     let mut one = [0u8; 8];
-    let n = os::arg(1, &mut one);
+    let n = word(&rt, 1, &mut one);
     let mut two = [0u8; 8];
-    let m = os::arg(2, &mut two);
-    match asked_by(os::arg_count(), &one[..n], &two[..m]) {
+    let m = word(&rt, 2, &mut two);
+    match asked_by(word_count(&rt), &one[..n], &two[..m]) {
         Asked::By(protocol) => report_input(protocol, false),
         Asked::Explain(protocol) => report_input(protocol, true),
         Asked::Unknown => {

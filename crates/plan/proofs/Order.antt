@@ -6,7 +6,7 @@ use native.Mathlib.Omega.{arith}
 use lib.ListN.{length, replicate}
 use Rattle.rules.specs.Numbers.Capacity.{max_tasks, max_locks}
 use Rattle.rules.specs.Numbers.Place.{at, first_from, renewed, tabulate}
-use Rattle.rules.specs.Numbers.Choice.{if◌then◌else◌}
+use Rattle.rules.specs.Numbers.Choice.{when◌then◌else◌}
 use Rattle.rules.specs.Numbers.Refusal.{number_of, first_fault, check_for}
 use Rattle.rules.specs.Books.Plan.{ceiling_fault}
 use Rattle.rules.specs.Books.Load.{task_base, task_maximum, lock_ceiling, lock_limit, count_fault_of, task_fault_at, lock_fault_at, use_fault, use_above}
@@ -98,15 +98,15 @@ module _ (tasks locks uses : List ℕ) (v : Verdict) (said : v ≡ first_fault (
     clean = clean_for (record_checks tasks locks uses) (sym said ∙ passed)
 
     pub few_tasks : length tasks ≤ max_tasks
-    unfolding record_checks check_for number_of if◌then◌else◌
+    unfolding record_checks check_for number_of when◌then◌else◌
     few_tasks = tasks_fit (length tasks) (length locks) (length uses) (clean WrongCount 0 (omega arith))
 
     pub few_locks : length locks ≤ max_locks
-    unfolding record_checks check_for number_of if◌then◌else◌
+    unfolding record_checks check_for number_of when◌then◌else◌
     few_locks = locks_fit (length tasks) (length locks) (length uses) (clean WrongCount 1 (omega arith))
 
     pub known : Placed (length tasks) (length locks) uses
-    unfolding record_checks check_for number_of if◌then◌else◌ Placed
+    unfolding record_checks check_for number_of when◌then◌else◌ Placed
     known i b = use_known (length tasks) (length locks) uses i (clean WrongUse i b)
 
     pub placed : Placed max_tasks max_locks uses

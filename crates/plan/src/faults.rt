@@ -1,6 +1,6 @@
 // The first offender of 2, 4, 5 and 6; where there is none, the number of records.
 ghost use Rattle.std.specs.Prelude.{◌≡◌, ◌<◌, eqb, length};
-ghost use Rattle.rules.specs.Numbers.Choice.{if◌then◌else◌};
+ghost use Rattle.rules.specs.Numbers.Choice.{when◌then◌else◌};
 ghost use Rattle.rules.specs.Numbers.Place.{first_from};
 ghost use Rattle.rules.specs.Books.Plan.{task_fault, lock_fault};
 ghost use Rattle.rules.specs.Books.Load.{task_base, task_maximum, lock_ceiling, lock_second, lock_limit, use_key};
@@ -15,7 +15,7 @@ use rules::answer::Verdict;
 use rules::refusal::Refusal;
 
 fn count_of(n: usize, m: usize, u: usize, e: usize) -> usize
-    ensures { result ≡ (if eqb e 0 then n else if eqb e 1 then m else u) }
+    ensures { result ≡ (when eqb e 0 then n else when eqb e 1 then m else u) }
 {
     if e == 0 {
         return n;

@@ -5,7 +5,7 @@ use mathlib.Core.Bool.{true, false}
 use Prim.Native.Nat.{ℕ}
 use contract.Lifetimes.{Lfts}
 use lib.ListN.{length}
-use Rattle.rules.specs.Numbers.Choice.{if◌then◌else◌}
+use Rattle.rules.specs.Numbers.Choice.{when◌then◌else◌}
 use Rattle.rules.specs.Books.Event.{event_of}
 use Rattle.rules.specs.Books.Write.{Wrote, wrote_with}
 use Rattle.rules.specs.Books.Book.{checked_of}
@@ -66,10 +66,10 @@ module _ (number : ℕ) (p : Plan) (s : State) (kind id amount : ℕ) (r : Devic
   pub step_for_host : (q : Stepped) → no_event kind id amount ≡ false
       → step.Post tt (protocol_named number, (p, (s, (event_of kind id amount, tt)))) q (protocol_named number, (p, (s, (event_of kind id amount, tt))))
       → r ≡ step_spelled q
-  unfolding if◌then◌else◌
+  unfolding when◌then◌else◌
   step_for_host q e k = h ∙ rw e (ap step_spelled (sym k))
 
   -- and others, which are refused with 8 and leave the state
   pub no_step_for_host : no_event kind id amount ≡ true → r ≡ not_stepped s
-  unfolding if◌then◌else◌
+  unfolding when◌then◌else◌
   no_step_for_host e = h ∙ rw e refl

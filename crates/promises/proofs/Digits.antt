@@ -9,7 +9,7 @@ use native.Mathlib.Omega.{arith}
 use lib.Dec.{eqb, ltb}
 use lib.ListN.{length, length-append}
 use borrow.Author.Tests.{ne_eqb, le-ltb, le-leb, not-true}
-use Rattle.rules.specs.Numbers.Choice.{if◌then◌else◌}
+use Rattle.rules.specs.Numbers.Choice.{when◌then◌else◌}
 use Rattle.rules.proofs.Numbers.Choice.{if_true, if_false, lt_or_le, and_true, true_and}
 use Rattle.page.specs.Decimal.{digit, digits}
 use Rattle.page.proofs.Numbers.{digits_one, digits_more}

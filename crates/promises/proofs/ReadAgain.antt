@@ -8,7 +8,7 @@ use lib.Dec.{eqb, leb, ltb}
 use lib.ListN.{length}
 use borrow.Author.Tests.{le-leb, le-ltb, eqb-true, ltb-false, not-true, not-false, ne_eqb, eq-eqb}
 use Rattle.rules.specs.Numbers.Answer.{verdict_number}
-use Rattle.rules.specs.Numbers.Choice.{if◌then◌else◌}
+use Rattle.rules.specs.Numbers.Choice.{when◌then◌else◌}
 use Rattle.rules.specs.Numbers.Place.{at, from, tabulate}
 use Rattle.rules.specs.Numbers.Refusal.{number_of, first_fault, check_for}
 use Rattle.rules.specs.Books.Event.{number_fault}
@@ -219,17 +219,17 @@ byte_long b B i = omega (arith, byte_word b B i, byte_word b B (i + 2))
 
 module _ (b : List ℕ) (passed : check_of b row_space ≡ Verdict.Passed) where
   whole : contents ≤ length b
-  unfolding contents_checks check_for number_of if◌then◌else◌
+  unfolding contents_checks check_for number_of when◌then◌else◌
   whole = ltb-false (length b) contents (clean_for (contents_checks b) (passed_contents b row_space passed) ShortBook 0 (omega arith))
 
   ends_there : body_at b 4 ≡ length b
-  unfolding contents_checks check_for number_of layout_fault if◌then◌else◌
+  unfolding contents_checks check_for number_of layout_fault when◌then◌else◌
   ends_there = eqb-true (body_at b 4) (length b) (not-false (eqb (body_at b 4) (length b))
       (clean_for (contents_checks b) (passed_contents b row_space passed) WrongLayout 4 (omega arith)))
 
   pub spans : (body_at b 1 ≡ body_at b 0 + count_at b 0 * 2) × (body_at b 2 ≡ body_at b 1 + count_at b 1 * 4) × (body_at b 3 ≡ body_at b 2 + count_at b 2 * 2)
       × (length b ≡ body_at b 3 + count_at b 3 * 4)
-  unfolding body_at size_of if◌then◌else◌
+  unfolding body_at size_of when◌then◌else◌
   spans = (refl, refl, refl, sym ends_there)
 
   body_is : (e : ℕ) → e ≤ 3 → body_in b e ≡ body_at b e
@@ -282,7 +282,7 @@ module _ (b : List ℕ) (passed : check_of b row_space ≡ Verdict.Passed) where
     clean = sym (verdict_as (first_fault (write_checks (tasks_of b) (locks_of b) (uses_of b) (event_numbers_of b) (length b))) _ b) ∙ none_refused_at _ written.accepted
 
     pub second_none : (k : ℕ) → k < count_at b 1 → lock_second (lock_in b k) ≡ 0
-    unfolding write_checks whole_checks load_checks record_checks check_for number_of if◌then◌else◌ lock_fault_at lock_fault
+    unfolding write_checks whole_checks load_checks record_checks check_for number_of when◌then◌else◌ lock_fault_at lock_fault
     second_none k l =
         let f : lock_fault_at (locks_of b) k ≡ false = clean_for (write_checks (tasks_of b) (locks_of b) (uses_of b) (event_numbers_of b) (length b)) clean WrongLock k
         (omega (arith, length_from (λ i. long b (body_at b 1 + i * 4)) 0 (count_at b 1))) in
@@ -292,7 +292,7 @@ module _ (b : List ℕ) (passed : check_of b row_space ≡ Verdict.Passed) where
         ap lock_second (sym here) ∙ eqb-true (lock_second (at (locks_of b) k)) 0 (not-false (eqb (lock_second (at (locks_of b) k)) 0) g)
 
     pub event_right : (k : ℕ) → k < count_at b 3 → number_fault (event_in b k) ≡ false
-    unfolding write_checks whole_checks load_checks record_checks check_for number_of if◌then◌else◌
+    unfolding write_checks whole_checks load_checks record_checks check_for number_of when◌then◌else◌
     event_right k l =
         let f : number_fault (at (event_numbers_of b) k) ≡ false = clean_for (write_checks (tasks_of b) (locks_of b) (uses_of b) (event_numbers_of b) (length b)) clean WrongEvent k
         (omega (arith, length_from (λ i. long b (body_at b 3 + i * 4)) 0 (count_at b 3))) in
@@ -301,21 +301,21 @@ module _ (b : List ℕ) (passed : check_of b row_space ≡ Verdict.Passed) where
 
     -- the four parts
     task_lines_lem : Reads (task_part b (count_at b 0)) (Line.Blank ∷ rows 0 (task_in b) (count_at b 0))
-    unfolding task_part task_lines ascii last_line nothing if◌then◌else◌
+    unfolding task_part task_lines ascii last_line nothing when◌then◌else◌
     task_lines_lem = rw (filled_byte hash (ascii " @ tasks: base, maximum\n") (count_at b 0 ∷ []) refl)
         (part_reads (filled (ascii " @ tasks: base, maximum\n") (count_at b 0 ∷ [])) (λ k. task_line k (task_in b k)) 0 (task_in b) (count_at b 0)
         (filled_ends (ascii " @ tasks: base, maximum\n") (count_at b 0 ∷ []) refl)
         (λ k l. reads_task k (task_in b k) (omega (arith, task_is k l, byte_word b B (body_at b 0 + k * 2)))))
 
     lock_lines_lem : Reads (lock_part b (count_at b 1)) (Line.Blank ∷ rows 1 (lock_in b) (count_at b 1))
-    unfolding lock_part lock_lines ascii last_line nothing if◌then◌else◌
+    unfolding lock_part lock_lines ascii last_line nothing when◌then◌else◌
     lock_lines_lem = rw (filled_byte hash (ascii " @ locks: ceiling, limit\n") (count_at b 1 ∷ []) refl)
         (part_reads (filled (ascii " @ locks: ceiling, limit\n") (count_at b 1 ∷ [])) (λ k. lock_line k (lock_in b k)) 1 (lock_in b) (count_at b 1)
         (filled_ends (ascii " @ locks: ceiling, limit\n") (count_at b 1 ∷ []) refl)
         (λ k l. reads_lock k (lock_in b k) (omega (arith, lock_is k l, byte_long b B (body_at b 1 + k * 4))) (second_none k l)))
 
     use_lines_lem : Reads (use_part b (count_at b 2)) (Line.Blank ∷ rows 2 (use_in b) (count_at b 2))
-    unfolding use_part use_lines ascii last_line nothing if◌then◌else◌
+    unfolding use_part use_lines ascii last_line nothing when◌then◌else◌
     use_lines_lem = rw (filled_byte hash (ascii " @ uses: task, lock\n") (count_at b 2 ∷ []) refl)
         (part_reads (filled (ascii " @ uses: task, lock\n") (count_at b 2 ∷ [])) (λ k. use_line k (use_in b k)) 2 (use_in b) (count_at b 2)
         (filled_ends (ascii " @ uses: task, lock\n") (count_at b 2 ∷ []) refl)
@@ -323,7 +323,7 @@ module _ (b : List ℕ) (passed : check_of b row_space ≡ Verdict.Passed) where
 
     module _ (v : Verdict) (a : ℕ) (rs : List ℕ) where
       event_lines_lem : Reads (event_part b v a rs (count_at b 3)) (Line.Blank ∷ rows 3 (event_in b) (count_at b 3))
-      unfolding event_part event_lines ascii last_line nothing if◌then◌else◌
+      unfolding event_part event_lines ascii last_line nothing when◌then◌else◌
       event_lines_lem = rw (filled_byte hash (ascii " @ events\n") (count_at b 3 ∷ []) refl)
           (part_reads (filled (ascii " @ events\n") (count_at b 3 ∷ [])) (λ k. event_line (event_in b k) (comment_of v a rs k)) 3 (event_in b) (count_at b 3)
           (filled_ends (ascii " @ events\n") (count_at b 3 ∷ []) refl)

@@ -10,7 +10,7 @@ use lib.ListN.{length, drop, length-append}
 use lib.Seq.{get_or-drop}
 use borrow.Author.Tests.{eqb-true, ltb-true}
 use Rattle.rules.specs.Numbers.Capacity.{nobody, max_tasks, max_locks, max_uses, max_events, max_accepted, max_takes}
-use Rattle.rules.specs.Numbers.Choice.{if◌then◌else◌}
+use Rattle.rules.specs.Numbers.Choice.{when◌then◌else◌}
 use Rattle.rules.specs.Numbers.Place.{at}
 use Rattle.rules.specs.Numbers.Refusal.{number_of}
 use Rattle.rules.specs.Books.Event.{id_of, amount_of, number_fault, number_event}
@@ -33,7 +33,7 @@ use Rattle.office.specs.Show.{each, stop_comment, comment_of}
 -- its bytes, with w for each number
 unfoldable pub space_for : ℕ → List ℕ → ℕ
 space_for w [] = 0
-space_for w (c ∷ cs) = if eqb c mark then w + space_for w cs else suc (space_for w cs)
+space_for w (c ∷ cs) = when eqb c mark then w + space_for w cs else suc (space_for w cs)
 
 -- numbers of so many digits
 abbrev pub Few : ℕ → List ℕ → Type 0
@@ -76,15 +76,15 @@ three_few a b c h g f = few_one 5 a (b ∷ c ∷ []) (five a h) (two_few b c g f
 -- ---- the lines of the plan
 
 pub task_long : (k w : ℕ) → k < 100000 → w < 65536 → length (task_line k w) ≤ 25
-unfolding task_line ascii space_for if◌then◌else◌
+unfolding task_line ascii space_for when◌then◌else◌
 task_long k w l h = filled_long 5 (ascii "task @ @ # @\n") (task_base w ∷ task_maximum w ∷ k ∷ []) (three_few (task_base w) (task_maximum w) k (omega arith) (omega arith) l)
 
 pub use_long : (k w : ℕ) → k < 100000 → w < 65536 → length (use_line k w) ≤ 24
-unfolding use_line ascii space_for if◌then◌else◌
+unfolding use_line ascii space_for when◌then◌else◌
 use_long k w l h = filled_long 5 (ascii "use @ @ # @\n") (use_task w ∷ use_lock w ∷ k ∷ []) (three_few (use_task w) (use_lock w) k (omega arith) (omega arith) l)
 
 lock_words_long : (k w : ℕ) → k < 100000 → length (filled (ascii "lock @ @ # @\n") (lock_ceiling w ∷ lock_limit w ∷ k ∷ [])) ≤ 25
-unfolding ascii space_for if◌then◌else◌
+unfolding ascii space_for when◌then◌else◌
 lock_words_long k w l = filled_long 5 (ascii "lock @ @ # @\n") (lock_ceiling w ∷ lock_limit w ∷ k ∷ []) (three_few (lock_ceiling w) (lock_limit w) k (omega arith) (omega arith) l)
 
 pub lock_long : (k w : ℕ) → k < 100000 → lock_second w ≡ 0 → length (lock_line k w) ≤ 25
@@ -94,7 +94,7 @@ lock_long k w l z = rw (if_true (eqb (lock_second w) 0) _ _ (rw z refl)) (lock_w
 -- ---- an event
 
 words_long : (e : Event) → id_of e < 100000 → amount_of e < 100000 → length (event_words e) ≤ 13
-unfolding event_words ascii space_for if◌then◌else◌ id_of amount_of
+unfolding event_words ascii space_for when◌then◌else◌ id_of amount_of
 words_long (Event.Release t) h g = filled_long 5 (ascii "release @") (t ∷ []) (one_few t h)
 words_long (Event.Acquire l) h g = filled_long 5 (ascii "acquire @") (l ∷ []) (one_few l h)
 words_long (Event.Unlock l) h g = omega (arith, filled_long 5 (ascii "unlock @") (l ∷ []) (one_few l h))
@@ -110,15 +110,15 @@ event_long w c m h i a l = rw (if_false (number_fault w) _ _ h) (omega (arith, l
 -- its comment
 
 unreached_long : (n : ℕ) → n < 100000 → length (unreached n) ≤ 28
-unfolding unreached ascii space_for if◌then◌else◌
+unfolding unreached ascii space_for when◌then◌else◌
 unreached_long n h = filled_long 5 (ascii " # event @: not reached\n") (n ∷ []) (one_few n h)
 
 idle_long : (n task user : ℕ) → n < 100000 → task < 100000 → user < 100000 → length (filled (ascii " # event @: nobody runs\n") (n ∷ task ∷ user ∷ [])) ≤ 28
-unfolding ascii space_for if◌then◌else◌
+unfolding ascii space_for when◌then◌else◌
 idle_long n task user h g f = filled_long 5 (ascii " # event @: nobody runs\n") (n ∷ task ∷ user ∷ []) (three_few n task user h g f)
 
 busy_long : (n task user : ℕ) → n < 100000 → task < 100000 → user < 100000 → length (filled (ascii " # event @: task @ runs at @\n") (n ∷ task ∷ user ∷ [])) ≤ 41
-unfolding ascii space_for if◌then◌else◌
+unfolding ascii space_for when◌then◌else◌
 busy_long n task user h g f = filled_long 5 (ascii " # event @: task @ runs at @\n") (n ∷ task ∷ user ∷ []) (three_few n task user h g f)
 
 ran_long : (n task user : ℕ) → n < 100000 → task < 100000 → user < 100000 → length (ran_comment n task user) ≤ 41
@@ -128,7 +128,7 @@ ran_long n task user h g f = by_test (eqb task nobody)
     (λ e. rw (if_false (eqb task nobody) _ _ e) (busy_long n task user h g f))
 
 meaning_long : (why : Refusal) → length (meaning_of why) ≤ 100
-unfolding meaning_of ascii space_for if◌then◌else◌
+unfolding meaning_of ascii space_for when◌then◌else◌
 meaning_long Refusal.ShortBook = omega arith
 meaning_long Refusal.WrongCount =
     omega (
@@ -163,7 +163,7 @@ meaning_long Refusal.WrongJob = omega arith
 meaning_long Refusal.ShortSpace = omega arith
 
 refused_head_long : (n r : ℕ) → n < 100000 → r < 100000 → length (filled (ascii " # event @: refused @: ") (n ∷ r ∷ [])) ≤ 31
-unfolding ascii space_for if◌then◌else◌
+unfolding ascii space_for when◌then◌else◌
 refused_head_long n r h g = filled_long 5 (ascii " # event @: refused @: ") (n ∷ r ∷ []) (two_few n r h g)
 
 refused_long : (n : ℕ) (why : Refusal) → n < 100000 → length (refused_comment n why) ≤ 132

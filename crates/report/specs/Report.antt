@@ -1,7 +1,7 @@
 -- RULES 15.2 to 15.6: the text that the program prints for a replay, in bytes. Assumes nothing.
 use Rattle.std.specs.Prelude.{List, [], ◌∷◌, ◌++◌, map, ℕ, zero, suc, ◌+◌, ◌*◌, eqb}
 use Rattle.rules.specs.Numbers.Capacity.{nobody}
-use Rattle.rules.specs.Numbers.Choice.{if◌then◌else◌}
+use Rattle.rules.specs.Numbers.Choice.{when◌then◌else◌}
 use Rattle.rules.specs.Numbers.Place.{at}
 use Rattle.rules.specs.Numbers.Refusal.{number_of}
 use Rattle.rules.specs.declared.refusal.Refusal.{Refusal}
@@ -68,7 +68,7 @@ header = line event (running ∷ user ∷ next ∷ call ∷ [])
 
 -- the running task, or `-` for nobody
 unfoldable pub runner : ℕ → List ℕ
-runner t = if eqb t nobody then dash else digits t
+runner t = when eqb t nobody then dash else digits t
 
 -- the row of the event k: running task, user word, next word, call
 unfoldable pub row_words : List ℕ → ℕ → List (List ℕ)

@@ -8,7 +8,7 @@ use lib.Dec.{eqb}
 use lib.ListN.{length}
 use borrow.Author.Tests.{not-true, not-false}
 use Rattle.rules.specs.Numbers.Capacity.{max_tasks, max_locks}
-use Rattle.rules.specs.Numbers.Choice.{if◌then◌else◌}
+use Rattle.rules.specs.Numbers.Choice.{when◌then◌else◌}
 use Rattle.rules.specs.Numbers.Place.{at, from}
 use Rattle.rules.specs.Replays.Run.{Ran, onward, run_from}
 use Rattle.rules.specs.Replays.Replay.{ran_as}
@@ -57,8 +57,8 @@ said_sound pr p s t e h = sym e ∙ not-false t h
 
 -- ---- a step as a run of one event
 
-one_or_none : (call : Bool) → eqb (if call then 1 else 0) 1 ≡ call
-unfolding if◌then◌else◌
+one_or_none : (call : Bool) → eqb (when call then 1 else 0) 1 ≡ call
+unfolding when◌then◌else◌
 one_or_none true = refl
 one_or_none false = refl
 
@@ -76,7 +76,7 @@ module _ (pr : Protocol) (p : Plan) (s : State) (e : Event) (body row : List ℕ
   after answer = onward answer (act_of pr p s e).state 0 row (λ t rows. record { verdict = Verdict.Passed; state = t; rows = rows })
 
   one_run : run_from pr p (from (event_on e body) 0 1) 0 s row ≡ after (act_of pr p s e).answer
-  unfolding after run_from from event_on if◌then◌else◌
+  unfolding after run_from from event_on when◌then◌else◌
   one_run = ap (λ (x : Stepped). onward x.answer x.state 0 row (λ t rows. record { verdict = Verdict.Passed; state = t; rows = rows })) (step_act S e)
 
   answer_is : (answer : Answer) → answer_from (after answer).verdict (at (after answer).rows 3) ≡ answer

@@ -6,7 +6,7 @@ use Prim.Native.Nat.{ℕ, ◌+◌, ◌*◌, ◌≤◌}
 use lib.ListN.{length, set}
 use lib.Dec.{eqb}
 use borrow.Author.Tests.{eq-eqb, ne_eqb}
-use Rattle.rules.specs.Numbers.Choice.{if◌then◌else◌}
+use Rattle.rules.specs.Numbers.Choice.{when◌then◌else◌}
 use Rattle.rules.specs.Numbers.Answer.{found_event}
 use Rattle.rules.specs.Books.Book.{found_at}
 use Rattle.rules.specs.Replays.Run.{Ran, with_row}
@@ -52,7 +52,7 @@ module _ (first : Event) (body : List ℕ) (k : ℕ) where
 
 -- ---- its row
 
-pub row_put : (rows : List ℕ) (k : ℕ) (h : Head) (call : Bool) (user next last : ℕ) → user ≡ h.user.0 → next ≡ h.next.0 → last ≡ (if call then 1 else 0)
+pub row_put : (rows : List ℕ) (k : ℕ) (h : Head) (call : Bool) (user next last : ℕ) → user ≡ h.user.0 → next ≡ h.next.0 → last ≡ (when call then 1 else 0)
     → set (set (set (set rows (k * 4) h.running) (k * 4 + 1) user) (k * 4 + 2) next) (k * 4 + 3) last ≡ with_row rows k h call
 unfolding with_row
 row_put rows k h call user next last u v e = rw (u, v, e)

@@ -2,7 +2,7 @@
 use Rattle.std.specs.Prelude.{◌≡◌, Bool, false, List, ℕ, ◌+◌, ◌-◌, ◌*◌, ◌^◌, ◌≤◌, ◌<◌, eqb, ltb, length}
 use Rattle.rules.specs.Numbers.Answer.{found_event}
 use Rattle.rules.specs.Numbers.Capacity.{max_locks}
-use Rattle.rules.specs.Numbers.Choice.{if◌then◌else◌}
+use Rattle.rules.specs.Numbers.Choice.{when◌then◌else◌}
 use Rattle.rules.specs.Books.Book.{found_at}
 use Rattle.rules.specs.Numbers.Place.{from}
 use Rattle.rules.specs.Replays.Run.{Ran, with_row, run_from}
@@ -59,7 +59,7 @@ event_in body k = found_event (found_at body k)
 
 -- the event at place k of a run: the one that is handed in, and after it those of a body
 unfoldable pub event_on : Event → List ℕ → ℕ → Event
-event_on first body k = if eqb k 0 then first else event_in body k
+event_on first body k = when eqb k 0 then first else event_in body k
 
 -- what a run of n events asks for
 pub record RunReady (pr : Protocol) (p : Plan) (s : State) (n : ℕ) (rows : List ℕ) : Type 0 where

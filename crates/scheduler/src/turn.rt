@@ -1,6 +1,6 @@
 // One turn of the replay: the event at its place, where it lies, and its row.
 ghost use Rattle.std.specs.Prelude.{◌≡◌, ◌+◌, ◌*◌, ◌≤◌, length};
-ghost use Rattle.rules.specs.Numbers.Choice.{if◌then◌else◌};
+ghost use Rattle.rules.specs.Numbers.Choice.{when◌then◌else◌};
 ghost use Rattle.rules.specs.Replays.Run.{with_row};
 ghost use Rattle.rules.specs.Replays.Step.{act_of};
 ghost use Rattle.rules.specs.Schedulers.Whole.{plan_with, state_with};
@@ -55,7 +55,7 @@ pub fn first_of(body: &[u8]) -> Event
 
 // Whether there was a call, as a byte.
 fn call_byte(call: bool) -> u8
-    ensures { result ≡ (if call then 1 else 0) }
+    ensures { result ≡ (when call then 1 else 0) }
 {
     if call {
         return 1;

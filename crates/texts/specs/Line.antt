@@ -1,7 +1,7 @@
 -- RULES 19.1 to 19.4: what one line says. Assumes nothing.
 use Rattle.std.specs.Prelude.{List, [], ◌∷◌, map, ℕ, ◌+◌, ◌*◌, ◌-◌, eqb, ltb, length, take, drop}
 use Rattle.rules.specs.Numbers.Capacity.{max_events}
-use Rattle.rules.specs.Numbers.Choice.{if◌then◌else◌}
+use Rattle.rules.specs.Numbers.Choice.{when◌then◌else◌}
 use Rattle.rules.specs.Numbers.Place.{at}
 use Rattle.rules.specs.Books.Event.{event_number}
 use Rattle.rules.specs.declared.answer.Verdict.{Verdict}
@@ -19,7 +19,7 @@ use Rattle.texts.specs.declared.line.Line.{Line}
 
 -- how many bytes it has without a carriage return at its end
 unfoldable pub without_return : List ℕ → ℕ
-without_return line = if eqb (length line) 0 then 0 else if eqb (at line (length line - 1)) return then length line - 1 else length line
+without_return line = when eqb (length line) 0 then 0 else when eqb (at line (length line - 1)) return then length line - 1 else length line
 
 -- what stands before a comment
 abbrev pub content_of : List ℕ → List ℕ
@@ -33,10 +33,10 @@ word_length bytes = up_to space bytes + spaces_of (drop (up_to space bytes) byte
 
 -- number w of a record, where the bytes start with its word; a record that has no such number takes 0, and no byte
 unfoldable pub field_of : Kind → ℕ → List ℕ → Number
-field_of kind w bytes = if ltb w (fields_of kind) then number_of (most_of kind w) (before space bytes) else Number.Value 0
+field_of kind w bytes = when ltb w (fields_of kind) then number_of (most_of kind w) (before space bytes) else Number.Value 0
 
 unfoldable pub field_length : Kind → ℕ → List ℕ → ℕ
-field_length kind w bytes = if ltb w (fields_of kind) then word_length bytes else 0
+field_length kind w bytes = when ltb w (fields_of kind) then word_length bytes else 0
 
 abbrev pub after_field : Kind → ℕ → List ℕ → List ℕ
 after_field kind w bytes = drop (field_length kind w bytes) bytes
@@ -59,7 +59,7 @@ job_line w items = job_said w (job_answer items job_room).verdict (job_answer it
 
 -- what comes after the numbers, by the kind
 unfoldable pub ended : Kind → ℕ → ℕ → List ℕ → Line
-ended kind a b bytes = if has_items kind then job_line (record_of kind a b) (bare bytes) else plain_line kind a b bytes
+ended kind a b bytes = when has_items kind then job_line (record_of kind a b) (bare bytes) else plain_line kind a b bytes
 
 -- its second number, and its first: the words 3 and 2 of the line
 unfoldable pub with_second : Kind → ℕ → Number → List ℕ → Line

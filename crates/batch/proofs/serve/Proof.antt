@@ -3,10 +3,10 @@ use Rattle.std.proofs.Common.{◌≡◌, ◌-◌, ◌≤◌, length, rules}
 use Rattle.batch.proofs.serve.Statement.{statement}
 use Rattle.batch.proofs.serve.Tie as tie
 
-abbrev invariant-loop : tie.invariant-loop
+abbrev invariant-loop : tie.invariant-loop-i
 invariant-loop book₀ rows₀ i₀ book rows i = (i ≤ 4000000000) × (length book ≡ length book₀) × (length rows ≡ length rows₀)
 
-abbrev decreases-loop : tie.decreases-loop
+abbrev decreases-loop : tie.decreases-loop-i
 decreases-loop book₀ rows₀ i₀ book rows i = 4000000000 - i
 
 pub serve_spec : {M : Type 1} → statement M

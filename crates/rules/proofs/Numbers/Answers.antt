@@ -2,7 +2,7 @@
 use mathlib.Core.Path.{◌≡◌, sym, ◌∙◌, ap}
 use mathlib.Core.Bool.{Bool, true, false}
 use Prim.Native.Nat.{ℕ}
-use Rattle.rules.specs.Numbers.Choice.{if◌then◌else◌}
+use Rattle.rules.specs.Numbers.Choice.{when◌then◌else◌}
 use Rattle.rules.specs.Numbers.Refusal.{number_of}
 use Rattle.rules.specs.Numbers.Answer.{verdict_number, verdict_place, answer_number, answer_calls}
 use Rattle.rules.specs.declared.refusal.Refusal.{Refusal}
@@ -34,12 +34,12 @@ module _ (a : Answer) where
     number_accepted = ap answer_number (sym e)
 
     pub one_call : call ≡ true → 1 ≡ answer_calls a
-    unfolding answer_calls if◌then◌else◌
-    one_call h = ap (λ (b : Bool). if b then 1 else 0) (sym h) ∙ ap answer_calls (sym e)
+    unfolding answer_calls when◌then◌else◌
+    one_call h = ap (λ (b : Bool). when b then 1 else 0) (sym h) ∙ ap answer_calls (sym e)
 
     pub no_calls : call ≡ false → 0 ≡ answer_calls a
-    unfolding answer_calls if◌then◌else◌
-    no_calls h = ap (λ (b : Bool). if b then 1 else 0) (sym h) ∙ ap answer_calls (sym e)
+    unfolding answer_calls when◌then◌else◌
+    no_calls h = ap (λ (b : Bool). when b then 1 else 0) (sym h) ∙ ap answer_calls (sym e)
 
   module _ (why : Refusal) (e : a ≡ Answer.Refused why) where
     pub number_said : (n : ℕ) → n ≡ number_of why → n ≡ answer_number a

@@ -8,23 +8,23 @@ use native.Mathlib.Decide.{ℕ_discrete, dec_lt}
 use native.Mathlib.Omega.{arith}
 use lib.Dec.{T}
 use borrow.Author.Tests.{lt-ltb, le-ltb, le-leb, lt-leb, eq-eqb, ne_eqb, not-true, not-false}
-use Rattle.rules.specs.Numbers.Choice.{if◌then◌else◌, all_true}
+use Rattle.rules.specs.Numbers.Choice.{when◌then◌else◌, all_true}
 -- every proof rests on this file, so the runs of RULES 18 are checked before them all: a wrong rule that they show is refused there first
 use Rattle.rules.specs.Demands.Crane
 
-pub if_true : {A : Type 0} (t : Bool) (a b : A) → t ≡ true → (if t then a else b) ≡ a
-unfolding if◌then◌else◌
+pub if_true : {A : Type 0} (t : Bool) (a b : A) → t ≡ true → (when t then a else b) ≡ a
+unfolding when◌then◌else◌
 if_true t a b e = rw e
 
-pub if_false : {A : Type 0} (t : Bool) (a b : A) → t ≡ false → (if t then a else b) ≡ b
-unfolding if◌then◌else◌
+pub if_false : {A : Type 0} (t : Bool) (a b : A) → t ≡ false → (when t then a else b) ≡ b
+unfolding when◌then◌else◌
 if_false t a b e = rw e
 
 -- what the code answers is what the test chooses
-pub if_yes : {A : Type 0} (t : Bool) (a b r : A) → t ≡ true → r ≡ a → r ≡ (if t then a else b)
+pub if_yes : {A : Type 0} (t : Bool) (a b r : A) → t ≡ true → r ≡ a → r ≡ (when t then a else b)
 if_yes t a b r e h = h ∙ sym (if_true t a b e)
 
-pub if_no : {A : Type 0} (t : Bool) (a b r : A) → t ≡ false → r ≡ b → r ≡ (if t then a else b)
+pub if_no : {A : Type 0} (t : Bool) (a b r : A) → t ≡ false → r ≡ b → r ≡ (when t then a else b)
 if_no t a b r e h = h ∙ sym (if_false t a b e)
 
 -- a proof by cases on a test
@@ -33,8 +33,8 @@ by_test true f g = f refl
 by_test false f g = g refl
 
 -- what holds of both holds of the one that is chosen
-pub either : {A : Type 0} (P : A → Type 0) (t : Bool) (a b : A) → P a → P b → P (if t then a else b)
-unfolding if◌then◌else◌
+pub either : {A : Type 0} (P : A → Type 0) (t : Bool) (a b : A) → P a → P b → P (when t then a else b)
+unfolding when◌then◌else◌
 either P true a b x y = x
 either P false a b x y = y
 
@@ -129,7 +129,7 @@ unfolding all_true
 all_next t r ts e h = h ∙ sym (if_true t (all_true ts) false e)
 
 pub all_last : (t r : Bool) → r ≡ t → r ≡ all_true (t ∷ [])
-unfolding all_true if◌then◌else◌
+unfolding all_true when◌then◌else◌
 all_last true r e = e
 all_last false r e = e
 

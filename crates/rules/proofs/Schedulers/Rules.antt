@@ -8,7 +8,7 @@ use native.Mathlib.Omega.{arith}
 use lib.Dec.{eqb, leb, ltb}
 use borrow.Author.Tests.{eq-eqb, ne_eqb, lt-ltb, le-ltb, le-leb, ltb-true, ltb-false, leb-true}
 use Rattle.rules.specs.Numbers.Capacity.{max_delay, nobody}
-use Rattle.rules.specs.Numbers.Choice.{if◌then◌else◌}
+use Rattle.rules.specs.Numbers.Choice.{when◌then◌else◌}
 use Rattle.rules.specs.Numbers.Place.{at}
 use Rattle.rules.specs.Numbers.Row.{priority}
 use Rattle.rules.specs.Books.Plan.{declares}
@@ -37,14 +37,14 @@ module _ (released : ℕ → ℕ) where
   unfolding earlier
   earlier_later a b n l = if_false (eqb a nobody) b _ (ne_eqb a nobody n) ∙ either_way (ltb (released b) (released a)) (lt-ltb (released b) (released a) l)
     where
-      either_way : (t : Bool) → t ≡ true → (if t then b else a) ≡ b
+      either_way : (t : Bool) → t ≡ true → (when t then b else a) ≡ b
       either_way t e = if_true t b a e
 
   pub earlier_sooner : (a b : ℕ) → a ≢ nobody → released a ≤ released b → earlier released a b ≡ a
   unfolding earlier
   earlier_sooner a b n l = if_false (eqb a nobody) b _ (ne_eqb a nobody n) ∙ either_way (ltb (released b) (released a)) (le-ltb (released b) (released a) l)
     where
-      either_way : (t : Bool) → t ≡ false → (if t then b else a) ≡ a
+      either_way : (t : Bool) → t ≡ false → (when t then b else a) ≡ a
       either_way t e = if_false t b a e
 
 -- ---- RULES 7.3: a released task's priority

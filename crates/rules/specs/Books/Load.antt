@@ -2,7 +2,7 @@
 -- Assumes nothing.
 use Rattle.std.specs.Prelude.{Bool, ◌&&◌, ◌||◌, List, [], ◌∷◌, ◌++◌, ℕ, zero, suc, ◌+◌, ◌*◌, ◌-◌, ◌/◌, ◌%◌, eqb, leb, ltb, length, set, replicate}
 use Rattle.rules.specs.Numbers.Capacity.{max_tasks, max_locks}
-use Rattle.rules.specs.Numbers.Choice.{if◌then◌else◌}
+use Rattle.rules.specs.Numbers.Choice.{when◌then◌else◌}
 use Rattle.rules.specs.Numbers.Place.{at, tabulate}
 use Rattle.rules.specs.Numbers.Refusal.{Check, first_fault}
 use Rattle.rules.specs.Numbers.Mask.{with_bit}
@@ -87,7 +87,7 @@ blank_plan =
 
 -- 2, of an entry: its count of records, n tasks, m locks or u uses, is out of range
 unfoldable pub count_fault_of : ℕ → ℕ → ℕ → ℕ → Bool
-count_fault_of n m u e = count_fault e (if eqb e 0 then n else if eqb e 1 then m else u)
+count_fault_of n m u e = count_fault e (when eqb e 0 then n else when eqb e 1 then m else u)
 
 -- the records: 2 (the entry, 1 to 3), 4, 5, 6
 unfoldable pub record_checks : List ℕ → List ℕ → List ℕ → List Check

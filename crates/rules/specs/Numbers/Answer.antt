@@ -1,6 +1,6 @@
 -- RULES 5, 10.1: each answer as its number, its place and its calls, and whether it refuses. Assumes nothing.
 use Rattle.std.specs.Prelude.{Bool, true, false, ℕ}
-use Rattle.rules.specs.Numbers.Choice.{if◌then◌else◌}
+use Rattle.rules.specs.Numbers.Choice.{when◌then◌else◌}
 use Rattle.rules.specs.Numbers.Refusal.{number_of}
 use Rattle.rules.specs.declared.answer.Tested.{Tested}
 use Rattle.rules.specs.declared.answer.Answer.{Answer}
@@ -25,7 +25,7 @@ answer_number (Answer.Refused why) = number_of why
 
 -- the lazy calls of a step: 1 where it called the kernel
 unfoldable pub answer_calls : Answer → ℕ
-answer_calls (Answer.Accepted call) = if call then 1 else 0
+answer_calls (Answer.Accepted call) = when call then 1 else 0
 answer_calls (Answer.Refused why) = 0
 
 -- the refusal's number and its place; both 0 where nothing is refused

@@ -2,7 +2,7 @@
 use mathlib.Core.Path.{◌≡◌, sym, ◌∙◌, ap}
 use Prim.Native.Nat.{ℕ}
 use borrow.Author.Rules.{rules}
-use Rattle.rules.specs.Numbers.Choice.{if◌then◌else◌}
+use Rattle.rules.specs.Numbers.Choice.{when◌then◌else◌}
 use Rattle.rules.specs.Numbers.Refusal.{number_of, place_of}
 use Rattle.rules.specs.declared.refusal.Refusal.{Refusal}
 use Rattle.rules.proofs.refusal.place.Statement.{statement}
@@ -14,7 +14,7 @@ known why case n e h = h ∙ ap place_of (sym e)
 
 -- two for each case: that the match has come to it, and what its arm returns
 pub place_spec : {M : Type 1} → statement M
-unfolding place_of number_of if◌then◌else◌
+unfolding place_of number_of when◌then◌else◌
 place_spec =
     tie.close
     (tie.spec

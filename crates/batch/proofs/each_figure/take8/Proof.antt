@@ -1,12 +1,12 @@
--- `batch::figures::take8` meets its contract. Each turn reads one number. Assumes nothing.
+-- `batch::each_figure::take8` meets its contract. Each turn reads one number. Assumes nothing.
 use Rattle.std.proofs.Common.{◌≡◌, ◌-◌, ◌≤◌, length, rules}
-use Rattle.batch.proofs.figures.take8.Statement.{statement}
-use Rattle.batch.proofs.figures.take8.Tie as tie
+use Rattle.batch.proofs.each_figure.take8.Statement.{statement}
+use Rattle.batch.proofs.each_figure.take8.Tie as tie
 
-abbrev invariant-loop : tie.invariant-loop
+abbrev invariant-loop : tie.invariant-loop-i
 invariant-loop a₀ b at n place₀ i₀ a place i = (i ≤ n) × (length a ≡ length a₀)
 
-abbrev decreases-loop : tie.decreases-loop
+abbrev decreases-loop : tie.decreases-loop-i
 decreases-loop a₀ b at n place₀ i₀ a place i = n - i
 
 pub take8_spec : {M : Type 1} → statement M

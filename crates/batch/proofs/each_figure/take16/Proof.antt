@@ -1,16 +1,16 @@
--- `batch::figures::take32` meets its contract. Each turn reads one number. Assumes nothing.
+-- `batch::each_figure::take16` meets its contract. Each turn reads one number. Assumes nothing.
 use Rattle.std.proofs.Common.{◌≡◌, ◌-◌, ◌≤◌, length, rules}
-use Rattle.batch.proofs.figures.take32.Statement.{statement}
-use Rattle.batch.proofs.figures.take32.Tie as tie
+use Rattle.batch.proofs.each_figure.take16.Statement.{statement}
+use Rattle.batch.proofs.each_figure.take16.Tie as tie
 
-abbrev invariant-loop : tie.invariant-loop
+abbrev invariant-loop : tie.invariant-loop-i
 invariant-loop a₀ b at n place₀ i₀ a place i = (i ≤ n) × (length a ≡ length a₀)
 
-abbrev decreases-loop : tie.decreases-loop
+abbrev decreases-loop : tie.decreases-loop-i
 decreases-loop a₀ b at n place₀ i₀ a place i = n - i
 
-pub take32_spec : {M : Type 1} → statement M
-take32_spec =
+pub take16_spec : {M : Type 1} → statement M
+take16_spec =
     tie.close
     (tie.spec
     invariant-loop decreases-loop (λ c. search rules) (λ c κs. search rules) (λ c. search rules) (λ c. search rules) (λ c κs. search rules) (λ c. search rules)

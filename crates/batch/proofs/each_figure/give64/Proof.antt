@@ -1,12 +1,12 @@
--- `batch::figures::give64` meets its contract. Each turn writes one number. Assumes nothing.
+-- `batch::each_figure::give64` meets its contract. Each turn writes one number. Assumes nothing.
 use Rattle.std.proofs.Common.{◌≡◌, ◌-◌, ◌≤◌, length, rules}
-use Rattle.batch.proofs.figures.give64.Statement.{statement}
-use Rattle.batch.proofs.figures.give64.Tie as tie
+use Rattle.batch.proofs.each_figure.give64.Statement.{statement}
+use Rattle.batch.proofs.each_figure.give64.Tie as tie
 
-abbrev invariant-loop : tie.invariant-loop
+abbrev invariant-loop : tie.invariant-loop-i
 invariant-loop out₀ at a n place₀ i₀ out place i = (i ≤ n) × (length out ≡ length out₀)
 
-abbrev decreases-loop : tie.decreases-loop
+abbrev decreases-loop : tie.decreases-loop-i
 decreases-loop out₀ at a n place₀ i₀ out place i = n - i
 
 pub give64_spec : {M : Type 1} → statement M

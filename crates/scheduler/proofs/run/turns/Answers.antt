@@ -15,17 +15,17 @@ turn-ended-requires-clause-tree_value c = c.loop-protocol.invariant.tree
 
 pub overflow_add-k : goal.overflow_add-k
 overflow_add-k c = record {
-      fits = going_place _ _ _ _ _ _ _ _ _ _ c.loop-protocol.invariant.going _ c.goes_on.ensures c.loop-protocol-test.true;
-    }
+  fits = going_place _ _ _ _ _ _ _ _ _ _ c.loop-protocol.invariant.going _ c.goes_on.ensures c.loop-protocol-test.true;
+}
 
 pub loop-protocol-smaller : goal.loop-protocol-smaller
 loop-protocol-smaller c = going_falls _ _ _ _ _ _ _ _ _ _ c.loop-protocol.invariant.going _ c.goes_on.ensures c.loop-protocol-test.true
 
 pub loop-protocol-preserved : goal.loop-protocol-preserved
 loop-protocol-preserved c = record {
-      going = going_next _ _ _ _ _ _ _ _ _ _ c.loop-protocol.invariant.going _ c.goes_on.ensures c.loop-protocol-test.true _ c.turn-ended.ensures.rows_after;
-      tree = c.turn-ended.ensures.tree_after;
-    }
+  going = going_next _ _ _ _ _ _ _ _ _ _ c.loop-protocol.invariant.going _ c.goes_on.ensures c.loop-protocol-test.true _ c.turn-ended.ensures.rows_after;
+  tree = c.turn-ended.ensures.tree_after;
+}
 
 pub returns : goal.returns
 returns c = search going_end

@@ -1,5 +1,5 @@
 -- What the records from here on add to what is kept comes to what all of them come to.
-use Rattle.std.proofs.Common.{length, ◌-◌, ◌≡◌, ◌≤◌}
+use Rattle.std.proofs.Common.{length, ◌-◌, ◌≡◌}
 use lib.ListN.{drop}
 use Rattle.device.specs.Table.{kept_from, kept_of}
 use Rattle.device.proofs.table.gather.Given as goal

@@ -1,6 +1,6 @@
 -- `scheduler::run::turns` meets its contract. What is left from here comes to what all of it comes to.
 use Rattle.std.proofs.Common.{rules}
-use Rattle.scheduler.proofs.RunLaws.{made_tree, going_start, going_same, going_ready, going_place, going_falls, going_next, going_end}
+use Rattle.scheduler.proofs.RunLaws.{made_tree, going_start, going_ready, going_place, going_falls, going_next, going_end}
 use Rattle.scheduler.proofs.run.turns.Goals as goal
 
 pub loop-protocol-init : goal.loop-protocol-init

@@ -6,7 +6,6 @@ use native.Mathlib.Omega.{arith}
 use lib.Dec.{leb, ltb}
 use lib.ListN.{length}
 use borrow.Author.Tests.{le-leb, lt-leb, le-ltb}
-use Rattle.rules.specs.Numbers.Choice.{when◌then◌else◌}
 use Rattle.rules.proofs.Numbers.Choice.{if_true, if_false}
 use Rattle.rules.specs.Books.Book.{contents, word, long, kind_at, count_at, offset_at}
 use Rattle.book.specs.Look.{entry_in, body_in, word_in, long_in, task_in, lock_in, use_in, event_in}

@@ -21,8 +21,8 @@ use Rattle.jobs.specs.Reader.Move.{stop, move}
 use Rattle.jobs.specs.Reader.Answer.{refused, read}
 use Rattle.jobs.specs.Said.{sign_at, digit_of}
 use Rattle.rules.proofs.Numbers.Choice.{if_true, if_false, by_test, lt_or_le}
+
 -- every proof rests on this file, so the request's example is checked before them all
-use Rattle.jobs.specs.Shown
 
 -- ---- events lay before an answer
 

@@ -14,8 +14,8 @@ use Rattle.page.specs.Page.{Page, typed}
 use Rattle.page.specs.Decimal.{digits}
 use Rattle.page.specs.Says.{mark, filled}
 use Rattle.page.proofs.Typed.{typed_two, typed_cons}
+
 -- every proof rests on this file, so the sentence there is computed before them all
-use Rattle.page.specs.Shown
 
 -- a number past the end
 pub past_numbers : (ns : List ℕ) (j : ℕ) → length ns ≤ j → 0 ≡ at ns j

@@ -19,7 +19,6 @@ use Rattle.page.specs.Decimal.{digits}
 use Rattle.page.specs.Page.{Page, typed}
 use Rattle.page.proofs.Typed.{typed_on, typed_two, typed_cons}
 -- every proof rests on this file, so the block of P1 is checked before them all: a wrong text that it shows is refused there first
-use Rattle.report.specs.Shown
 use Rattle.report.specs.Report.{newline, space, dash, calls, delayed, refused, spaced, line, header}
 use Rattle.report.specs.Report.{runner, row_words, row_line, row_lines, calls_line, delayed_line, refused_line, report_of}
 

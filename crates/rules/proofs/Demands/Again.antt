@@ -13,7 +13,7 @@ use lib.Seq.{get_or-set_same, set-get_or, set-set}
 use borrow.Author.Tests.{eq-eqb, eqb-false, not-true}
 use Rattle.rules.specs.Numbers.Capacity.{max_takes, max_accepted, nobody}
 use Rattle.rules.specs.Numbers.Place.{at}
-use Rattle.rules.specs.Numbers.Row.{newest, under, pushed, has, priority}
+use Rattle.rules.specs.Numbers.Row.{under, pushed, has, priority}
 use Rattle.rules.specs.Numbers.Answer.{answer_number, answer_calls}
 use Rattle.rules.specs.Books.Plan.{Obeys}
 use Rattle.rules.specs.Schedulers.Figures.{Figures, figures_of, holds, priority_of}

@@ -21,7 +21,7 @@ use Rattle.rules.specs.Schedulers.Eager.{running_of, settle, eager_test, eager_s
 use Rattle.rules.specs.Schedulers.Protocol.{second_word}
 use Rattle.rules.specs.Schedulers.Lazy.{Words, words_of, calls_for, entering, best_kept, back_of, runs_on, switched, stays, after_release}
 use Rattle.rules.specs.Schedulers.Lazy.{after_acquire, restored, leaves, after_unlock, words_after, enters, lazy_call}
-use Rattle.rules.specs.Soundness.Sound.{SoundFigures, SoundWords, SoundAndSized}
+use Rattle.rules.specs.Soundness.Sound.{SoundWords, SoundAndSized}
 use Rattle.rules.specs.Replays.Step.{after_of, answered, act_of, step_of}
 use Rattle.rules.specs.Demands.History.{event_at, eager_at, lazy_at, runner_at}
 use Rattle.rules.specs.Demands.Demand2.{Covers}

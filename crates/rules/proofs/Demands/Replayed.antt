@@ -10,7 +10,6 @@ use lib.ListN.{length}
 use borrow.Author.Tests.{ltb-false}
 use Rattle.rules.specs.Numbers.Capacity.{max_events}
 use Rattle.rules.specs.Numbers.Choice.{when◌then◌else◌}
-use Rattle.rules.specs.Numbers.Place.{at}
 use Rattle.rules.specs.Numbers.Refusal.{number_of, check_for}
 use Rattle.rules.specs.Numbers.Answer.{tested_number, verdict_number, verdict_place}
 use Rattle.rules.specs.Books.Plan.{Obeys}

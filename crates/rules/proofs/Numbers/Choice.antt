@@ -9,8 +9,8 @@ use native.Mathlib.Omega.{arith}
 use lib.Dec.{T}
 use borrow.Author.Tests.{lt-ltb, le-ltb, le-leb, lt-leb, eq-eqb, ne_eqb, not-true, not-false}
 use Rattle.rules.specs.Numbers.Choice.{when◌then◌else◌, all_true}
+
 -- every proof rests on this file, so the runs of RULES 18 are checked before them all: a wrong rule that they show is refused there first
-use Rattle.rules.specs.Demands.Crane
 
 pub if_true : {A : Type 0} (t : Bool) (a b : A) → t ≡ true → (when t then a else b) ≡ a
 unfolding when◌then◌else◌

@@ -1,8 +1,7 @@
 use Rattle.rules.proofs.Numbers.Choice.{flags}
 use Rattle.page.specs.Ascii.{ascii}
-use Rattle.std.proofs.Common.{rules, ◌≡◌, ◌≤◌, ℕ, ◌+◌, ◌-◌, ◌*◌, ◌<◌, length, ◌/◌, ◌%◌, Bool, true, false, nat_eq, nat_lt, List, [], ◌∷◌, ◌++◌, slice_index_or, slice_set, bit_and, bit_or, Fits, w8, w32, w64, Bor, MutBor}
-use Rattle.texts.specs.declared.kind.Kind.{Kind}
-use Rattle.texts.specs.Kind.{event_named, kind_named, fields_of, most_of, part_of, has_items}
+use Rattle.std.proofs.Common.{rules}
+use Rattle.texts.specs.Kind.{event_named}
 use Rattle.texts.proofs.kind.event_named.Goals as goal
 
 -- src/kind.rt:34:9

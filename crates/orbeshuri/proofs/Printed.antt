@@ -1,5 +1,5 @@
 -- The texts of P1, by both protocols, and of P5, computed from their books' bytes to the last byte that is printed. Assumes nothing.
-use Rattle.std.specs.Prelude.{◌≡◌, refl, List, [], ◌∷◌, ℕ}
+use Rattle.std.specs.Prelude.{◌≡◌, refl}
 use Rattle.rules.specs.Numbers.Choice.{when◌then◌else◌, all_true}
 use Rattle.rules.specs.Numbers.Place.{every, any, count, greatest, first_from, from, renewed, zeros}
 use Rattle.rules.specs.Numbers.Refusal.{number_of, first_true, found, first_fault}

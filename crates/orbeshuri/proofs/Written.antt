@@ -23,8 +23,6 @@ use Rattle.rules.proofs.Books.Passes.{passed_obeys}
 use Rattle.report.specs.Report.{report_of}
 use Rattle.office.specs.Ran.{row_space, ran_of}
 use Rattle.orbeshuri.specs.Text.{input_space, text_of}
--- the laws rest on this file, so the texts of P1 and P5 are computed before them all: a wrong text that they show is refused there first
-use Rattle.orbeshuri.specs.Printed
 
 -- the plan of a book, or the blank one, has no more tasks than there are places
 tasks_by : (b : List ℕ) (room : ℕ) (v : Verdict) → check_of b room ≡ v → (checked_as v b).plan.tasks ≤ max_tasks

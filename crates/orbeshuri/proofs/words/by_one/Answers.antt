@@ -1,7 +1,7 @@
 use Rattle.page.specs.Ascii.{ascii}
 use Rattle.rules.proofs.Numbers.Choice.{flags}
-use Rattle.std.proofs.Common.{rules, ◌≡◌, ℕ, ◌+◌, ◌-◌, ◌*◌, ◌<◌, ◌≤◌, length, ◌/◌, ◌%◌, Bool, true, false, nat_eq, nat_lt, List, [], ◌∷◌, ◌++◌, slice_index_or, slice_set, bit_and, bit_or, Fits, w8, w32, w64, Bor, MutBor}
-use Rattle.orbeshuri.specs.Words.{by_one, by_two, asked_by}
+use Rattle.std.proofs.Common.{rules}
+use Rattle.orbeshuri.specs.Words.{by_one}
 use Rattle.orbeshuri.proofs.words.by_one.Goals as goal
 
 -- src/words.rt:21:9

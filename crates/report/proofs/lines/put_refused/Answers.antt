@@ -1,3 +1,4 @@
+-- `report::lines::put_refused` meets its contract. The words of the line, one after the other. Assumes nothing.
 use Rattle.report.proofs.Printed.{refused_typed}
 use Rattle.report.proofs.lines.put_refused.Goals as goal
 

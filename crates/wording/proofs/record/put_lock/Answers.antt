@@ -1,15 +1,14 @@
+-- `wording::record::put_lock` meets its contract. By its second byte. Assumes nothing.
 use Rattle.page.specs.Ascii.{ascii}
 use Rattle.wording.proofs.Ways.{lock_words, lock_none}
 use Rattle.std.proofs.Common.{rules}
 use Rattle.wording.specs.Records.{lock_line}
 use Rattle.wording.proofs.record.put_lock.Goals as goal
 
--- src/record.rt:62:9
 pub returns-then-other-eq0 : goal.returns-then-other-eq0
 unfolding ascii lock_line
 returns-then-other-eq0 c = search (lock_words, lock_none, rules)
 
--- src/record.rt:56:1
 pub returns : goal.returns
 unfolding ascii lock_line
 returns c = search (lock_words, lock_none, rules)

@@ -1,5 +1,5 @@
 // The six events: a release names a task, an acquire and an unlock a lock, work its units.
-#[derive(Clone, Copy)]
+#[derive(Clone, Copy, PartialEq, Eq)]
 pub enum Event {
     Release(u8),
     Acquire(u8),

@@ -3,7 +3,7 @@ ghost use Rattle.rules.specs.Schedulers.Protocol.{protocol_named, protocol_numbe
 
 // RULES 7.9: the two lazy protocols. They differ in what an entry to the kernel leaves in the second
 // word: the greatest kept priority (the next word), or the user word (the kernel word).
-#[derive(Clone, Copy)]
+#[derive(Clone, Copy, PartialEq, Eq)]
 pub enum Protocol {
     Second,
     First,

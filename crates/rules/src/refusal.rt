@@ -3,7 +3,7 @@ ghost use Rattle.rules.specs.Numbers.Refusal.{number_of, place_of};
 
 // Why a book, a plan, a state, an event or a job is refused, in the order of the numbers of RULES 5.1. There is
 // none for 16, which is withdrawn.
-#[derive(Clone, Copy)]
+#[derive(Clone, Copy, PartialEq, Eq)]
 pub enum Refusal {
     ShortBook,
     WrongCount,

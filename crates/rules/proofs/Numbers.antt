@@ -7,4 +7,3 @@ pub mod Row
 pub mod Refusals
 pub mod Order
 pub mod Checks
-pub mod Answers

@@ -4,5 +4,6 @@ pub mod Choice
 pub mod Place
 pub mod Mask
 pub mod Row
+pub mod Verdict
 pub mod Refusal
 pub mod Answer

@@ -10,13 +10,13 @@ use lib.ListN.{length, take}
 use lib.Seq.{get_or-take, length-take-le}
 use borrow.Author.Tests.{lt-ltb, le-ltb, ltb-false, ne_eqb}
 use Rattle.rules.specs.Numbers.Capacity.{max_tasks, max_locks, max_uses, max_events}
+use Rattle.rules.specs.Numbers.Verdict.{refused_at}
 use Rattle.rules.specs.Numbers.Choice.{when◌then◌else◌}
 use Rattle.rules.specs.Numbers.Place.{at, first_from}
 use Rattle.rules.specs.Books.Plan.{most, count_fault}
 use Rattle.rules.specs.Books.Book.{contents, kind_at, count_at, offset_at, size_of, body_at, layout_fault, contents_checks, check_of, largest_book}
 use Rattle.rules.specs.declared.refusal.Refusal.{Refusal}
 use Rattle.rules.specs.declared.refusal.Refusal.TheVariants.{WrongCount, WrongLayout}
-use Rattle.rules.specs.declared.answer.Verdict.{Verdict}
 use Rattle.rules.proofs.Numbers.Choice.{if_true, if_false, by_test, or_false, lt_or_le}
 use Rattle.rules.proofs.Numbers.Place.{first_same, first_none, first_some}
 use Rattle.rules.proofs.Numbers.Checks.{check_finds, check_passes, one_passes}
@@ -47,7 +47,7 @@ module _ (b : List ℕ) (long : largest_book < length b) where
   unfolding layout_fault when◌then◌else◌
   wrong_end h = ap not (ne_eqb (body_at b 4) (length b) (λ e. omega (arith, in_range h)))
 
-  refused_as_lem : (room : ℕ) → check_of b room ≡ (when ltb counted 4 then Verdict.Refused WrongCount (1 + counted) else Verdict.Refused WrongLayout (1 + laid))
+  refused_as_lem : (room : ℕ) → check_of b room ≡ (when ltb counted 4 then refused_at WrongCount (1 + counted) else refused_at WrongLayout (1 + laid))
   unfolding check_of contents_checks
   refused_as_lem room =
       check_passes _ _ 1 (one_passes (ltb (length b) contents) (le-ltb (length b) contents (omega arith))) (omega arith)
@@ -57,7 +57,7 @@ module _ (b : List ℕ) (long : largest_book < length b) where
       ∙ sym (if_false (ltb counted 4) _ _ (le-ltb counted 4 l)))
       (lt_or_le counted 4)
 
-  pub long_refused : (room : ℕ) → (why : Refusal) × (place : ℕ) × (check_of b room ≡ Verdict.Refused why place)
+  pub long_refused : (room : ℕ) → (why : Refusal) × (place : ℕ) × (check_of b room ≡ refused_at why place)
   unfolding when◌then◌else◌
   long_refused room = by_test (ltb counted 4)
       (λ l. (WrongCount, 1 + counted, rw l at (refused_as_lem room)))

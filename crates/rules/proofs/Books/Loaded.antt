@@ -1,4 +1,6 @@
 -- A plan that is loaded obeys the rules, and lets a task take a lock exactly where a use says so. Assumes nothing.
+use Rattle.std.specs.Prelude.{Ok, Err}
+use Rattle.rules.specs.Numbers.Verdict.{Verdict, refused_at}
 use mathlib.Core.Path.{◌≡◌, refl, sym, ◌∙◌, ap, ap₂, subst}
 use mathlib.Core.Logic.{◌≢◌, ⊎_elim}
 use mathlib.Core.Bool.{Bool, true, false, not, ◌&&◌, ◌||◌}
@@ -21,7 +23,6 @@ use Rattle.rules.specs.Numbers.Refusal.{number_of, first_fault, check_for}
 use Rattle.rules.specs.declared.plan.Plan.{Plan}
 use Rattle.rules.specs.declared.refusal.Refusal.{Refusal}
 use Rattle.rules.specs.declared.refusal.Refusal.TheVariants.{WrongCount, WrongTask, WrongLock, WrongUse, WrongCeiling, AboveMaximum}
-use Rattle.rules.specs.declared.answer.Verdict.{Verdict}
 use Rattle.rules.proofs.Numbers.Choice.{by_test, and_true, or_false, false_or, at_or, lt_or_le}
 use Rattle.rules.proofs.Numbers.Place.{any_some, zero_past, length_from, get_d_tabulate}
 use Rattle.rules.proofs.Numbers.Checks.{Clean, clean_for}
@@ -46,8 +47,8 @@ loaded f n xs few none i = ⊎_elim (λ h. at_table n (λ i. f (at xs i)) i h)
 -- the verdict beside a plan is the one that was given
 verdict_of_lem : (v : Verdict) (p : Plan) → (loaded_as v p).verdict ≡ v
 unfolding loaded_as
-verdict_of_lem Verdict.Passed p = refl
-verdict_of_lem (Verdict.Refused why place) p = refl
+verdict_of_lem (Ok _) p = refl
+verdict_of_lem (Err f) p = refl
 
 -- ---- uses
 
@@ -125,7 +126,7 @@ use_known n m uses i e =
 
 -- ---- a plan that is loaded
 
-module _ (tasks locks uses : List ℕ) (passed : first_fault (load_checks tasks locks uses) ≡ Verdict.Passed) where
+module _ (tasks locks uses : List ℕ) (passed : first_fault (load_checks tasks locks uses) ≡ Ok tt) where
   abbrev p : Plan
   p = plan_of tasks locks uses
 
@@ -214,18 +215,18 @@ module _ (tasks locks uses : List ℕ) (passed : first_fault (load_checks tasks 
 
 -- what a load answers
 module _ (tasks locks uses : List ℕ) where
-  pub load_refused : (why : Refusal) (place : ℕ) → (load_of tasks locks uses).verdict ≡ Verdict.Refused why place
-      → first_fault (load_checks tasks locks uses) ≡ Verdict.Refused why place
+  pub load_refused : (why : Refusal) (place : ℕ) → (load_of tasks locks uses).verdict ≡ refused_at why place
+      → first_fault (load_checks tasks locks uses) ≡ refused_at why place
   unfolding load_of
   load_refused why place e = sym (verdict_of_lem (first_fault (load_checks tasks locks uses)) (plan_of tasks locks uses)) ∙ e
 
-  pub load_passed : (load_of tasks locks uses).verdict ≡ Verdict.Passed → first_fault (load_checks tasks locks uses) ≡ Verdict.Passed
+  pub load_passed : (load_of tasks locks uses).verdict ≡ Ok tt → first_fault (load_checks tasks locks uses) ≡ Ok tt
   unfolding load_of
   load_passed e = sym (verdict_of_lem (first_fault (load_checks tasks locks uses)) (plan_of tasks locks uses)) ∙ e
 
-  pub loads_plan : first_fault (load_checks tasks locks uses) ≡ Verdict.Passed → (load_of tasks locks uses).plan ≡ plan_of tasks locks uses
+  pub loads_plan : first_fault (load_checks tasks locks uses) ≡ Ok tt → (load_of tasks locks uses).plan ≡ plan_of tasks locks uses
   unfolding load_of loaded_as
   loads_plan e = ap (λ v. (loaded_as v (plan_of tasks locks uses)).plan) e
 
-  pub load_plan : (load_of tasks locks uses).verdict ≡ Verdict.Passed → (load_of tasks locks uses).plan ≡ plan_of tasks locks uses
+  pub load_plan : (load_of tasks locks uses).verdict ≡ Ok tt → (load_of tasks locks uses).plan ≡ plan_of tasks locks uses
   load_plan e = loads_plan (load_passed e)

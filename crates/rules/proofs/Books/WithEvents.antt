@@ -1,4 +1,5 @@
 -- Every list of events has its book: one with the plan of an accepted book, and these events. Assumes nothing.
+use Rattle.std.specs.Prelude.{Ok}
 use mathlib.Core.Path.{◌≡◌, refl, ◌∙◌, ap, ap₂}
 use mathlib.Core.Logic.{⊎_elim}
 use mathlib.Core.Bool.{false}
@@ -20,7 +21,6 @@ use Rattle.rules.specs.Books.Book.{word, long, count_at, body_at, tasks_of, lock
 use Rattle.rules.specs.Books.Bytes.{book_of, Bytes}
 use Rattle.rules.specs.Books.Write.{counts_of, whole_checks}
 use Rattle.rules.specs.Demands.History.{event_at}
-use Rattle.rules.specs.declared.answer.Verdict.{Verdict}
 use Rattle.rules.specs.declared.event.Event.{Event}
 use Rattle.rules.specs.declared.event.Event.TheVariants.{Release, Acquire, Unlock, Work, Finish, Tick}
 use Rattle.rules.proofs.Numbers.Choice.{lt_or_le}
@@ -96,7 +96,7 @@ module _ (b : List ℕ) (es : List Event) (R : (k : ℕ) → k < length es → R
   pub events_same : events_of (with_events b es) ≡ es
   events_same = events_back_lem (tasks_of b) (locks_of b) (uses_of b) (map event_number es) ∙ numbers_events es R
 
-  module _ (room : ℕ) (passed : check_of b room ≡ Verdict.Passed) (few : length es ≤ max_events) where
+  module _ (room : ℕ) (passed : check_of b room ≡ Ok tt) (few : length es ≤ max_events) where
     counts : (e : ℕ) → e < 4 → count_fault e (counts_of (tasks_of b) (locks_of b) (uses_of b) (map event_number es) e) ≡ false
     unfolding count_fault_of count_fault most when◌then◌else◌
     counts zero h = counts_clean b (passed_contents b room passed) 0 (omega arith)
@@ -106,7 +106,7 @@ module _ (b : List ℕ) (es : List Event) (R : (k : ℕ) → k < length es → R
     counts (suc (suc (suc (suc e)))) h = absurd (omega arith)
 
     -- it is accepted, with row space for these events
-    pub accepted_with_lem : (space : ℕ) → length es * 4 ≤ space → check_of (with_events b es) space ≡ Verdict.Passed
+    pub accepted_with_lem : (space : ℕ) → length es * 4 ≤ space → check_of (with_events b es) space ≡ Ok tt
     unfolding whole_checks
     accepted_with_lem space fits =
         check_back (tasks_of b) (locks_of b) (uses_of b) (map event_number es) space

@@ -1,4 +1,5 @@
 -- The records of an accepted book of bytes make that book again. Assumes nothing.
+use Rattle.std.specs.Prelude.{Ok}
 use mathlib.Core.Path.{◌≡◌, refl, sym, ◌∙◌, ap, ap₂}
 use mathlib.Core.Bool.{not}
 use mathlib.Core.List.{List, [], ◌∷◌, ◌++◌, append_assoc, append-nil}
@@ -15,7 +16,6 @@ use Rattle.rules.specs.Numbers.Refusal.{number_of, first_fault, check_for}
 use Rattle.rules.specs.Books.Book.{word, long, contents, kind_at, count_at, offset_at, size_of, body_at, layout_fault, tasks_of, locks_of, uses_of}
 use Rattle.rules.specs.Books.Book.{event_numbers_of, contents_checks}
 use Rattle.rules.specs.Books.Bytes.{two, four, word_bytes, long_bytes, entry_of, bodies_of, book_of, Bytes}
-use Rattle.rules.specs.declared.answer.Verdict.{Verdict}
 use Rattle.rules.specs.declared.refusal.Refusal.TheVariants.{WrongLayout}
 use Rattle.rules.proofs.Numbers.Choice.{if_true, or_false}
 use Rattle.rules.proofs.Numbers.Place.{length_from}
@@ -99,7 +99,7 @@ module _ (b : List ℕ) (bytes : Bytes b) where
 
   -- ---- the whole book, whose contents pass
 
-  module _ (passed : first_fault (contents_checks b) ≡ Verdict.Passed) where
+  module _ (passed : first_fault (contents_checks b) ≡ Ok tt) where
     -- 3 finds nothing
     entries : (e : ℕ) → e < 4 → (kind_at b e ≡ e + 1) × (offset_at b e ≡ body_at b e)
     unfolding contents_checks check_for number_of layout_fault when◌then◌else◌

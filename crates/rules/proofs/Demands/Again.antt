@@ -1,5 +1,7 @@
 -- A take of an open lock raises nothing and calls nobody: the lock's ceiling is at most the priority that its holder has with the rest of its row.
 -- Assumes nothing.
+use Rattle.std.specs.Prelude.{Ok, Err}
+use Rattle.rules.specs.Numbers.Verdict.{Tested}
 use mathlib.Core.Path.{◌≡◌, refl, sym, ◌∙◌, ap, ap₂, subst}
 use mathlib.Core.Logic.{◌≢◌}
 use mathlib.Core.Bool.{Bool, true, false, not, ◌&&◌, ◌||◌}
@@ -27,8 +29,6 @@ use Rattle.rules.specs.Demands.Again.{RowsOnly, OneMore, later, TakenAgain, Agai
 use Rattle.rules.specs.declared.plan.Plan.{Plan}
 use Rattle.rules.specs.declared.protocol.Protocol.{Protocol}
 use Rattle.rules.specs.declared.state.State.{State}
-use Rattle.rules.specs.declared.answer.Tested.{Tested}
-use Rattle.rules.specs.declared.answer.Answer.{Answer}
 use Rattle.rules.specs.declared.answer.Stepped.{Stepped}
 use Rattle.rules.specs.declared.event.Event.{Event}
 use Rattle.rules.specs.declared.event.Event.TheVariants.{Acquire, Unlock}
@@ -77,19 +77,19 @@ both_later s t u A B d k v = let two : u.head.accepted ≡ s.head.accepted + 2 =
 
 -- ---- a step that is accepted
 
-passed_by : (t : Tested) (s after : State) (call : Bool) → answer_number (answered t s after call).answer ≡ 0 → t ≡ Tested.Passed
+passed_by : (t : Tested) (s after : State) (call : Bool) → answer_number (answered t s after call).answer ≡ 0 → t ≡ Ok tt
 unfolding answered answer_number
-passed_by Tested.Passed s after call e = refl
-passed_by (Tested.Refused why) s after call e = absurd (omega (arith, (numbered why).0))
+passed_by (Ok _) s after call e = refl
+passed_by (Err why) s after call e = absurd (omega (arith, (numbered why).0))
 
 module _ {pr : Protocol} {p : Plan} {s : State} (S : SoundAndSized pr p s) (e : Event) where
-  passed_so : answer_number (step_of pr p s e).answer ≡ 0 → refusal_of p (figures_of s) s.head.running e ≡ Tested.Passed
+  passed_so : answer_number (step_of pr p s e).answer ≡ 0 → refusal_of p (figures_of s) s.head.running e ≡ Ok tt
   unfolding act_of
   passed_so z = passed_by (refusal_of p (figures_of s) s.head.running e) s (after_of pr p s e) (lazy_call (words_of s) e)
       (ap (λ (x : Stepped). answer_number x.answer) (sym (step_act S e)) ∙ z)
 
-  stepped : refusal_of p (figures_of s) s.head.running e ≡ Tested.Passed
-      → step_of pr p s e ≡ record { answer = Answer.Accepted (lazy_call (words_of s) e); state = after_of pr p s e }
+  stepped : refusal_of p (figures_of s) s.head.running e ≡ Ok tt
+      → step_of pr p s e ≡ record { answer = Ok (lazy_call (words_of s) e); state = after_of pr p s e }
   unfolding act_of answered
   stepped z = step_act S e ∙ ap (λ t. answered t s (after_of pr p s e) (lazy_call (words_of s) e)) z
 
@@ -129,13 +129,13 @@ module _ {pr : Protocol} {p : Plan} {s : State} (F : Follows pr p s) (l : ℕ) (
   nobody_else = false_any (λ x. not (eqb x r) && holds f x l) p.tasks (λ x q. not_so (not (eqb x r) && holds f x l)
       (λ t. let (n, h) = and_true (not (eqb x r)) (holds f x l) t in eqb-false x r (not-true (eqb x r) n) (G.alone x r l h mine)))
 
-  takes_again : at f.depth r < max_takes → f.accepted < max_accepted → refusal_of p f r (Acquire l) ≡ Tested.Passed
+  takes_again : at f.depth r < max_takes → f.accepted < max_accepted → refusal_of p f r (Acquire l) ≡ Ok tt
   takes_again h room = accepts p f r (Acquire l) room
       (record { runs = somebody; known = G.known r l mine; declared = G.declared r l mine; free = nobody_else; room = h })
 
   -- ---- the acquire
 
-  module _ (z : refusal_of p f r (Acquire l) ≡ Tested.Passed) where
+  module _ (z : refusal_of p f r (Acquire l) ≡ Ok tt) where
     abbrev A : Scene pr p f w
     A = scene S (passed_room p f r (Acquire l) z)
 
@@ -201,7 +201,7 @@ module _ {pr : Protocol} {p : Plan} {s : State} (F : Follows pr p s) (l : ℕ) (
 
   -- ---- an unlock that leaves it open
 
-  module _ (z : refusal_of p f r (Unlock l) ≡ Tested.Passed) (open-still : stays_open f r l ≡ true) where
+  module _ (z : refusal_of p f r (Unlock l) ≡ Ok tt) (open-still : stays_open f r l ≡ true) where
     abbrev B : Scene pr p f w
     B = scene S (passed_room p f r (Unlock l) z)
 
@@ -255,7 +255,7 @@ module _ {pr : Protocol} {p : Plan} {s : State} (F : Follows pr p s) (l : ℕ) (
       owner = ap (set s.owner l) (left_same (stays_open f r l) (at s.owner l) open-still) ∙ set-get_or s.owner l 0;
     })
 
-    no_calls : answer_calls (Answer.Accepted (lazy_call w (Unlock l))) ≡ 0
+    no_calls : answer_calls (Ok (lazy_call w (Unlock l))) ≡ 0
     unfolding answer_calls lazy_call
     no_calls = if_false (calls_for (back_of w) w.next) 1 0 no_call
 
@@ -272,14 +272,14 @@ module _ {pr : Protocol} {p : Plan} {s : State} (F : Follows pr p s) (l : ℕ) (
     unfolding restored
     saved_left = ap (λ (t : State). t.saved) state_left
 
-  still_open : refusal_of p f r (Unlock l) ≡ Tested.Passed → holds (figures_of (after_of pr p s (Unlock l))) r l ≡ true → stays_open f r l ≡ true
+  still_open : refusal_of p f r (Unlock l) ≡ Ok tt → holds (figures_of (after_of pr p s (Unlock l))) r l ≡ true → stays_open f r l ≡ true
   unfolding after_of
   still_open z h = sym (SoundFigures.give_stays (scene S (passed_room p f r (Unlock l) z)).stage out (allowed p f r (Unlock l) z)) ∙ h
 
 -- ---- the one after the other
 
 module _ {pr : Protocol} {p : Plan} {s : State} (F : Follows pr p s) (l : ℕ) (mine : holds (figures_of s) s.head.running l ≡ true)
-    (z : refusal_of p (figures_of s) s.head.running (Acquire l) ≡ Tested.Passed) where
+    (z : refusal_of p (figures_of s) s.head.running (Acquire l) ≡ Ok tt) where
   abbrev t : State
   t = after_of pr p s (Acquire l)
 
@@ -295,7 +295,7 @@ module _ {pr : Protocol} {p : Plan} {s : State} (F : Follows pr p s) (l : ℕ) (
   stays_there : stays_open (figures_of t) t.head.running l ≡ true
   stays_there = ap (λ x. stays_open (figures_of t) x l) (rows_taken F l mine z).running ∙ under_it F l mine z
 
-  module _ (y : refusal_of p (figures_of t) t.head.running (Unlock l) ≡ Tested.Passed) where
+  module _ (y : refusal_of p (figures_of t) t.head.running (Unlock l) ≡ Ok tt) where
     undoes : after_of pr p t (Unlock l) ≡ later 2 s
     undoes = both_later s t (after_of pr p t (Unlock l)) (rows_taken F l mine z) (rows_given follows_on l mine_still y stays_there)
         (depth_left follows_on l mine_still y stays_there ∙ rw (who, one.depth) (written_back s.depth r _ _ (rw (← one.depth) (depth_back F l mine z))))
@@ -311,7 +311,7 @@ module _ {pr : Protocol} {p : Plan} {s : State} (F : Follows pr p s) (l : ℕ) (
         one : OneMore s t l
         one = one_more F l mine z
 
-accepted_zero : (call : Bool) → answer_number (Answer.Accepted call) ≡ 0
+accepted_zero : (call : Bool) → answer_number (Ok call) ≡ 0
 unfolding answer_number
 accepted_zero call = refl
 
@@ -320,17 +320,17 @@ taken_again {pr} {p} {s} F l mine = record {
   accepts = λ h room. ap (λ (x : Stepped). answer_number x.answer) (stepped F.sound (Acquire l) (takes_again F l mine h room))
       ∙ accepted_zero (lazy_call (words_of s) (Acquire l));
   taken = λ a.
-      let z : refusal_of p (figures_of s) s.head.running (Acquire l) ≡ Tested.Passed = passed_so F.sound (Acquire l) a in
+      let z : refusal_of p (figures_of s) s.head.running (Acquire l) ≡ Ok tt = passed_so F.sound (Acquire l) a in
       rw (stepped F.sound (Acquire l) z) (rows_taken F l mine z, one_more F l mine z);
   given = λ a h.
-      let z : refusal_of p (figures_of s) s.head.running (Unlock l) ≡ Tested.Passed = passed_so F.sound (Unlock l) a in
+      let z : refusal_of p (figures_of s) s.head.running (Unlock l) ≡ Ok tt = passed_so F.sound (Unlock l) a in
       let q : stays_open (figures_of s) s.head.running l ≡ true = still_open F l mine z (rw (stepped F.sound (Unlock l) z) at h) in
       rw (stepped F.sound (Unlock l) z) (rows_given F l mine z q, no_calls F l mine z q);
   undone = λ a.
-      let z : refusal_of p (figures_of s) s.head.running (Acquire l) ≡ Tested.Passed = passed_so F.sound (Acquire l) a in
+      let z : refusal_of p (figures_of s) s.head.running (Acquire l) ≡ Ok tt = passed_so F.sound (Acquire l) a in
       rw (stepped F.sound (Acquire l) z) (λ b.
       let E : Follows pr p (after_of pr p s (Acquire l)) = follows_on F l mine z in
-      let y : refusal_of p (figures_of (after_of pr p s (Acquire l))) (after_of pr p s (Acquire l)).head.running (Unlock l) ≡ Tested.Passed =
+      let y : refusal_of p (figures_of (after_of pr p s (Acquire l))) (after_of pr p s (Acquire l)).head.running (Unlock l) ≡ Ok tt =
       passed_so E.sound (Unlock l) b in
       ap (λ (x : Stepped). x.state) (stepped E.sound (Unlock l) y) ∙ undoes F l mine z y);
 }

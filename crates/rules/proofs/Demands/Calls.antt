@@ -1,5 +1,7 @@
 -- RULES 14.2, of calls: an unlock is a lazy call exactly where another released task is strictly above the restored priority (second protocol), or where the
 -- kernel word is, which is the history's (first protocol); and the count of lazy calls is the history's. Assumes nothing.
+use Rattle.std.specs.Prelude.{Ok, Err}
+use Rattle.rules.specs.Numbers.Verdict.{Tested}
 use mathlib.Core.Path.{◌≡◌, refl, sym, ◌∙◌, ap, ap₂}
 use mathlib.Core.Logic.{◌≢◌, ⊎_elim}
 use mathlib.Core.Bool.{Bool, true, false, not, ◌&&◌}
@@ -28,7 +30,6 @@ use Rattle.rules.specs.declared.plan.Plan.{Plan}
 use Rattle.rules.specs.declared.protocol.Protocol.{Protocol}
 use Rattle.rules.specs.declared.protocol.Protocol.TheVariants.{Second, First}
 use Rattle.rules.specs.declared.state.State.{State}
-use Rattle.rules.specs.declared.answer.Tested.{Tested}
 use Rattle.rules.specs.declared.event.Event.{Event}
 use Rattle.rules.specs.declared.event.Event.TheVariants.{Release, Acquire, Unlock, Work, Finish, Tick}
 use Rattle.rules.proofs.Numbers.Choice.{if_true, if_false, by_test, and_true, true_and, not_so}
@@ -62,7 +63,7 @@ module _ {pr : Protocol} {p : Plan} {s : State} (F : Follows pr p s) where
   abbrev r : ℕ
   r = s.head.running
 
-  module _ (l : ℕ) (z : refusal_of p f r (Unlock l) ≡ Tested.Passed) where
+  module _ (l : ℕ) (z : refusal_of p f r (Unlock l) ≡ Ok tt) where
     pub back_is : back_of w ≡ priority_of p (figures_after p f r (Unlock l)) r
     back_is =
         let o : Givable p f r l = allowed p f r (Unlock l) z in
@@ -73,7 +74,7 @@ module _ {pr : Protocol} {p : Plan} {s : State} (F : Follows pr p s) where
 
 -- ---- the second protocol
 
-module _ {p : Plan} {s : State} (F : Follows Second p s) (l : ℕ) (z : refusal_of p (figures_of s) s.head.running (Unlock l) ≡ Tested.Passed) where
+module _ {p : Plan} {s : State} (F : Follows Second p s) (l : ℕ) (z : refusal_of p (figures_of s) s.head.running (Unlock l) ≡ Ok tt) where
   abbrev f₂ : Figures
   f₂ = figures_of s
 
@@ -120,7 +121,7 @@ KernelIs Second word next = Unit {0}
 KernelIs First word next = word ≡ next
 
 rule_is : (pr : Protocol) {p : Plan} {s : State} → Follows pr p s → (word : ℕ) → KernelIs pr word s.head.next.0 → (l : ℕ)
-    → refusal_of p (figures_of s) s.head.running (Unlock l) ≡ Tested.Passed
+    → refusal_of p (figures_of s) s.head.running (Unlock l) ≡ Ok tt
     → call_rule pr p (figures_of s) word l ≡ calls_for (back_of (words_of s)) s.head.next.0
 unfolding KernelIs call_rule calls_for
 rule_is Second {p} {s} F word i l z =
@@ -129,7 +130,7 @@ rule_is First {p} {s} F word i l z =
     ap₂ ltb (ap (λ q. priority_of p (figures_after p (figures_of s) q (Unlock l)) q) (sym F.running) ∙ sym (back_is F l z)) i
 
 module _ {pr : Protocol} {p : Plan} {s : State} (F : Follows pr p s) (word : ℕ) (i : KernelIs pr word s.head.next.0) where
-  pub due : (e : Event) → refusal_of p (figures_of s) s.head.running e ≡ Tested.Passed
+  pub due : (e : Event) → refusal_of p (figures_of s) s.head.running e ≡ Ok tt
       → (when lazy_call (words_of s) e then 1 else 0) ≡ calls_due pr p (figures_of s) word e
   unfolding lazy_call calls_due when◌then◌else◌
   due (Release t) z = refl
@@ -160,9 +161,9 @@ module _ {pr : Protocol} {p : Plan} {s : State} (F : Follows pr p s) (word : ℕ
   counted_by : (e : Event) (t : Tested) → refusal_of p g s.head.running e ≡ t
       → (answered t s (after_of pr p s e) (lazy_call (words_of s) e)).state.head.lazy ≡ s.head.lazy + (when passes t then calls_due pr p g word e else 0)
   unfolding answered after_of passes when◌then◌else◌
-  counted_by e Tested.Passed z =
+  counted_by e (Ok _) z =
       lazy_after pr p g (figures_after p g s.head.running e).released (words_of s) e ∙ ap (λ b. s.head.lazy + b) (due F word i e z)
-  counted_by e (Tested.Refused why) z = omega arith
+  counted_by e (Err why) z = omega arith
 
   counted_one : (e : Event) → (step_of pr p s e).state.head.lazy ≡ s.head.lazy + (when passes (eager_test p g e) then calls_due pr p g word e else 0)
   unfolding act_of
@@ -176,7 +177,7 @@ module _ {p : Plan} {s : State} (F : Follows First p s) where
   abbrev K : Event → Bool
   K e = enters (eqb (calls_due First p h s.head.next.0 e) 1) e
 
-  same_entry : (e : Event) → refusal_of p h s.head.running e ≡ Tested.Passed → K e ≡ enters (lazy_call (words_of s) e) e
+  same_entry : (e : Event) → refusal_of p h s.head.running e ≡ Ok tt → K e ≡ enters (lazy_call (words_of s) e) e
   unfolding when◌then◌else◌ KernelIs
   same_entry e z = ap (λ b. enters b e) (ap (λ n. eqb n 1) (sym (due F s.head.next.0 refl e z)) ∙ back (lazy_call (words_of s) e))
     where
@@ -188,10 +189,10 @@ module _ {p : Plan} {s : State} (F : Follows First p s) where
       → (answered t s (after_of First p s e) (lazy_call (words_of s) e)).state.head.next.0
       ≡ (when passes t && K e then (answered t s (after_of First p s e) (lazy_call (words_of s) e)).state.head.user.0 else s.head.next.0)
   unfolding answered after_of passes second_word when◌then◌else◌
-  kernel_by e Tested.Passed z = by_test (enters (lazy_call (words_of s) e) e)
+  kernel_by e (Ok _) z = by_test (enters (lazy_call (words_of s) e) e)
       (λ q. (entered First p h (figures_after p h s.head.running e).released (words_of s) e q).next ∙ sym (if_true (K e) _ _ (same_entry e z ∙ q)))
       (λ q. (left First p h (figures_after p h s.head.running e).released (words_of s) e q).next ∙ sym (if_false (K e) _ _ (same_entry e z ∙ q)))
-  kernel_by e (Tested.Refused why) z = refl
+  kernel_by e (Err why) z = refl
 
   kernel_one : (e : Event) → (step_of First p s e).state.head.next.0
       ≡ (when passes (eager_test p h e) && K e then (step_of First p s e).state.head.user.0 else s.head.next.0)

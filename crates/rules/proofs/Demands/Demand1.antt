@@ -1,4 +1,6 @@
 -- Demand 1 holds. Assumes nothing.
+use Rattle.std.specs.Prelude.{Ok, Err}
+use Rattle.rules.specs.Numbers.Verdict.{Verdict, Tested, refused_at}
 use mathlib.Core.Path.{◌≡◌, refl, sym, ◌∙◌, ap}
 use mathlib.Core.Bool.{Bool, true, false}
 use mathlib.Core.List.{List, [], ◌∷◌}
@@ -24,8 +26,6 @@ use Rattle.rules.specs.declared.protocol.Protocol.{Protocol}
 use Rattle.rules.specs.declared.state.State.{State}
 use Rattle.rules.specs.declared.refusal.Refusal.{Refusal}
 use Rattle.rules.specs.declared.refusal.Refusal.TheVariants.{WrongCount}
-use Rattle.rules.specs.declared.answer.Tested.{Tested}
-use Rattle.rules.specs.declared.answer.Verdict.{Verdict}
 use Rattle.rules.specs.declared.event.Event.{Event}
 use Rattle.rules.specs.declared.event.Event.TheVariants.{Release, Acquire, Unlock, Work, Finish, Tick}
 use Rattle.rules.proofs.Numbers.Choice.{by_test}
@@ -43,13 +43,13 @@ use Rattle.rules.proofs.Replays.OneStep.{answered_number}
 module _ (s after : State) (call : Bool) where
   same_state : (t : Tested) → 0 < tested_number t → (answered t s after call).state ≡ s
   unfolding answered tested_number
-  same_state Tested.Passed h = absurd (omega arith)
-  same_state (Tested.Refused why) h = refl
+  same_state (Ok _) h = absurd (omega arith)
+  same_state (Err why) h = refl
 
   no_call : (t : Tested) → 0 < tested_number t → answer_calls (answered t s after call).answer ≡ 0
   unfolding answered tested_number answer_calls
-  no_call Tested.Passed h = absurd (omega arith)
-  no_call (Tested.Refused why) h = refl
+  no_call (Ok _) h = absurd (omega arith)
+  no_call (Err why) h = refl
 
 module _ (pr : Protocol) (p : Plan) (s : State) where
   tests_once : (e : Event) → once of_test (step_tests pr p s e) ≡ true
@@ -89,10 +89,10 @@ module _ (pr : Protocol) (p : Plan) (s : State) where
 
 module _ (cs : List Check) (o : once of_check cs ≡ true) where
   -- a verdict that refuses has an offender
-  offended : (v : Verdict) → first_fault cs ≡ v → ((why : Refusal) (place : ℕ) → first_fault cs ≡ Verdict.Refused why place → ⊥) → verdict_number v ≡ 0
+  offended : (v : Verdict) → first_fault cs ≡ v → ((why : Refusal) (place : ℕ) → first_fault cs ≡ refused_at why place → ⊥) → verdict_number v ≡ 0
   unfolding verdict_number
-  offended Verdict.Passed e f = refl
-  offended (Verdict.Refused why place) e f = absurd (f why place e)
+  offended (Ok _) e f = refl
+  offended (Err z) e f = absurd (f z.why z.place e)
 
   judged : Judged cs (first_fault cs)
   judged = record {
@@ -119,10 +119,10 @@ module _ (tasks locks uses : List ℕ) where
     where
       go : (v : Verdict) → first_fault (load_checks tasks locks uses) ≡ v → Judged (load_checks tasks locks uses) v
           → LoadRefuses tasks locks uses (loaded_as v (plan_of tasks locks uses))
-      go Verdict.Passed e J = record { judged = J; obeys = λ _. loaded_obeys tasks locks uses e; blank = λ h. absurd (omega arith) }
-      go (Verdict.Refused why place) e J = record {
+      go (Ok _) e J = record { judged = J; obeys = λ _. loaded_obeys tasks locks uses e; blank = λ h. absurd (omega arith) }
+      go (Err f) e J = record {
         judged = J;
-        obeys = λ q. absurd (omega (arith, (numbered why).0, q));
+        obeys = λ q. absurd (omega (arith, (numbered f.why).0, q));
         blank = λ _. refl;
       }
 
@@ -132,10 +132,10 @@ module _ (b : List ℕ) (room : ℕ) where
   book_refuses = go (check_of b room) refl (rw (check_is b room) (judged (book_checks b room) (checks_once b room)))
     where
       go : (v : Verdict) → check_of b room ≡ v → Judged (book_checks b room) v → BookRefuses b room (checked_as v b)
-      go Verdict.Passed e J = record { judged = J; obeys = λ _. passed_obeys b room e; blank = λ h. absurd (omega arith) }
-      go (Verdict.Refused why place) e J = record {
+      go (Ok _) e J = record { judged = J; obeys = λ _. passed_obeys b room e; blank = λ h. absurd (omega arith) }
+      go (Err f) e J = record {
         judged = J;
-        obeys = λ q. absurd (omega (arith, (numbered why).0, q));
+        obeys = λ q. absurd (omega (arith, (numbered f.why).0, q));
         blank = λ _. refl;
       }
 
@@ -144,14 +144,14 @@ unfolding replay_of replay_as verdict_number
 replay_refuses pr b rows = go (check_of b (length rows))
   where
     go : (v : Verdict) → 0 < verdict_number v → Untouched rows v (replay_as pr v (plan_in b) (events_of b) rows)
-    go Verdict.Passed h = absurd (omega arith)
-    go (Verdict.Refused why place) h = record { number = refl; place = refl; state = refl; bytes = refl }
+    go (Ok _) h = absurd (omega arith)
+    go (Err f) h = record { number = refl; place = refl; state = refl; bytes = refl }
 
 -- ---- 2, 4 to 7, 24, 8 and 23, of a book that is to be written
 
 module _ (tasks locks uses events : List ℕ) where
   -- the plan's own check of the counts finds nothing that the check of all four does not
-  counts_spare : first_fault (count_check (counts_of tasks locks uses events) ∷ []) ≡ Verdict.Passed → (e : ℕ) → e < 3
+  counts_spare : first_fault (count_check (counts_of tasks locks uses events) ∷ []) ≡ Ok tt → (e : ℕ) → e < 3
       → count_fault_of (length tasks) (length locks) (length uses) e ≡ false
   unfolding check_for number_of count_fault_of when◌then◌else◌
   counts_spare passed zero h = clean_for (count_check (counts_of tasks locks uses events) ∷ []) passed WrongCount 0 (omega arith)
@@ -177,8 +177,8 @@ module _ (tasks locks uses events : List ℕ) where
 
       go : (v : Verdict) → Judged (writer_checks tasks locks uses events (length buffer)) v
           → WriteRefuses tasks locks uses events buffer (wrote_as v (book_of tasks locks uses events) buffer)
-      go Verdict.Passed J = record { judged = J; none = λ h. absurd (omega arith); bytes = λ h. absurd (omega arith) }
-      go (Verdict.Refused why place) J = record { judged = J; none = λ _. refl; bytes = λ _. refl }
+      go (Ok _) J = record { judged = J; none = λ h. absurd (omega arith); bytes = λ h. absurd (omega arith) }
+      go (Err f) J = record { judged = J; none = λ _. refl; bytes = λ _. refl }
 
 pub demand1 : Demand1
 demand1 = record { step = step_refuses; seven = seven; load = load_refuses; check = book_refuses; replay = replay_refuses; write = write_refuses }

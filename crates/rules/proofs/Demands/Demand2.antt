@@ -1,4 +1,6 @@
 -- Demand 2 holds: of every plan that obeys the rules, every list of events and every place of it. Assumes nothing.
+use Rattle.std.specs.Prelude.{Ok, Err}
+use Rattle.rules.specs.Numbers.Verdict.{Tested}
 use mathlib.Core.Path.{◌≡◌, refl, sym, ◌∙◌, ap, ap₂, subst}
 use mathlib.Core.Logic.{◌≢◌, ⊎_elim, ◌↔◌}
 use mathlib.Core.Bool.{true}
@@ -25,7 +27,6 @@ use Rattle.rules.specs.declared.plan.Plan.{Plan}
 use Rattle.rules.specs.declared.protocol.Protocol.{Protocol}
 use Rattle.rules.specs.declared.protocol.Protocol.TheVariants.{Second, First}
 use Rattle.rules.specs.declared.state.State.{State}
-use Rattle.rules.specs.declared.answer.Tested.{Tested}
 use Rattle.rules.specs.declared.refusal.Refusal.TheVariants.{Unsound, NobodyRuns, Unknown, NotDeclared, OpenElsewhere}
 use Rattle.rules.specs.declared.event.Event.{Event}
 use Rattle.rules.specs.declared.event.Event.TheVariants.{Release, Acquire, Unlock, Work, Finish, Tick}
@@ -96,8 +97,8 @@ module _ {pr : Protocol} {p : Plan} {s : State} (F : Follows pr p s) where
   calls_by : (e : Event) (t : Tested) → answer_calls (answered t s (after_of pr p s e) (lazy_call (words_of s) e)).answer
       ≡ (when passes t then (when lazy_call (words_of s) e then 1 else 0) else 0)
   unfolding answered answer_calls passes when◌then◌else◌
-  calls_by e Tested.Passed = refl
-  calls_by e (Tested.Refused why) = refl
+  calls_by e (Ok _) = refl
+  calls_by e (Err why) = refl
 
   calls_are : (e : Event) → answer_calls (step_of pr p s e).answer ≡ (when passes (eager_test p f e) then (when lazy_call (words_of s) e then 1 else 0) else 0)
   unfolding act_of
@@ -112,12 +113,12 @@ module _ {pr : Protocol} {p : Plan} {s : State} (F : Follows pr p s) where
 
   -- an accepted unlock is a call exactly where the rule says so; X is what the rule comes to
   unlock_by : (l : ℕ) (X : Type 0) → passes (eager_test p f (Unlock l)) ≡ true
-      → (refusal_of p f s.head.running (Unlock l) ≡ Tested.Passed
+      → (refusal_of p f s.head.running (Unlock l) ≡ Ok tt
       → (calls_for (back_of (words_of s)) s.head.next.0 ≡ true → X) × (X → calls_for (back_of (words_of s)) s.head.next.0 ≡ true))
       → (answer_calls (step_of pr p s (Unlock l)).answer ≡ 1) ↔ X
   unfolding lazy_call
   unlock_by l X a rule =
-      let z : refusal_of p f s.head.running (Unlock l) ≡ Tested.Passed = sym (same_test F (Unlock l)) ∙ passes_so _ a in
+      let z : refusal_of p f s.head.running (Unlock l) ≡ Ok tt = sym (same_test F (Unlock l)) ∙ passes_so _ a in
       let c : answer_calls (step_of pr p s (Unlock l)).answer ≡ (when calls_for (back_of (words_of s)) s.head.next.0 then 1 else 0) = calls_are (Unlock l)
       ∙ if_true _ _ 0 a in (
         λ q. by_test (calls_for (back_of (words_of s)) s.head.next.0) (λ e. (rule z).0 e)

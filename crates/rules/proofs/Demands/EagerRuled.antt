@@ -1,4 +1,6 @@
 -- What holds in every state that the eager scheduler comes to from a fresh start, and that its running task is the best. Assumes nothing.
+use Rattle.std.specs.Prelude.{Ok, Err}
+use Rattle.rules.specs.Numbers.Verdict.{Tested}
 use mathlib.Core.Path.{◌≡◌, refl, sym, ◌∙◌}
 use mathlib.Core.Logic.{◌≢◌, ⊎_elim}
 use mathlib.Core.Bool.{true, false, not, ◌&&◌}
@@ -21,7 +23,6 @@ use Rattle.rules.specs.Schedulers.Eager.{running_of, settle, eager_test, eager_s
 use Rattle.rules.specs.Soundness.Sound.{SoundFigures}
 use Rattle.rules.specs.Demands.History.{event_at, eager_at}
 use Rattle.rules.specs.declared.plan.Plan.{Plan}
-use Rattle.rules.specs.declared.answer.Tested.{Tested}
 use Rattle.rules.specs.declared.event.Event.{Event}
 use Rattle.rules.specs.declared.event.Event.TheVariants.{Release, Acquire, Unlock, Work, Finish, Tick}
 use Rattle.rules.proofs.Numbers.Choice.{untrue, not_so, and_true, lt_or_le}
@@ -187,7 +188,7 @@ module _ {p : Plan} (O : Obeys p) {f : Figures} (R : Ruled p f) where
       r = running_of p f
   early_kept Tick room o = early_still p f (figures_after p f (running_of p f) Tick) (λ x. record { released = refl; depth = refl; takes = refl }) R.early
 
-  pub ruled_kept : (e : Event) → eager_test p f e ≡ Tested.Passed → Ruled p (figures_after p f (running_of p f) e)
+  pub ruled_kept : (e : Event) → eager_test p f e ≡ Ok tt → Ruled p (figures_after p f (running_of p f) e)
   unfolding eager_test
   ruled_kept e z = record {
     sized = sized_moved p f (running_of p f) e R.sized;
@@ -195,10 +196,10 @@ module _ {p : Plan} (O : Obeys p) {f : Figures} (R : Ruled p f) where
     early = early_kept e (passed_room p f (running_of p f) e z) (allowed p f (running_of p f) e z);
   }
 
-  settled : (t : Tested) (g : Figures) → (t ≡ Tested.Passed → Ruled p g) → Ruled p (settle t g f)
+  settled : (t : Tested) (g : Figures) → (t ≡ Ok tt → Ruled p g) → Ruled p (settle t g f)
   unfolding settle
-  settled Tested.Passed g h = h refl
-  settled (Tested.Refused why) g h = R
+  settled (Ok _) g h = h refl
+  settled (Err why) g h = R
 
   ruled_step : (e : Event) → Ruled p (eager_step p f e)
   unfolding eager_step

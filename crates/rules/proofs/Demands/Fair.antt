@@ -1,5 +1,6 @@
 -- Lazy calls never exceed eager calls, by either protocol: a call puts back a word below the second word, which is at most the user word, so the acting task's
 -- priority has fallen. And where the second protocol calls, another task is above the restored priority, so that the first calls too. Assumes nothing.
+use Rattle.std.specs.Prelude.{Ok}
 use mathlib.Core.Path.{◌≡◌, refl, sym, ◌∙◌, ap, subst}
 use mathlib.Core.Logic.{◌≢◌}
 use mathlib.Core.Bool.{Bool, true, false}
@@ -23,7 +24,6 @@ use Rattle.rules.specs.declared.plan.Plan.{Plan}
 use Rattle.rules.specs.declared.protocol.Protocol.{Protocol}
 use Rattle.rules.specs.declared.protocol.Protocol.TheVariants.{Second, First}
 use Rattle.rules.specs.declared.state.State.{State}
-use Rattle.rules.specs.declared.answer.Tested.{Tested}
 use Rattle.rules.specs.declared.event.Event.{Event}
 use Rattle.rules.specs.declared.event.Event.TheVariants.{Release, Acquire, Unlock, Work, Finish, Tick}
 use Rattle.rules.proofs.Numbers.Choice.{if_true, if_false, by_test}
@@ -51,7 +51,7 @@ module _ {pr : Protocol} {p : Plan} {s : State} (F : Follows pr p s) where
   r = s.head.running
 
   -- a call puts back a word below the second word, which is at most the user word: so the priority has fallen
-  fair_one : (e : Event) → refusal_of p f r e ≡ Tested.Passed → (when lazy_call (words_of s) e then 1 else 0) ≤ eager_calls p f (figures_after p f r e) r e
+  fair_one : (e : Event) → refusal_of p f r e ≡ Ok tt → (when lazy_call (words_of s) e then 1 else 0) ≤ eager_calls p f (figures_after p f r e) r e
   unfolding lazy_call eager_calls when◌then◌else◌
   fair_one (Release t) z = omega arith
   fair_one (Acquire l) z = omega arith
@@ -82,7 +82,7 @@ added false a b c d h k = omega arith
 
 module _ {p : Plan} (O : Obeys p) (es : List Event) where
   passed_at_lem : (pr : Protocol) (k : ℕ) → accepted_at p es k ≡ true
-      → refusal_of p (figures_of (lazy_at pr p es k)) (lazy_at pr p es k).head.running (event_at es k) ≡ Tested.Passed
+      → refusal_of p (figures_of (lazy_at pr p es k)) (lazy_at pr p es k).head.running (event_at es k) ≡ Ok tt
   passed_at_lem pr k a = sym (same_tests pr O es k) ∙ passed_at p es k a
 
   -- the event at place k, where it is accepted, has the calls that are due
@@ -115,8 +115,8 @@ module _ {p : Plan} (O : Obeys p) (es : List Event) where
 
 module _ {p : Plan} {s₁ s₂ : State} (F₁ : Follows First p s₁) (F₂ : Follows Second p s₂) (same : figures_of s₁ ≡ figures_of s₂) where
   -- where the second calls, so does the first
-  between_one : (e : Event) → refusal_of p (figures_of s₁) s₁.head.running e ≡ Tested.Passed
-      → refusal_of p (figures_of s₂) s₂.head.running e ≡ Tested.Passed
+  between_one : (e : Event) → refusal_of p (figures_of s₁) s₁.head.running e ≡ Ok tt
+      → refusal_of p (figures_of s₂) s₂.head.running e ≡ Ok tt
       → (when lazy_call (words_of s₂) e then 1 else 0) ≤ (when lazy_call (words_of s₁) e then 1 else 0)
   unfolding lazy_call when◌then◌else◌
   between_one (Release t) y z = omega arith

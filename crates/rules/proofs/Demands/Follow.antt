@@ -1,5 +1,7 @@
 -- The lazy scheduler, by either protocol, follows the eager one: the same figures, and the same running task. All that this needs of the second word is that it
 -- is at least every other released task's priority. Assumes nothing.
+use Rattle.std.specs.Prelude.{Ok, Err}
+use Rattle.rules.specs.Numbers.Verdict.{Tested}
 use mathlib.Core.Path.{◌≡◌, refl, sym, ◌∙◌, ap, ap₂, subst, fun_ext}
 use mathlib.Core.Logic.{◌≢◌, ⊎_elim}
 use mathlib.Core.Bool.{Bool, true, false}
@@ -29,7 +31,6 @@ use Rattle.rules.specs.declared.plan.Plan.{Plan}
 use Rattle.rules.specs.declared.protocol.Protocol.{Protocol}
 use Rattle.rules.specs.declared.protocol.Protocol.TheVariants.{Second, First}
 use Rattle.rules.specs.declared.state.State.{State}
-use Rattle.rules.specs.declared.answer.Tested.{Tested}
 use Rattle.rules.specs.declared.answer.Stepped.{Stepped}
 use Rattle.rules.specs.declared.event.Event.{Event}
 use Rattle.rules.specs.declared.event.Event.TheVariants.{Release, Acquire, Unlock, Work, Finish, Tick}
@@ -204,7 +205,7 @@ module _ {pr : Protocol} {p : Plan} {s : State} (F : Follows pr p s) where
       F.running ∙ elected_same (at f.released) (rank_of p f) (rank_of p g) p.tasks (λ x. sym (same_rank p (same x)))
       ∙ ap (λ l. elected (at l) (rank_of p g) p.tasks) (sym e)
 
-  who_after : (e : Event) → refusal_of p f r e ≡ Tested.Passed → Ruled p (figures_after p f r e)
+  who_after : (e : Event) → refusal_of p f r e ≡ Ok tt → Ruled p (figures_after p f r e)
       → (after_of pr p s e).head.running ≡ running_of p (figures_after p f r e)
   unfolding after_of words_after stays figures_after
   who_after (Release t) z R' = who_release (passed_room p f r (Release t) z) (allowed p f r (Release t) z) R'
@@ -215,7 +216,7 @@ module _ {pr : Protocol} {p : Plan} {s : State} (F : Follows pr p s) where
   who_after Tick z R' = rw found (who_still (figures_after p f r Tick) refl (λ x. record { released = refl; depth = refl; takes = refl }))
 
   -- an event that does not enter the kernel leaves the others' priorities
-  others_stay : (e : Event) → refusal_of p f r e ≡ Tested.Passed → enters (lazy_call w e) e ≡ false → (x : ℕ) → x ≢ r → Same f (figures_after p f r e) x
+  others_stay : (e : Event) → refusal_of p f r e ≡ Ok tt → enters (lazy_call w e) e ≡ false → (x : ℕ) → x ≢ r → Same f (figures_after p f r e) x
   unfolding enters figures_after
   others_stay (Release t) z h x n = untrue h
   others_stay (Acquire l) z h x n = let o = allowed p f r (Acquire l) z in SoundWords.take_same (scene S (passed_room p f r (Acquire l) z)) o.runs o x n
@@ -224,7 +225,7 @@ module _ {pr : Protocol} {p : Plan} {s : State} (F : Follows pr p s) where
   others_stay Finish z h x n = untrue h
   others_stay Tick z h x n = untrue h
 
-  module _ (e : Event) (z : refusal_of p f r e ≡ Tested.Passed) (R' : Ruled p (figures_after p f r e))
+  module _ (e : Event) (z : refusal_of p f r e ≡ Ok tt) (R' : Ruled p (figures_after p f r e))
       (who : (after_of pr p s e).head.running ≡ running_of p (figures_after p f r e)) where
     abbrev g : Figures
     g = figures_after p f r e
@@ -278,7 +279,7 @@ module _ {pr : Protocol} {p : Plan} {s : State} (F : Follows pr p s) where
 
   follow_by : (e : Event) (t : Tested) → refusal_of p f r e ≡ t → Follows pr p (answered t s (after_of pr p s e) (lazy_call w e)).state
   unfolding answered after_of
-  follow_by e Tested.Passed z =
+  follow_by e (Ok _) z =
       let R' : Ruled p (figures_after p f r e) = rw F.running (ruled_kept O R e (same_test e ∙ z)) in
       let who : (after_of pr p s e).head.running ≡ running_of p (figures_after p f r e) = who_after e z R' in
       record {
@@ -288,12 +289,12 @@ module _ {pr : Protocol} {p : Plan} {s : State} (F : Follows pr p s) where
         covers = covers_after e z R' who;
         at_most = most_after e z R' who;
       }
-  follow_by e (Tested.Refused why) z = F
+  follow_by e (Err why) z = F
 
   figures_by : (e : Event) (t : Tested) → figures_of (answered t s (after_of pr p s e) (lazy_call w e)).state ≡ settle t (figures_after p f r e) f
   unfolding settle answered after_of
-  figures_by e Tested.Passed = refl
-  figures_by e (Tested.Refused why) = refl
+  figures_by e (Ok _) = refl
+  figures_by e (Err why) = refl
 
   pub follow_one : (e : Event) → Follows pr p (step_of pr p s e).state
   unfolding act_of

@@ -1,4 +1,6 @@
 -- The history of a list by the eager scheduler alone: each event is accepted, and moves the figures, or it changes nothing. Assumes nothing.
+use Rattle.std.specs.Prelude.{Ok, Err}
+use Rattle.rules.specs.Numbers.Verdict.{Tested}
 use mathlib.Core.Path.{◌≡◌, refl, sym, ◌∙◌, ap, subst}
 use mathlib.Core.Bool.{true, false}
 use mathlib.Core.List.{List}
@@ -14,21 +16,20 @@ use Rattle.rules.specs.Numbers.Answer.{passes}
 use Rattle.rules.specs.Demands.History.{event_at, eager_at, runner_at, accepted_at, eager_count}
 use Rattle.rules.specs.Demands.Job.{Accepted}
 use Rattle.rules.specs.declared.plan.Plan.{Plan}
-use Rattle.rules.specs.declared.answer.Tested.{Tested}
 use Rattle.rules.specs.declared.event.Event.{Event}
 use Rattle.rules.proofs.Numbers.Choice.{by_test, untrue}
 use Rattle.rules.proofs.Numbers.Order.{passes_so}
 use Rattle.rules.proofs.Schedulers.Passed.{Allowed, passed_room, allowed}
 use Rattle.rules.proofs.Schedulers.FiguresKept.{accepted_moved, calls_moved}
 
-step_passed : (p : Plan) (f : Figures) (e : Event) → eager_test p f e ≡ Tested.Passed → eager_step p f e ≡ figures_after p f (running_of p f) e
+step_passed : (p : Plan) (f : Figures) (e : Event) → eager_test p f e ≡ Ok tt → eager_step p f e ≡ figures_after p f (running_of p f) e
 unfolding eager_step settle
 step_passed p f e z = ap (λ t. settle t (figures_after p f (running_of p f) e) f) z
 
 refused_still : (t : Tested) (g f : Figures) → passes t ≡ false → settle t g f ≡ f
 unfolding settle passes
-refused_still Tested.Passed g f h = untrue h
-refused_still (Tested.Refused why) g f h = refl
+refused_still (Ok _) g f h = untrue h
+refused_still (Err why) g f h = refl
 
 step_refused : (p : Plan) (f : Figures) (e : Event) → passes (eager_test p f e) ≡ false → eager_step p f e ≡ f
 unfolding eager_step
@@ -39,11 +40,11 @@ step_calls : (p : Plan) (f : Figures) (e : Event) (t : Tested)
     → (settle t (figures_after p f (running_of p f) e) f).eager
     ≡ f.eager + (when passes t then eager_calls p f (settle t (figures_after p f (running_of p f) e) f) (running_of p f) e else 0)
 unfolding settle passes when◌then◌else◌
-step_calls p f e Tested.Passed = calls_moved p f (running_of p f) e
-step_calls p f e (Tested.Refused why) = omega arith
+step_calls p f e (Ok _) = calls_moved p f (running_of p f) e
+step_calls p f e (Err why) = omega arith
 
 module _ (p : Plan) (es : List Event) where
-  pub passed_at : (k : ℕ) → accepted_at p es k ≡ true → eager_test p (eager_at p es k) (event_at es k) ≡ Tested.Passed
+  pub passed_at : (k : ℕ) → accepted_at p es k ≡ true → eager_test p (eager_at p es k) (event_at es k) ≡ Ok tt
   unfolding accepted_at
   passed_at k a = passes_so (eager_test p (eager_at p es k) (event_at es k)) a
 

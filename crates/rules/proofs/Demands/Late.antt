@@ -1,4 +1,6 @@
 -- The delay of a task never passes the units of the section that holds it up, nor the bound. Assumes nothing.
+use Rattle.std.specs.Prelude.{Ok, Err}
+use Rattle.rules.specs.Numbers.Verdict.{Tested}
 use mathlib.Core.Path.{◌≡◌, refl, sym, ◌∙◌, ap, ap₂, subst, subst₂}
 use mathlib.Core.Logic.{◌≢◌, ◌⊎◌, inl, inr, ⊎_elim}
 use mathlib.Core.Bool.{true}
@@ -14,7 +16,6 @@ use Rattle.rules.specs.Schedulers.FiguresAfter.{figures_after}
 use Rattle.rules.specs.Schedulers.Eager.{running_of, settle, eager_test, eager_step}
 use Rattle.rules.specs.Demands.Bound.{may_block, limit_if, longest_limit, bound_of}
 use Rattle.rules.specs.declared.plan.Plan.{Plan}
-use Rattle.rules.specs.declared.answer.Tested.{Tested}
 use Rattle.rules.specs.declared.event.Event.{Event}
 use Rattle.rules.specs.declared.event.Event.TheVariants.{Release, Acquire, Unlock, Work, Finish, Tick}
 use Rattle.rules.proofs.Numbers.Choice.{by_test, at_or}
@@ -254,10 +255,10 @@ module _ {p : Plan} (O : Obeys p) {f : Figures} (R : Ruled p f) where
     late_kept Finish o = late_finish o
     late_kept Tick o = late_tick
 
-  late_settled : Late p f → (t : Tested) (g : Figures) → (t ≡ Tested.Passed → Late p g) → Late p (settle t g f)
+  late_settled : Late p f → (t : Tested) (g : Figures) → (t ≡ Ok tt → Late p g) → Late p (settle t g f)
   unfolding settle
-  late_settled L Tested.Passed g h = h refl
-  late_settled L (Tested.Refused why) g h = L
+  late_settled L (Ok _) g h = h refl
+  late_settled L (Err why) g h = L
 
   pub late_step : Late p f → (e : Event) → Late p (eager_step p f e)
   unfolding eager_step eager_test

@@ -1,4 +1,6 @@
 -- The replay of every book keeps demands 2 and 3. Assumes nothing.
+use Rattle.std.specs.Prelude.{Ok, Err}
+use Rattle.rules.specs.Numbers.Verdict.{Verdict}
 use mathlib.Core.Path.{◌≡◌, refl, sym, ◌∙◌, ap, subst}
 use mathlib.Core.Logic.{⊎_elim}
 use mathlib.Core.Bool.{true}
@@ -27,7 +29,6 @@ use Rattle.rules.specs.declared.plan.Plan.{Plan}
 use Rattle.rules.specs.declared.protocol.Protocol.{Protocol}
 use Rattle.rules.specs.declared.protocol.Protocol.TheVariants.{Second, First}
 use Rattle.rules.specs.declared.state.State.{State}
-use Rattle.rules.specs.declared.answer.Verdict.{Verdict}
 use Rattle.rules.specs.declared.refusal.Refusal.TheVariants.{ShortRows}
 use Rattle.rules.specs.declared.event.Event.{Event}
 use Rattle.rules.proofs.Numbers.Choice.{lt_or_le}
@@ -42,7 +43,7 @@ use Rattle.rules.proofs.Demands.Running.{ran_up_to}
 use Rattle.rules.proofs.Demands.WorstRun.{worst_few, worst_recorded, worst_reaches}
 
 module _ (b rows : List ℕ) where
-  module _ (passed : check_of b (length rows) ≡ Verdict.Passed) where
+  module _ (passed : check_of b (length rows) ≡ Ok tt) where
     rows_fit : length (events_of b) * 4 ≤ length rows
     unfolding event_checks check_for number_of when◌then◌else◌
     rows_fit = omega (
@@ -56,7 +57,7 @@ module _ (b rows : List ℕ) where
     replay_runs pr = ap (λ v. replay_as pr v (plan_in b) (events_of b) rows) passed
 
 -- the book of the list that reaches the bound
-book_reaches : (pr : Protocol) (b : List ℕ) (room : ℕ) → check_of b room ≡ Verdict.Passed → Obeys (plan_in b) → (t : ℕ) → t < (plan_in b).tasks → BookReaches pr b t
+book_reaches : (pr : Protocol) (b : List ℕ) (room : ℕ) → check_of b room ≡ Ok tt → Obeys (plan_in b) → (t : ℕ) → t < (plan_in b).tasks → BookReaches pr b t
 book_reaches pr b room passed O t h =
     let es : List Event = worst_case (plan_in b) t in
     let few : length es ≤ max_events = omega (arith, worst_few O t h) in
@@ -67,7 +68,7 @@ book_reaches pr b room passed O t h =
       bytes = bytes_with b es (worst_recorded O t h) room passed few;
       replay = λ rows fits.
           let fit : length es * 4 ≤ length rows = rw same at fits in
-          let accepted : check_of (with_events b es) (length rows) ≡ Verdict.Passed = accepted_with_lem b es (worst_recorded O t h) room passed few
+          let accepted : check_of (with_events b es) (length rows) ≡ Ok tt = accepted_with_lem b es (worst_recorded O t h) room passed few
           (length rows) fit in
           rw (replay_runs (with_events b es) rows accepted pr, same, plan_same b es) (worst_reaches O t h pr rows fit);
     }
@@ -86,8 +87,8 @@ replayed pr b rows = record {
 -- where nothing is refused the place is 0
 no_place : (v : Verdict) → verdict_number v ≡ 0 → verdict_place v ≡ 0
 unfolding verdict_number verdict_place
-no_place Verdict.Passed e = refl
-no_place (Verdict.Refused why place) e = absurd (omega (arith, (numbered why).0, e))
+no_place (Ok _) e = refl
+no_place (Err f) e = absurd (omega (arith, (numbered f.why).0, e))
 
 -- a run stops at no event that is accepted
 stops : (pr : Protocol) (p : Plan) (es : List Event) (rows : List ℕ) (ran : Ran) (a : ℕ) → RanUpTo pr p es rows ran a → a < length es
@@ -137,8 +138,8 @@ module _ {p : Plan} (O : Obeys p) (es : List Event) (rows : List ℕ) (x y : Ran
 refused_alike : (v : Verdict) (p : Plan) (es : List Event) (rows : List ℕ) → 0 < verdict_number v
     → Compared (replay_as First v p es rows) (replay_as Second v p es rows)
 unfolding replay_as verdict_number
-refused_alike Verdict.Passed p es rows h = absurd (omega arith)
-refused_alike (Verdict.Refused why place) p es rows h =
+refused_alike (Ok _) p es rows h = absurd (omega arith)
+refused_alike (Err f) p es rows h =
     record { number = refl; place = refl; figures = refl; running = refl; fewer = omega arith; fair = omega arith }
 
 pub both_replayed : (b rows : List ℕ) → BothReplayed b rows

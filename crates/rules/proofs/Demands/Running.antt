@@ -1,4 +1,6 @@
 -- The run of a list from a fresh start: its rows, its verdict and its state keep demands 2 and 3. Assumes nothing.
+use Rattle.std.specs.Prelude.{Ok, Err}
+use Rattle.rules.specs.Numbers.Verdict.{Answer, refused_at}
 use mathlib.Core.Path.{◌≡◌, refl, sym, ◌∙◌, ap, subst}
 use mathlib.Core.Logic.{◌≢◌, ⊎_elim}
 use mathlib.Core.Bool.{Bool, true}
@@ -24,8 +26,6 @@ use Rattle.rules.specs.declared.plan.Plan.{Plan}
 use Rattle.rules.specs.declared.protocol.Protocol.{Protocol}
 use Rattle.rules.specs.declared.state.Head.{Head}
 use Rattle.rules.specs.declared.state.State.{State}
-use Rattle.rules.specs.declared.answer.Answer.{Answer}
-use Rattle.rules.specs.declared.answer.Verdict.{Verdict}
 use Rattle.rules.specs.declared.refusal.Refusal.{Refusal}
 use Rattle.rules.specs.declared.event.Event.{Event}
 use Rattle.rules.specs.declared.event.Event.TheVariants.{Tick}
@@ -55,12 +55,12 @@ record Ends (pr : Protocol) (p : Plan) (es : List Event) (rows : List ℕ) (ran 
   within : a ≤ length es
   so_far : SoFar pr p es rows a ran.rows
   state : ran.state ≡ lazy_at pr p es a
-  passed : a ≡ length es → ran.verdict ≡ Verdict.Passed
+  passed : a ≡ length es → ran.verdict ≡ Ok tt
   refused : a < length es
-      → (why : Refusal) × (ran.verdict ≡ Verdict.Refused why a) × ((step_of pr p (lazy_at pr p es a) (event_at es a)).answer ≡ Answer.Refused why)
+      → (why : Refusal) × (ran.verdict ≡ refused_at why a) × ((step_of pr p (lazy_at pr p es a) (event_at es a)).answer ≡ Err why)
 
 module _ (pr : Protocol) {p : Plan} (O : Obeys p) (es : List Event) (rows : List ℕ) (room : length es * 4 ≤ length rows) where
-  accepts_at : (k : ℕ) → accepted_at p es k ≡ true → (call : Bool) × ((step_of pr p (lazy_at pr p es k) (event_at es k)).answer ≡ Answer.Accepted call)
+  accepts_at : (k : ℕ) → accepted_at p es k ≡ true → (call : Bool) × ((step_of pr p (lazy_at pr p es k) (event_at es k)).answer ≡ Ok call)
   accepts_at k a = (
     lazy_call (words_of (lazy_at pr p es k)) (event_at es k),
     step_accepts (follows pr O es k).sound (event_at es k)
@@ -68,7 +68,7 @@ module _ (pr : Protocol) {p : Plan} (O : Obeys p) (es : List Event) (rows : List
   )
 
   -- an accepted event
-  module _ (k : ℕ) (h : k < length es) (call : Bool) (said : (step_of pr p (lazy_at pr p es k) (event_at es k)).answer ≡ Answer.Accepted call) where
+  module _ (k : ℕ) (h : k < length es) (call : Bool) (said : (step_of pr p (lazy_at pr p es k) (event_at es k)).answer ≡ Ok call) where
     accepted_here : accepted_at p es k ≡ true
     unfolding accepted_at passes
     accepted_here = ap passes (same_tests pr O es k ∙ (step_call (follows pr O es k).sound (event_at es k) call said).0)
@@ -134,8 +134,8 @@ module _ (pr : Protocol) {p : Plan} (O : Obeys p) (es : List Event) (rows : List
     where
       go : (answer : Answer) → (step_of pr p (lazy_at pr p es k) (event_at es k)).answer ≡ answer
           → (a : ℕ) × Ends pr p es rows (onward answer (step_of pr p (lazy_at pr p es k) (event_at es k)).state k xs (run_from pr p rest (suc k))) a
-      go (Answer.Accepted call) e = on (with_row xs k (lazy_at pr p es (suc k)).head call) (further k h call e xs S)
-      go (Answer.Refused why) e = (
+      go (Ok call) e = on (with_row xs k (lazy_at pr p es (suc k)).head call) (further k h call e xs S)
+      go (Err why) e = (
         k,
         record {
           within = omega arith;

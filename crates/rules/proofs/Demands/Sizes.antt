@@ -1,5 +1,8 @@
 -- How large a figure of a replay can be: a refusal's place, a row, a count of calls and a delay. Assumes nothing.
-use mathlib.Core.Path.{◌≡◌, refl, sym, ◌∙◌}
+use Rattle.std.specs.Prelude.{Ok, Err}
+use Rattle.rules.specs.Numbers.Answer.{verdict_place}
+use Rattle.rules.specs.Numbers.Verdict.{Verdict, refused_at}
+use mathlib.Core.Path.{◌≡◌, refl, sym, ◌∙◌, ap}
 use mathlib.Core.Logic.{◌≢◌}
 use mathlib.Core.Bool.{false}
 use mathlib.Core.List.{List, [], ◌∷◌, ◌++◌}
@@ -24,7 +27,6 @@ use Rattle.rules.specs.declared.plan.Plan.{Plan}
 use Rattle.rules.specs.declared.protocol.Protocol.{Protocol}
 use Rattle.rules.specs.declared.refusal.Refusal.{Refusal}
 use Rattle.rules.specs.declared.refusal.Refusal.TheVariants.{WrongCount}
-use Rattle.rules.specs.declared.answer.Verdict.{Verdict}
 use Rattle.rules.specs.declared.event.Event.{Event}
 use Rattle.rules.specs.declared.event.Event.TheVariants.{Release, Acquire, Unlock, Work, Finish, Tick}
 use Rattle.rules.proofs.Numbers.Choice.{by_test, either, or_false}
@@ -42,13 +44,14 @@ Within : ℕ → List Check → Type 0
 Within n [] = Unit {0}
 Within n (c ∷ cs) = (c.first + c.count ≤ n) × Within n cs
 
-same_place : (a b : Refusal) (i j : ℕ) → Verdict.Refused a i ≡ Verdict.Refused b j → i ≡ j
-same_place a b i j e = cc
+same_place : (a b : Refusal) (i j : ℕ) → refused_at a i ≡ refused_at b j → i ≡ j
+unfolding verdict_place
+same_place a b i j e = ap verdict_place e
 
 abbrev first_of : Check → ℕ
 first_of c = first_from c.fault 0 c.count
 
-place_within : (n : ℕ) (cs : List Check) → Within n cs → (why : Refusal) (place : ℕ) → first_fault cs ≡ Verdict.Refused why place → place < n
+place_within : (n : ℕ) (cs : List Check) → Within n cs → (why : Refusal) (place : ℕ) → first_fault cs ≡ refused_at why place → place < n
 unfolding Within
 place_within n [] w why place e = refused_not why place (sym e ∙ check_none)
 place_within n (c ∷ cs) w why place e = by_test (ltb (first_of c) c.count)
@@ -57,7 +60,7 @@ place_within n (c ∷ cs) w why place e = by_test (ltb (first_of c) c.count)
     (λ t. place_within n cs w.1 why place (sym (check_passes c cs (first_of c) refl (ltb-false _ _ t)) ∙ e))
 
 -- a book whose contents pass has no more records of a kind than a book may have
-module _ (b : List ℕ) (passed : first_fault (contents_checks b) ≡ Verdict.Passed) where
+module _ (b : List ℕ) (passed : first_fault (contents_checks b) ≡ Ok tt) where
   in_range : (e : ℕ) → e < 4 → count_fault e (count_at b e) ≡ false
   unfolding contents_checks check_for number_of when◌then◌else◌
   in_range = clean_for (contents_checks b) passed WrongCount
@@ -84,7 +87,7 @@ module _ (b : List ℕ) (passed : first_fault (contents_checks b) ≡ Verdict.Pa
       (omega arith, (omega arith, (omega arith, (omega arith, (omega arith, (omega arith, (omega arith, (omega arith, tt))))))))
 
 -- every place is below the most events that a book may have
-pub place_few : (b : List ℕ) (room : ℕ) (why : Refusal) (place : ℕ) → check_of b room ≡ Verdict.Refused why place → place < max_events
+pub place_few : (b : List ℕ) (room : ℕ) (why : Refusal) (place : ℕ) → check_of b room ≡ refused_at why place → place < max_events
 unfolding check_of
 place_few b room why place e = go (first_fault (contents_checks b)) refl
   where
@@ -95,10 +98,10 @@ place_few b room why place e = go (first_fault (contents_checks b)) refl
     contents_within = unfold Within contents_checks in (omega arith, (omega arith, (omega arith, tt)))
 
     go : (v : Verdict) → first_fault (contents_checks b) ≡ v → place < max_events
-    go Verdict.Passed q = place_within max_events later (later_within b q room) why place (sym (check_right (contents_checks b) later q) ∙ e)
-    go (Verdict.Refused w i) q =
+    go (Ok _) q = place_within max_events later (later_within b q room) why place (sym (check_right (contents_checks b) later q) ∙ e)
+    go (Err f) q =
         place_within max_events (contents_checks b) contents_within why place
-        (q ∙ sym (check_left (contents_checks b) later w i q) ∙ e)
+        (q ∙ sym (check_left (contents_checks b) later f.why f.place q) ∙ e)
 
 -- ---- the numbers of a row
 

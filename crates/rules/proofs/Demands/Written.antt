@@ -1,4 +1,6 @@
 -- What is promised of the writer holds. Assumes nothing.
+use Rattle.std.specs.Prelude.{Ok, Err}
+use Rattle.rules.specs.Numbers.Verdict.{Verdict, refused_at}
 use mathlib.Core.Path.{◌≡◌, refl, sym, ◌∙◌, ap, subst}
 use mathlib.Core.List.{List, [], ◌∷◌, ◌++◌}
 use Prim.Native.Nat.{ℕ, ◌+◌, ◌*◌, ◌-◌, ◌≤◌, ◌<◌}
@@ -16,7 +18,6 @@ use Rattle.rules.specs.Books.Book.{count_check, tasks_of, locks_of, uses_of, eve
 use Rattle.rules.specs.Books.Bytes.{book_of, Bytes}
 use Rattle.rules.specs.Books.Write.{counts_of, whole_checks, write_checks, Wrote, wrote_as, write_of}
 use Rattle.rules.specs.Demands.Written.{book_in, ReadsAs, RefusesAs, WrittenAs, WrittenBack, Writing}
-use Rattle.rules.specs.declared.answer.Verdict.{Verdict}
 use Rattle.rules.specs.declared.refusal.Refusal.{Refusal}
 use Rattle.rules.specs.declared.refusal.Refusal.TheVariants.{ShortBuffer}
 use Rattle.rules.proofs.Numbers.Checks.{check_none, clean_passes, clean_for, check_finds, check_left, check_right, passed_both}
@@ -30,8 +31,8 @@ use Rattle.rules.proofs.Demands.Demand1.{demand1}
 
 verdict_as : (v : Verdict) (b buffer : List ℕ) → (wrote_as v b buffer).verdict ≡ v
 unfolding wrote_as
-verdict_as Verdict.Passed b buffer = refl
-verdict_as (Verdict.Refused why place) b buffer = refl
+verdict_as (Ok _) b buffer = refl
+verdict_as (Err f) b buffer = refl
 
 module _ (tasks locks uses events : List ℕ) where
   abbrev b : List ℕ
@@ -43,32 +44,32 @@ module _ (tasks locks uses events : List ℕ) where
   -- ---- the reader, with row space enough, and the writer both say what is said of the records
 
   module _ (room : ℕ) where
-    read_refused : (why : Refusal) (place : ℕ) → whole ≡ Verdict.Refused why place → check_of b room ≡ Verdict.Refused why place
+    read_refused : (why : Refusal) (place : ℕ) → whole ≡ refused_at why place → check_of b room ≡ refused_at why place
     read_refused why place e = check_back tasks locks uses events room ∙ check_left (whole_checks tasks locks uses events) _ why place e
 
-    read_passed : length events * 4 ≤ room → whole ≡ Verdict.Passed → check_of b room ≡ Verdict.Passed
+    read_passed : length events * 4 ≤ room → whole ≡ Ok tt → check_of b room ≡ Ok tt
     read_passed fits e = check_back tasks locks uses events room ∙ check_right (whole_checks tasks locks uses events) _ e
         ∙ clean_passes _ _ (λ i h. le-ltb room (length events * 4) fits) ∙ check_none
 
-    passed_whole : check_of b room ≡ Verdict.Passed → whole ≡ Verdict.Passed
+    passed_whole : check_of b room ≡ Ok tt → whole ≡ Ok tt
     passed_whole e = (passed_both (whole_checks tasks locks uses events) _ (sym (check_back tasks locks uses events room) ∙ e)).0
 
-    write_refused : (why : Refusal) (place : ℕ) → whole ≡ Verdict.Refused why place
-        → first_fault (write_checks tasks locks uses events room) ≡ Verdict.Refused why place
+    write_refused : (why : Refusal) (place : ℕ) → whole ≡ refused_at why place
+        → first_fault (write_checks tasks locks uses events room) ≡ refused_at why place
     unfolding write_checks
     write_refused why place e = check_left (whole_checks tasks locks uses events) _ why place e
 
-    write_short : whole ≡ Verdict.Passed → room < length b → first_fault (write_checks tasks locks uses events room) ≡ Verdict.Refused ShortBuffer 0
+    write_short : whole ≡ Ok tt → room < length b → first_fault (write_checks tasks locks uses events room) ≡ refused_at ShortBuffer 0
     unfolding write_checks
     write_short e h = check_right (whole_checks tasks locks uses events) _ e
         ∙ check_finds _ _ 0 (one_finds (ltb room (length b)) (lt-ltb room (length b) h)) (omega arith)
 
-    write_passes : whole ≡ Verdict.Passed → length b ≤ room → first_fault (write_checks tasks locks uses events room) ≡ Verdict.Passed
+    write_passes : whole ≡ Ok tt → length b ≤ room → first_fault (write_checks tasks locks uses events room) ≡ Ok tt
     unfolding write_checks
     write_passes e h = check_right (whole_checks tasks locks uses events) _ e ∙ clean_passes _ _ (λ i _. le-ltb room (length b) h) ∙ check_none
 
     -- where the writer writes, the records pass and there is room
-    wrote_passed : first_fault (write_checks tasks locks uses events room) ≡ Verdict.Passed → (whole ≡ Verdict.Passed) × (length b ≤ room)
+    wrote_passed : first_fault (write_checks tasks locks uses events room) ≡ Ok tt → (whole ≡ Ok tt) × (length b ≤ room)
     unfolding write_checks check_for number_of when◌then◌else◌
     wrote_passed e =
         let (x, y) = passed_both (whole_checks tasks locks uses events) _ e in
@@ -76,10 +77,10 @@ module _ (tasks locks uses events : List ℕ) where
 
   -- ---- the book reads as the records
 
-  reads_as : whole ≡ Verdict.Passed → ReadsAs tasks locks uses events b
+  reads_as : whole ≡ Ok tt → ReadsAs tasks locks uses events b
   unfolding checked_as verdict_number whole_checks
   reads_as e =
-      let loads : first_fault (load_checks tasks locks uses) ≡ Verdict.Passed = (passed_both (load_checks tasks locks uses) _
+      let loads : first_fault (load_checks tasks locks uses) ≡ Ok tt = (passed_both (load_checks tasks locks uses) _
       (passed_both (count_check (counts_of tasks locks uses events) ∷ []) _ e).1).0 in
       record {
         accepted = λ room fits. ap (λ v. verdict_number (checked_as v b).verdict) (read_passed room fits e);
@@ -104,7 +105,7 @@ module _ (tasks locks uses events : List ℕ) where
     verdict_is = verdict_as (first_fault (write_checks tasks locks uses events (length buffer))) b buffer
 
     module _ (e : verdict_number w.verdict ≡ 0) where
-      passes : first_fault (write_checks tasks locks uses events (length buffer)) ≡ Verdict.Passed
+      passes : first_fault (write_checks tasks locks uses events (length buffer)) ≡ Ok tt
       passes = none_refused_at _ (ap verdict_number (sym verdict_is) ∙ e)
 
       length_is : w.length ≡ length b
@@ -121,17 +122,17 @@ module _ (tasks locks uses events : List ℕ) where
     same_refusal room fits h = go whole refl
       where
         go : (v : Verdict) → whole ≡ v → w.verdict ≡ check_of b room
-        go Verdict.Passed e = absurd (omega (arith, h, ap verdict_number (read_passed room fits e)))
-        go (Verdict.Refused why place) e = verdict_is ∙ write_refused (length buffer) why place e ∙ sym (read_refused room why place e)
+        go (Ok _) e = absurd (omega (arith, h, ap verdict_number (read_passed room fits e)))
+        go (Err f) e = verdict_is ∙ write_refused (length buffer) f.why f.place e ∙ sym (read_refused room f.why f.place e)
 
     module _ (room : ℕ) (e : verdict_number (check_of b room) ≡ 0) where
-      records_pass : whole ≡ Verdict.Passed
+      records_pass : whole ≡ Ok tt
       records_pass = passed_whole room (none_refused_at (check_of b room) e)
 
-      short : length buffer < length b → w.verdict ≡ Verdict.Refused ShortBuffer 0
+      short : length buffer < length b → w.verdict ≡ refused_at ShortBuffer 0
       short h = verdict_is ∙ write_short (length buffer) records_pass h
 
-      enough : length b ≤ length buffer → w.verdict ≡ Verdict.Passed
+      enough : length b ≤ length buffer → w.verdict ≡ Ok tt
       enough h = verdict_is ∙ write_passes (length buffer) records_pass h
 
     refuses_as : RefusesAs tasks locks uses events buffer w
@@ -149,24 +150,24 @@ module _ (tasks locks uses events : List ℕ) where
     stays = go (first_fault (write_checks tasks locks uses events (length buffer)))
       where
         go : (v : Verdict) (i : ℕ) → (wrote_as v b buffer).length ≤ i → at (wrote_as v b buffer).bytes i ≡ at buffer i
-        go Verdict.Passed i h =
+        go (Ok _) i h =
             let e : i ≡ length b + (i - length b) = omega (arith, h) in
             ap (at (b ++ drop (length b) buffer)) e ∙ get_or-append-add b (drop (length b) buffer) (i - length b) 0
             ∙ get_or-drop (length b) buffer (i - length b) 0 ∙ ap (at buffer) (sym e)
-        go (Verdict.Refused why place) i h = refl
+        go (Err f) i h = refl
 
     sized : length w.bytes ≡ length buffer
     unfolding write_of wrote_as
     sized = go (first_fault (write_checks tasks locks uses events (length buffer))) refl
       where
         go : (v : Verdict) → first_fault (write_checks tasks locks uses events (length buffer)) ≡ v → length (wrote_as v b buffer).bytes ≡ length buffer
-        go Verdict.Passed e = omega (
+        go (Ok _) e = omega (
           arith,
           length-append b (drop (length b) buffer),
           length-drop (length b) buffer,
           (wrote_passed (length buffer) e).1,
         )
-        go (Verdict.Refused why place) e = refl
+        go (Err f) e = refl
 
     written_as : WrittenAs tasks locks uses events buffer w
     written_as = record {
@@ -185,7 +186,7 @@ module _ (c : List ℕ) (room : ℕ) (buffer : List ℕ) (of-bytes : Bytes c) (e
   again : book_of (tasks_of c) (locks_of c) (uses_of c) (event_numbers_of c) ≡ c
   again = book_again c of-bytes (passed_contents c room (none_refused_at (check_of c room) e))
 
-  written : (write_of (tasks_of c) (locks_of c) (uses_of c) (event_numbers_of c) buffer).verdict ≡ Verdict.Passed
+  written : (write_of (tasks_of c) (locks_of c) (uses_of c) (event_numbers_of c) buffer).verdict ≡ Ok tt
   written = enough (tasks_of c) (locks_of c) (uses_of c) (event_numbers_of c) buffer room (rw again e) (rw again h)
 
   written_back : WrittenBack c (write_of (tasks_of c) (locks_of c) (uses_of c) (event_numbers_of c) buffer)

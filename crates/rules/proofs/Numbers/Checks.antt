@@ -1,4 +1,6 @@
 -- Checks in order, each by the name of its refusal: what the first that finds an offender says, and what is known where none does. Assumes nothing.
+use Rattle.std.specs.Prelude.{Ok, Err}
+use Rattle.rules.specs.Numbers.Verdict.{Verdict, refused_at}
 use mathlib.Core.Path.{◌≡◌, refl, sym, ◌∙◌, ap, ap₂}
 use mathlib.Core.Logic.{◌↔◌, ⊎_elim}
 use mathlib.Core.Bool.{Bool, true, false, not}
@@ -11,7 +13,7 @@ use Rattle.rules.specs.Numbers.Place.{first_from}
 use Rattle.rules.specs.Numbers.Refusal.{number_of, same_number, Check, found, first_fault, check_for, checks_before, GivenAt, FirstOffender, Offended}
 use Rattle.rules.specs.Numbers.Answer.{verdict_number, verdict_place}
 use Rattle.rules.specs.declared.refusal.Refusal.{Refusal}
-use Rattle.rules.specs.declared.answer.Verdict.{Verdict}
+use Rattle.rules.specs.declared.answer.Fault.{Fault}
 use Rattle.rules.proofs.Numbers.Choice.{if_true, if_false, by_test, either, untrue, and_true, or_false, lt_or_le}
 use Rattle.rules.proofs.Numbers.Place.{first_same, first_stop, first_on, first_none, first_hit, first_before, first_is}
 use Rattle.rules.proofs.Numbers.Order.{among, once}
@@ -24,13 +26,15 @@ Clean c = (i : ℕ) → i < c.count → c.fault i ≡ false
 abbrev pub of_check : Check → Refusal
 of_check c = c.refusal
 
-pub refused_not : {P : Type 0} (why : Refusal) (place : ℕ) → Verdict.Refused why place ≡ Verdict.Passed → P
+pub refused_not : {P : Type 0} (why : Refusal) (place : ℕ) → refused_at why place ≡ Ok tt → P
 refused_not why place e = let z : ◌≡◌ {A = ℕ} 0 1 = cc in absurd (omega arith)
 
-same_refused : (a b : Refusal) (i j : ℕ) → Verdict.Refused a i ≡ Verdict.Refused b j → (a ≡ b) × (i ≡ j)
-same_refused a b i j e = (cc, cc)
+same_refused : (a b : Refusal) (i j : ℕ) → refused_at a i ≡ refused_at b j → (a ≡ b) × (i ≡ j)
+same_refused a b i j e =
+    let same : ◌≡◌ {A = Fault} (record { why = a; place = i }) (record { why = b; place = j }) = cc in
+    (ap (λ (f : Fault). f.why) same, ap (λ (f : Fault). f.place) same)
 
-pub check_none : first_fault [] ≡ Verdict.Passed
+pub check_none : first_fault [] ≡ Ok tt
 unfolding first_fault
 check_none = refl
 
@@ -38,17 +42,17 @@ check_none = refl
 
 -- a check that finds an offender at i refuses, whatever comes after it; one that finds none hands on
 module _ (c : Check) (i : ℕ) where
-  hit : (rest : Verdict) → ltb i c.count ≡ true → found c i rest ≡ Verdict.Refused c.refusal (c.first + i)
+  hit : (rest : Verdict) → ltb i c.count ≡ true → found c i rest ≡ refused_at c.refusal (c.first + i)
   unfolding found
-  hit rest e = if_true (ltb i c.count) (Verdict.Refused c.refusal (c.first + i)) rest e
+  hit rest e = if_true (ltb i c.count) (refused_at c.refusal (c.first + i)) rest e
 
   miss : (rest : Verdict) → ltb i c.count ≡ false → found c i rest ≡ rest
   unfolding found
-  miss rest e = if_false (ltb i c.count) (Verdict.Refused c.refusal (c.first + i)) rest e
+  miss rest e = if_false (ltb i c.count) (refused_at c.refusal (c.first + i)) rest e
 
 -- i is the first offender of the first check
 module _ (c : Check) (cs : List Check) (i : ℕ) (first : i ≡ first_from c.fault 0 c.count) where
-  pub check_finds : i < c.count → first_fault (c ∷ cs) ≡ Verdict.Refused c.refusal (c.first + i)
+  pub check_finds : i < c.count → first_fault (c ∷ cs) ≡ refused_at c.refusal (c.first + i)
   unfolding first_fault
   check_finds h = rw (← first) (hit c i (first_fault cs) (lt-ltb i c.count h))
 
@@ -72,7 +76,7 @@ module _ (c : Check) where
       (lt_or_le place c.count)
 
   module _ (cs : List Check) where
-    pub offender_refuses : {i : ℕ} → FirstOffender c i → first_fault (c ∷ cs) ≡ Verdict.Refused c.refusal (c.first + i)
+    pub offender_refuses : {i : ℕ} → FirstOffender c i → first_fault (c ∷ cs) ≡ refused_at c.refusal (c.first + i)
     offender_refuses {i} F = check_finds c cs i (first_is c.fault c.count i F.within F.offends F.before) F.within
 
     pub clean_passes : Clean c → first_fault (c ∷ cs) ≡ first_fault cs
@@ -87,7 +91,7 @@ module _ (c : Check) where
         (eq-eqb _ _ (ap number_of a ∙ G.number), sym b)
 
     -- where nothing is refused, the first has none
-    passed_first : first_fault (c ∷ cs) ≡ Verdict.Passed → Clean c × (first_fault cs ≡ Verdict.Passed)
+    passed_first : first_fault (c ∷ cs) ≡ Ok tt → Clean c × (first_fault cs ≡ Ok tt)
     passed_first e = clean_or (λ i F. refused_not c.refusal (c.first + i) (sym (offender_refuses F) ∙ e)) (λ C. (C, sym (clean_passes C) ∙ e))
 
 passed_not : {P : Type 0} {why : Refusal} {at : ℕ} → GivenAt why at (first_fault []) → P
@@ -106,7 +110,7 @@ module _ (why : Refusal) (c : Check) (cs : List Check) where
   for_later e = (if_false (same_number c.refusal why) c _ e, if_false (same_number c.refusal why) [] _ e)
 
 -- where nothing is refused, no record of it offends
-pub clean_for : (cs : List Check) → first_fault cs ≡ Verdict.Passed → (why : Refusal) → Clean (check_for why cs)
+pub clean_for : (cs : List Check) → first_fault cs ≡ Ok tt → (why : Refusal) → Clean (check_for why cs)
 unfolding check_for
 clean_for [] e why = λ i l. absurd (omega arith)
 clean_for (c ∷ cs) e why = let (C, r) = passed_first c cs e in either Clean (same_number c.refusal why) c (check_for why cs) C (clean_for cs r why)
@@ -126,7 +130,7 @@ offended_given [] why place F = absurd (omega (arith, F.offender.within))
 offended_given (c ∷ cs) why place F = by_test (same_number c.refusal why)
     (λ e. let (u, v) = for_first why c cs e in record {
       refusal = c.refusal;
-      given = offender_refuses c cs (rw u at F.offender) ∙ ap (Verdict.Refused c.refusal) (sym (F.there ∙ ap (λ (d : Check). d.first + F.index) u));
+      given = offender_refuses c cs (rw u at F.offender) ∙ ap (refused_at c.refusal) (sym (F.there ∙ ap (λ (d : Check). d.first + F.index) u));
       number = eqb-true _ _ e;
     })
     (λ e. let (u, v) = for_later why c cs e in
@@ -172,31 +176,31 @@ unfolding verdict_number verdict_place
 number_given_at verdict why place = (λ (e, q). go verdict e q, λ G. (ap verdict_number G.given ∙ G.number, ap verdict_place G.given))
   where
     go : (v : Verdict) → verdict_number v ≡ number_of why → verdict_place v ≡ place → GivenAt why place v
-    go Verdict.Passed e q = absurd (omega (arith, (numbered why).0))
-    go (Verdict.Refused w i) e q = record { refusal = w; given = ap (Verdict.Refused w) q; number = e }
+    go (Ok _) e q = absurd (omega (arith, (numbered why).0))
+    go (Err f) e q = record { refusal = f.why; given = ap (refused_at f.why) q; number = e }
 
 -- the number 0 is said only where nothing is refused
-pub none_refused_at : (verdict : Verdict) → verdict_number verdict ≡ 0 → verdict ≡ Verdict.Passed
+pub none_refused_at : (verdict : Verdict) → verdict_number verdict ≡ 0 → verdict ≡ Ok tt
 unfolding verdict_number
-none_refused_at Verdict.Passed e = refl
-none_refused_at (Verdict.Refused why place) e = absurd (omega (arith, (numbered why).0))
+none_refused_at (Ok _) e = refl
+none_refused_at (Err f) e = absurd (omega (arith, (numbered f.why).0))
 
 -- ---- checks in two parts
 
 -- a refusal of the first checks stands, and where they find no offender those after them are asked
-pub check_left : (cs ds : List Check) (why : Refusal) (place : ℕ) → first_fault cs ≡ Verdict.Refused why place
-    → first_fault (cs ++ ds) ≡ Verdict.Refused why place
+pub check_left : (cs ds : List Check) (why : Refusal) (place : ℕ) → first_fault cs ≡ refused_at why place
+    → first_fault (cs ++ ds) ≡ refused_at why place
 check_left [] ds why place e = refused_not why place (sym e ∙ check_none)
 check_left (c ∷ cs) ds why place e = clean_or c
     (λ i F. offender_refuses c (cs ++ ds) F ∙ sym (offender_refuses c cs F) ∙ e)
     (λ C. clean_passes c (cs ++ ds) C ∙ check_left cs ds why place (sym (clean_passes c cs C) ∙ e))
 
-pub check_right : (cs ds : List Check) → first_fault cs ≡ Verdict.Passed → first_fault (cs ++ ds) ≡ first_fault ds
+pub check_right : (cs ds : List Check) → first_fault cs ≡ Ok tt → first_fault (cs ++ ds) ≡ first_fault ds
 check_right [] ds e = refl
 check_right (c ∷ cs) ds e = let (C, r) = passed_first c cs e in clean_passes c (cs ++ ds) C ∙ check_right cs ds r
 
 -- where nothing is refused, neither part refuses
-pub passed_both : (cs ds : List Check) → first_fault (cs ++ ds) ≡ Verdict.Passed → (first_fault cs ≡ Verdict.Passed) × (first_fault ds ≡ Verdict.Passed)
+pub passed_both : (cs ds : List Check) → first_fault (cs ++ ds) ≡ Ok tt → (first_fault cs ≡ Ok tt) × (first_fault ds ≡ Ok tt)
 passed_both [] ds e = (check_none, e)
 passed_both (c ∷ cs) ds e =
     let (C, r) = passed_first c (cs ++ ds) e in
@@ -204,13 +208,13 @@ passed_both (c ∷ cs) ds e =
     (clean_passes c cs C ∙ a, b)
 
 -- a check that finds nothing where those before it find nothing may go
-pub spare_check : (cs : List Check) (c : Check) (ds : List Check) → (first_fault cs ≡ Verdict.Passed → Clean c)
+pub spare_check : (cs : List Check) (c : Check) (ds : List Check) → (first_fault cs ≡ Ok tt → Clean c)
     → first_fault (cs ++ c ∷ ds) ≡ first_fault (cs ++ ds)
 spare_check cs c ds h = go (first_fault cs) refl
   where
     go : (v : Verdict) → first_fault cs ≡ v → first_fault (cs ++ c ∷ ds) ≡ first_fault (cs ++ ds)
-    go Verdict.Passed e = check_right cs (c ∷ ds) e ∙ clean_passes c ds (h e) ∙ sym (check_right cs ds e)
-    go (Verdict.Refused why place) e = check_left cs (c ∷ ds) why place e ∙ sym (check_left cs ds why place e)
+    go (Ok _) e = check_right cs (c ∷ ds) e ∙ clean_passes c ds (h e) ∙ sym (check_right cs ds e)
+    go (Err f) e = check_left cs (c ∷ ds) f.why f.place e ∙ sym (check_left cs ds f.why f.place e)
 
 -- checks whose records offend alike, with the same after them
 pub same_faults : (why : Refusal) (first n : ℕ) (f g : ℕ → Bool) (cs ds : List Check) → ((i : ℕ) → i < n → f i ≡ g i) → first_fault cs ≡ first_fault ds

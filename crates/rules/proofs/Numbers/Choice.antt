@@ -7,6 +7,7 @@ use Prim.Native.Nat.{ℕ, ◌≤◌, ◌<◌}
 use native.Mathlib.Decide.{ℕ_discrete, dec_lt}
 use native.Mathlib.Omega.{arith}
 use lib.Dec.{T}
+use mir.Val.{bool_byte}
 use borrow.Author.Tests.{lt-ltb, le-ltb, le-leb, lt-leb, eq-eqb, ne_eqb, not-true, not-false}
 use Rattle.rules.specs.Numbers.Choice.{when◌then◌else◌, all_true}
 
@@ -19,6 +20,12 @@ if_true t a b e = rw e
 pub if_false : {A : Type 0} (t : Bool) (a b : A) → t ≡ false → (when t then a else b) ≡ b
 unfolding when◌then◌else◌
 if_false t a b e = rw e
+
+-- a test as the byte that the code makes of it
+pub byte_when : (t : Bool) → bool_byte t ≡ (when t then 1 else 0)
+unfolding when◌then◌else◌
+byte_when true = refl
+byte_when false = refl
 
 -- what the code answers is what the test chooses
 pub if_yes : {A : Type 0} (t : Bool) (a b r : A) → t ≡ true → r ≡ a → r ≡ (when t then a else b)

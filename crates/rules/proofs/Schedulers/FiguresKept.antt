@@ -1,4 +1,5 @@
 -- What the figures obey holds at a fresh start, and an accepted event keeps it, whichever released task runs. Assumes nothing.
+use Rattle.std.specs.Prelude.{Ok}
 use mathlib.Core.Path.{◌≡◌, refl, sym, ◌∙◌, ap, ap₂, subst}
 use mathlib.Core.Logic.{◌≢◌, ◌⊎◌, inl, inr, ⊎_elim}
 use mathlib.Core.Bool.{true, false, not, ◌&&◌, ◌||◌}
@@ -21,7 +22,6 @@ use Rattle.rules.specs.Schedulers.EventRefusals.{elsewhere, past_limit, refusal_
 use Rattle.rules.specs.Schedulers.FiguresAfter.{differs, eager_calls, stays_open, left_of, charged, delayed, figures_after}
 use Rattle.rules.specs.Soundness.Sound.{SoundFigures}
 use Rattle.rules.specs.declared.plan.Plan.{Plan}
-use Rattle.rules.specs.declared.answer.Tested.{Tested}
 use Rattle.rules.specs.declared.event.Event.{Event}
 use Rattle.rules.specs.declared.event.Event.TheVariants.{Release, Acquire, Unlock, Work, Finish, Tick}
 use Rattle.rules.proofs.Numbers.Choice.{by_test, either, untrue, not_so, true_and, or_false, or_true, at_or, lt_or_le}
@@ -550,5 +550,5 @@ module _ {p : Plan} {f : Figures} (A : Stage p f) where
   keep r out Tick o = keep_tick r
 
 pub figured_kept : {p : Plan} → Obeys p → {f : Figures} → Sized f → SoundFigures p f → (r : ℕ) → (r ≢ nobody → 0 < at f.released r) → (e : Event)
-    → refusal_of p f r e ≡ Tested.Passed → SoundFigures p (figures_after p f r e)
+    → refusal_of p f r e ≡ Ok tt → SoundFigures p (figures_after p f r e)
 figured_kept {p} O {f} Z F r out e z = keep (record { plan = O; sized = Z; figured = F; room = passed_room p f r e z }) r out e (allowed p f r e z)

@@ -1,4 +1,5 @@
 -- What an accepted event has passed, and that the tests it passes accept it. Assumes nothing.
+use Rattle.std.specs.Prelude.{Ok}
 use mathlib.Core.Path.{◌≡◌}
 use mathlib.Core.Logic.{◌≢◌}
 use mathlib.Core.Bool.{true, false, not}
@@ -16,7 +17,6 @@ use Rattle.rules.specs.Schedulers.Figures.{Figures}
 use Rattle.rules.specs.Schedulers.EventRefusals.{elsewhere, not_newest, past_limit, tests_of, release_order, acquire_order}
 use Rattle.rules.specs.Schedulers.EventRefusals.{unlock_order, work_order, finish_order, all_tests, refusal_of}
 use Rattle.rules.specs.declared.plan.Plan.{Plan}
-use Rattle.rules.specs.declared.answer.Tested.{Tested}
 use Rattle.rules.specs.declared.event.Event.{Event}
 use Rattle.rules.specs.declared.event.Event.TheVariants.{Release, Acquire, Unlock, Work, Finish, Tick}
 use Rattle.rules.specs.declared.refusal.Refusal.TheVariants.{Exhausted, NobodyRuns, Unknown, AlreadyReleased, NotDeclared}
@@ -60,11 +60,11 @@ Allowed p f r Tick = Unit {0}
 
 module _ (p : Plan) (f : Figures) (r : ℕ) where
   -- an event is accepted exactly where there is room for it and it passes its tests
-  pub passed_room : (e : Event) → refusal_of p f r e ≡ Tested.Passed → f.accepted < max_accepted
+  pub passed_room : (e : Event) → refusal_of p f r e ≡ Ok tt → f.accepted < max_accepted
   unfolding refusal_of test_for number_of when◌then◌else◌
   passed_room e z = leb-false max_accepted f.accepted (none_holds (all_tests p f r e) z Exhausted)
 
-  pub allowed : (e : Event) → refusal_of p f r e ≡ Tested.Passed → Allowed p f r e
+  pub allowed : (e : Event) → refusal_of p f r e ≡ Ok tt → Allowed p f r e
   unfolding refusal_of tests_of release_order acquire_order unlock_order work_order finish_order not_newest test_for number_of when◌then◌else◌
   allowed (Release t) z =
       let clean = none_holds (all_tests p f r (Release t)) z in
@@ -95,7 +95,7 @@ module _ (p : Plan) (f : Figures) (r : ℕ) where
       record { runs = eqb-false r nobody (clean NobodyRuns); closed = omega (arith, ltb-false 0 (at f.depth r) (clean StillOpen)) }
   allowed Tick z = tt
 
-  pub accepts : (e : Event) → f.accepted < max_accepted → Allowed p f r e → refusal_of p f r e ≡ Tested.Passed
+  pub accepts : (e : Event) → f.accepted < max_accepted → Allowed p f r e → refusal_of p f r e ≡ Ok tt
   unfolding refusal_of tests_of release_order acquire_order unlock_order work_order finish_order not_newest first_true when◌then◌else◌
   accepts (Release t) h o = rw (lt-leb max_accepted f.accepted h, lt-leb p.tasks t o.known, le-ltb 0 (at f.released t) (omega (arith, o.resting)))
   accepts (Acquire l) h o =

@@ -1,5 +1,7 @@
 -- A fresh start is sound, and every accepted step keeps a state sound: so a run from a fresh start never needs the test, and 10 never occurs there. Assumes
 -- nothing.
+use Rattle.std.specs.Prelude.{Ok, Err}
+use Rattle.rules.specs.Numbers.Verdict.{Tested}
 use mathlib.Core.Path.{◌≡◌, refl, sym, ◌∙◌}
 use mathlib.Core.Bool.{Bool}
 use mathlib.Core.List.{List}
@@ -24,7 +26,6 @@ use Rattle.rules.specs.declared.plan.Plan.{Plan}
 use Rattle.rules.specs.declared.protocol.Protocol.{Protocol}
 use Rattle.rules.specs.declared.protocol.Protocol.TheVariants.{Second, First}
 use Rattle.rules.specs.declared.state.State.{State}
-use Rattle.rules.specs.declared.answer.Tested.{Tested}
 use Rattle.rules.specs.declared.event.Event.{Event}
 use Rattle.rules.specs.declared.event.Event.TheVariants.{Release, Acquire, Unlock, Work, Finish, Tick}
 use Rattle.rules.proofs.Numbers.Choice.{if_true, either}
@@ -134,7 +135,7 @@ fresh_sound pr {p} O = record {
 -- ---- an accepted step
 
 module _ {pr : Protocol} {p : Plan} {s : State} (S : SoundAndSized pr p s) where
-  pub after_sound : (e : Event) → refusal_of p (figures_of s) s.head.running e ≡ Tested.Passed → SoundAndSized pr p (after_of pr p s e)
+  pub after_sound : (e : Event) → refusal_of p (figures_of s) s.head.running e ≡ Ok tt → SoundAndSized pr p (after_of pr p s e)
   unfolding after_of
   after_sound e z =
       let r : ℕ = s.head.running in
@@ -152,10 +153,10 @@ module _ {pr : Protocol} {p : Plan} {s : State} (S : SoundAndSized pr p s) where
       }
 
   act_by : (e : Event) (t : Tested) → refusal_of p (figures_of s) s.head.running e ≡ t → (after : State) (call : Bool)
-      → (t ≡ Tested.Passed → SoundAndSized pr p after) → SoundAndSized pr p (answered t s after call).state
+      → (t ≡ Ok tt → SoundAndSized pr p after) → SoundAndSized pr p (answered t s after call).state
   unfolding answered
-  act_by e Tested.Passed z after call h = h refl
-  act_by e (Tested.Refused why) z after call h = S
+  act_by e (Ok _) z after call h = h refl
+  act_by e (Err why) z after call h = S
 
   pub act_sound : (e : Event) → SoundAndSized pr p (act_of pr p s e).state
   unfolding act_of

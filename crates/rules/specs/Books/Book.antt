@@ -1,5 +1,6 @@
 -- RULES 4 and 5.2 to 5.8: the bytes of a book, its contents and its bodies, and refusals 1 to 7, 24, 8 and 9 in order. Assumes nothing.
-use Rattle.std.specs.Prelude.{Bool, not, ◌||◌, List, [], ◌∷◌, ◌++◌, ℕ, zero, suc, ◌+◌, ◌*◌, ◌/◌, eqb, ltb, length, drop}
+use Rattle.std.specs.Prelude.{Bool, not, ◌||◌, List, [], ◌∷◌, ◌++◌, ℕ, zero, suc, ◌+◌, ◌*◌, ◌/◌, eqb, ltb, length, drop, Result, Ok, Err}
+use Rattle.rules.specs.Numbers.Verdict.{Verdict, refused_at}
 use Rattle.rules.specs.Numbers.Capacity.{max_tasks, max_locks, max_uses, max_events}
 use Rattle.rules.specs.Numbers.Choice.{when◌then◌else◌}
 use Rattle.rules.specs.Numbers.Place.{at, tabulate}
@@ -9,9 +10,9 @@ use Rattle.rules.specs.Books.Plan.{count_fault}
 use Rattle.rules.specs.Books.Load.{load_checks, plan_of, blank_plan}
 use Rattle.rules.specs.declared.plan.Plan.{Plan}
 use Rattle.rules.specs.declared.event.Event.{Event}
-use Rattle.rules.specs.declared.answer.Verdict.{Verdict}
 use Rattle.rules.specs.declared.answer.Found.{Found}
-use Rattle.rules.specs.declared.answer.Checked.{Checked}
+use Rattle.rules.specs.declared.answer.Fault.{Fault}
+use Rattle.rules.specs.declared.answer.Opened.{Opened}
 use Rattle.rules.specs.declared.refusal.Refusal.{Refusal}
 use Rattle.rules.specs.declared.refusal.Refusal.TheVariants.{ShortBook, WrongCount, WrongLayout, WrongEvent, ShortRows}
 
@@ -122,16 +123,26 @@ event_checks b room =
 unfoldable pub check_of : List ℕ → ℕ → Verdict
 check_of b room = first_fault (contents_checks b ++ (load_checks (tasks_of b) (locks_of b) (uses_of b) ++ event_checks b room))
 
--- what a book gives: its plan, and the place of its event body; a blank plan and 0 beside a refusal
+-- what the check of a book comes to: what was refused, the book's plan and the place of its event body; a blank plan and 0 beside a refusal
+pub record Checked : Type 0 where
+  pub verdict : Verdict
+  pub plan : Plan
+  pub events : ℕ
+
 abbrev pub passed_check : Plan → ℕ → Checked
-passed_check p events = record { verdict = Verdict.Passed; plan = p; events = events }
+passed_check p events = record { verdict = Ok tt; plan = p; events = events }
 
 abbrev pub refused_check : Refusal → ℕ → Checked
-refused_check why place = record { verdict = Verdict.Refused why place; plan = blank_plan; events = 0 }
+refused_check why place = record { verdict = refused_at why place; plan = blank_plan; events = 0 }
 
 unfoldable pub checked_as : Verdict → List ℕ → Checked
-checked_as Verdict.Passed b = passed_check (plan_in b) (body_at b 3)
-checked_as (Verdict.Refused why place) b = refused_check why place
+checked_as (Ok _) b = passed_check (plan_in b) (body_at b 3)
+checked_as (Err f) b = refused_check f.why f.place
 
 abbrev pub checked_of : List ℕ → ℕ → Checked
 checked_of b room = checked_as (check_of b room) b
+
+-- as the code answers it: what the book gives, or what was refused
+unfoldable pub checked_with : Result Opened Fault → Checked
+checked_with (Ok o) = passed_check o.plan o.events
+checked_with (Err f) = refused_check f.why f.place

@@ -1,6 +1,7 @@
 -- RULES 6.1, 6.2: a plan from its records, one number for a record, low byte first: refusals 2, 4 to 7 and 24 with their places, or the plan.
 -- Assumes nothing.
-use Rattle.std.specs.Prelude.{Bool, ◌&&◌, ◌||◌, List, [], ◌∷◌, ◌++◌, ℕ, zero, suc, ◌+◌, ◌*◌, ◌-◌, ◌/◌, ◌%◌, eqb, leb, ltb, length, set, replicate}
+use Rattle.std.specs.Prelude.{Bool, ◌&&◌, ◌||◌, List, [], ◌∷◌, ◌++◌, ℕ, zero, suc, ◌+◌, ◌*◌, ◌-◌, ◌/◌, ◌%◌, eqb, leb, ltb, length, set, replicate, Result, Ok, Err}
+use Rattle.rules.specs.Numbers.Verdict.{Verdict, refused_at}
 use Rattle.rules.specs.Numbers.Capacity.{max_tasks, max_locks}
 use Rattle.rules.specs.Numbers.Choice.{when◌then◌else◌}
 use Rattle.rules.specs.Numbers.Place.{at, tabulate}
@@ -8,8 +9,7 @@ use Rattle.rules.specs.Numbers.Refusal.{Check, first_fault}
 use Rattle.rules.specs.Numbers.Mask.{with_bit}
 use Rattle.rules.specs.Books.Plan.{count_fault, task_fault, lock_fault, ceiling_fault, maximum_fault}
 use Rattle.rules.specs.declared.plan.Plan.{Plan}
-use Rattle.rules.specs.declared.answer.Verdict.{Verdict}
-use Rattle.rules.specs.declared.answer.Loaded.{Loaded}
+use Rattle.rules.specs.declared.answer.Fault.{Fault}
 use Rattle.rules.specs.declared.refusal.Refusal.{Refusal}
 use Rattle.rules.specs.declared.refusal.Refusal.TheVariants.{WrongCount, WrongTask, WrongLock, WrongUse, WrongCeiling, AboveMaximum}
 
@@ -106,16 +106,25 @@ load_checks tasks locks uses =
     ∷ (record { refusal = AboveMaximum; first = 0; count = length uses; fault = use_above tasks locks uses })
     ∷ []
 
--- the plan where nothing is refused, and the blank plan beside a refusal
+-- what the load of a plan comes to: what was refused, and the plan, which is the blank one beside a refusal
+pub record Loaded : Type 0 where
+  pub verdict : Verdict
+  pub plan : Plan
+
 abbrev pub passed_load : Plan → Loaded
-passed_load p = record { verdict = Verdict.Passed; plan = p }
+passed_load p = record { verdict = Ok tt; plan = p }
 
 abbrev pub refused_load : Refusal → ℕ → Loaded
-refused_load why place = record { verdict = Verdict.Refused why place; plan = blank_plan }
+refused_load why place = record { verdict = refused_at why place; plan = blank_plan }
 
 unfoldable pub loaded_as : Verdict → Plan → Loaded
-loaded_as Verdict.Passed p = passed_load p
-loaded_as (Verdict.Refused why place) p = refused_load why place
+loaded_as (Ok _) p = passed_load p
+loaded_as (Err f) p = refused_load f.why f.place
 
 unfoldable pub load_of : List ℕ → List ℕ → List ℕ → Loaded
 load_of tasks locks uses = loaded_as (first_fault (load_checks tasks locks uses)) (plan_of tasks locks uses)
+
+-- as the code answers it: the plan, or what was refused
+unfoldable pub loaded_with : Result Plan Fault → Loaded
+loaded_with (Ok p) = passed_load p
+loaded_with (Err f) = refused_load f.why f.place

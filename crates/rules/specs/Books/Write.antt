@@ -1,5 +1,6 @@
 -- RULES 6.5, 6.6: a book that is written from its records into a lent buffer: 2, 4 to 7, 24, 8 and 23 in order, or the book's bytes. Assumes nothing.
-use Rattle.std.specs.Prelude.{List, [], ◌∷◌, ◌++◌, ℕ, eqb, ltb, length, drop}
+use Rattle.std.specs.Prelude.{List, [], ◌∷◌, ◌++◌, ℕ, eqb, ltb, length, drop, Result, Ok, Err}
+use Rattle.rules.specs.Numbers.Verdict.{Verdict, refused_at}
 use Rattle.rules.specs.Numbers.Choice.{when◌then◌else◌}
 use Rattle.rules.specs.Numbers.Place.{at}
 use Rattle.rules.specs.Numbers.Refusal.{Check, first_fault}
@@ -7,8 +8,7 @@ use Rattle.rules.specs.Books.Event.{number_fault}
 use Rattle.rules.specs.Books.Load.{load_checks}
 use Rattle.rules.specs.Books.Book.{count_check, event_check}
 use Rattle.rules.specs.Books.Bytes.{book_of}
-use Rattle.rules.specs.declared.answer.Verdict.{Verdict}
-use Rattle.rules.specs.declared.answer.Written.{Written}
+use Rattle.rules.specs.declared.answer.Fault.{Fault}
 use Rattle.rules.specs.declared.refusal.Refusal.TheVariants.{ShortBuffer}
 
 -- how many records entry e has, of n tasks, m locks, u uses and k events
@@ -38,13 +38,14 @@ pub record Wrote : Type 0 where
 
 -- a refusal leaves the buffer as it is, and answers the length 0; else the book stands at its start, and the bytes after the book stay
 unfoldable pub wrote_as : Verdict → List ℕ → List ℕ → Wrote
-wrote_as Verdict.Passed b buffer = record { verdict = Verdict.Passed; length = length b; bytes = b ++ drop (length b) buffer }
-wrote_as (Verdict.Refused why place) b buffer = record { verdict = Verdict.Refused why place; length = 0; bytes = buffer }
+wrote_as (Ok _) b buffer = record { verdict = Ok tt; length = length b; bytes = b ++ drop (length b) buffer }
+wrote_as (Err f) b buffer = record { verdict = Err f; length = 0; bytes = buffer }
 
 unfoldable pub write_of : (tasks locks uses events : List ℕ) → List ℕ → Wrote
 write_of tasks locks uses events buffer =
     wrote_as (first_fault (write_checks tasks locks uses events (length buffer))) (book_of tasks locks uses events) buffer
 
--- what the writer answers, and the buffer as it leaves it
-abbrev pub wrote_with : Written → List ℕ → Wrote
-wrote_with w buffer = record { verdict = w.verdict; length = w.length; bytes = buffer }
+-- what the writer answers, the book's length or what was refused, and the buffer as it leaves it
+unfoldable pub wrote_with : Result ℕ Fault → List ℕ → Wrote
+wrote_with (Ok n) buffer = record { verdict = Ok tt; length = n; bytes = buffer }
+wrote_with (Err f) buffer = record { verdict = Err f; length = 0; bytes = buffer }

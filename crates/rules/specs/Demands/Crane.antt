@@ -1,6 +1,7 @@
 -- RULES 18.1, 18.2, 18.6 to 18.8 and 18.10 to 18.12: the crane plan and its runs P1 to P12, one for the calls, those with takes of an open lock, by both
 -- protocols, the plan with other users and other maxima, and the kernel's cut, as one table under one claim. Assumes nothing.
-use Rattle.std.specs.Prelude.{Bool, true, false, ◌&&◌, List, [], ◌∷◌, ◌++◌, ℕ, suc, T, eqb, length, replicate, take, drop}
+use Rattle.std.specs.Prelude.{Bool, true, false, ◌&&◌, List, [], ◌∷◌, ◌++◌, ℕ, suc, T, eqb, length, replicate, take, drop, Ok, Err}
+use Rattle.rules.specs.Numbers.Verdict.{Verdict, Answer}
 use Rattle.rules.specs.Numbers.Choice.{when◌then◌else◌, all_true}
 use Rattle.rules.specs.Numbers.Place.{every, any, count, greatest, first_from, from, tabulate, renewed, zeros}
 use Rattle.rules.specs.Numbers.Refusal.{number_of, first_true, found, first_fault}
@@ -38,8 +39,6 @@ use Rattle.rules.specs.declared.protocol.Protocol.TheVariants.{Second, First}
 use Rattle.rules.specs.declared.state.State.{State}
 use Rattle.rules.specs.declared.event.Event.{Event}
 use Rattle.rules.specs.declared.event.Event.TheVariants.{Release, Acquire, Unlock, Work, Finish, Tick}
-use Rattle.rules.specs.declared.answer.Answer.{Answer}
-use Rattle.rules.specs.declared.answer.Verdict.{Verdict}
 
 -- RULES 18.1: the maximum and base of four tasks; the limit and ceiling of two locks; the lock and task of four uses; and the events of P1: amount, id and
 -- kind
@@ -110,8 +109,8 @@ row_by Second row = take 4 row
 row_by First row = take 2 row ++ drop 4 row
 
 row_of : Answer → State → (State → List (List ℕ)) → List (List ℕ)
-row_of (Answer.Accepted call) s rest = (s.head.running ∷ s.head.user.0 ∷ s.head.next.0 ∷ (when call then 1 else 0) ∷ []) ∷ rest s
-row_of (Answer.Refused why) s rest = (number_of why ∷ []) ∷ []
+row_of (Ok call) s rest = (s.head.running ∷ s.head.user.0 ∷ s.head.next.0 ∷ (when call then 1 else 0) ∷ []) ∷ rest s
+row_of (Err why) s rest = (number_of why ∷ []) ∷ []
 
 rows_of : Protocol → Plan → State → List Event → List (List ℕ)
 rows_of pr p s [] = []

@@ -1,6 +1,7 @@
 -- RULES 14.1: whatever is handed in, a refusal is given with its number, at its place, exactly where its own test holds and none before it does; and a
 -- refusal changes nothing. Assumes nothing.
-use Rattle.std.specs.Prelude.{◌≡◌, ◌↔◌, Bool, true, false, not, List, ◌∷◌, ◌++◌, ℕ, ◌<◌, length, take, drop}
+use Rattle.std.specs.Prelude.{◌≡◌, ◌↔◌, Bool, true, false, not, List, ◌∷◌, ◌++◌, ℕ, ◌<◌, length, take, drop, Ok}
+use Rattle.rules.specs.Numbers.Verdict.{Verdict}
 use Rattle.rules.specs.Numbers.Refusal.{number_of, first_true, test_for, tests_before, Check, Offended}
 use Rattle.rules.specs.Numbers.Answer.{answer_number, answer_calls, verdict_number, verdict_place}
 use Rattle.rules.specs.Numbers.Place.{at}
@@ -21,11 +22,9 @@ use Rattle.rules.specs.declared.state.State.{State}
 use Rattle.rules.specs.declared.event.Event.{Event}
 use Rattle.rules.specs.declared.refusal.Refusal.{Refusal}
 use Rattle.rules.specs.declared.refusal.Refusal.TheVariants.{Unsound}
-use Rattle.rules.specs.declared.answer.Tested.{Tested}
-use Rattle.rules.specs.declared.answer.Verdict.{Verdict}
 use Rattle.rules.specs.declared.answer.Stepped.{Stepped}
-use Rattle.rules.specs.declared.answer.Loaded.{Loaded}
-use Rattle.rules.specs.declared.answer.Checked.{Checked}
+use Rattle.rules.specs.Books.Load.{Loaded}
+use Rattle.rules.specs.Books.Book.{Checked}
 
 -- ---- 10 to 22, of an event
 
@@ -39,8 +38,8 @@ pub record StepRefuses (pr : Protocol) (p : Plan) (s : State) (e : Event) (r : S
   -- a number is given exactly where its test holds and none before it does, and 0 exactly where no test holds
   pub exactly : (why : Refusal)
       → (answer_number r.answer ≡ number_of why)
-      ↔ ((test_for why (step_tests pr p s e) ≡ true) × (first_true (tests_before why (step_tests pr p s e)) ≡ Tested.Passed))
-  pub accepts : (answer_number r.answer ≡ 0) ↔ (first_true (step_tests pr p s e) ≡ Tested.Passed)
+      ↔ ((test_for why (step_tests pr p s e) ≡ true) × (first_true (tests_before why (step_tests pr p s e)) ≡ Ok tt))
+  pub accepts : (answer_number r.answer ≡ 0) ↔ (first_true (step_tests pr p s e) ≡ Ok tt)
   -- a refused event gives the very state back, and calls nothing
   pub same : 0 < answer_number r.answer → r.state ≡ s
   pub quiet : 0 < answer_number r.answer → answer_calls r.answer ≡ 0

@@ -1,41 +1,39 @@
 -- RULES 5, 10.1: each answer as its number, its place and its calls, and whether it refuses. Assumes nothing.
-use Rattle.std.specs.Prelude.{Bool, true, false, ℕ}
+use Rattle.std.specs.Prelude.{Bool, true, false, ℕ, Ok, Err}
+use Rattle.rules.specs.Numbers.Verdict.{Verdict, Answer, Tested}
 use Rattle.rules.specs.Numbers.Choice.{when◌then◌else◌}
 use Rattle.rules.specs.Numbers.Refusal.{number_of}
-use Rattle.rules.specs.declared.answer.Tested.{Tested}
-use Rattle.rules.specs.declared.answer.Answer.{Answer}
-use Rattle.rules.specs.declared.answer.Verdict.{Verdict}
 use Rattle.rules.specs.declared.answer.Found.{Found}
 use Rattle.rules.specs.declared.event.Event.{Event}
 use Rattle.rules.specs.declared.event.Event.TheVariants.{Tick}
 
 -- nothing is refused
 unfoldable pub passes : Tested → Bool
-passes Tested.Passed = true
-passes (Tested.Refused why) = false
+passes (Ok _) = true
+passes (Err why) = false
 
 -- the refusal's number, and 0 where nothing is refused
 unfoldable pub tested_number : Tested → ℕ
-tested_number Tested.Passed = 0
-tested_number (Tested.Refused why) = number_of why
+tested_number (Ok _) = 0
+tested_number (Err why) = number_of why
 
 unfoldable pub answer_number : Answer → ℕ
-answer_number (Answer.Accepted call) = 0
-answer_number (Answer.Refused why) = number_of why
+answer_number (Ok call) = 0
+answer_number (Err why) = number_of why
 
 -- the lazy calls of a step: 1 where it called the kernel
 unfoldable pub answer_calls : Answer → ℕ
-answer_calls (Answer.Accepted call) = when call then 1 else 0
-answer_calls (Answer.Refused why) = 0
+answer_calls (Ok call) = when call then 1 else 0
+answer_calls (Err why) = 0
 
 -- the refusal's number and its place; both 0 where nothing is refused
 unfoldable pub verdict_number : Verdict → ℕ
-verdict_number Verdict.Passed = 0
-verdict_number (Verdict.Refused why place) = number_of why
+verdict_number (Ok _) = 0
+verdict_number (Err f) = number_of f.why
 
 unfoldable pub verdict_place : Verdict → ℕ
-verdict_place Verdict.Passed = 0
-verdict_place (Verdict.Refused why place) = place
+verdict_place (Ok _) = 0
+verdict_place (Err f) = f.place
 
 -- what a reader finds at a place: whether there is an event, which one (a tick where there is none) and the next place
 unfoldable pub found_some : Found → Bool

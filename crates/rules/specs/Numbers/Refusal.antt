@@ -1,10 +1,9 @@
 -- RULES 5.1: the refusal numbers, all in this place, and how a list of tests in order gives one. Assumes nothing.
-use Rattle.std.specs.Prelude.{◌≡◌, Bool, true, false, List, [], ◌∷◌, ℕ, ◌+◌, ◌-◌, ◌<◌, eqb, ltb}
+use Rattle.std.specs.Prelude.{◌≡◌, Bool, true, false, List, [], ◌∷◌, ℕ, ◌+◌, ◌-◌, ◌<◌, eqb, ltb, Ok, Err}
+use Rattle.rules.specs.Numbers.Verdict.{Verdict, Tested, refused_at}
 use Rattle.rules.specs.Numbers.Choice.{when◌then◌else◌}
 use Rattle.rules.specs.Numbers.Place.{first_from}
 use Rattle.rules.specs.declared.refusal.Refusal.{Refusal}
-use Rattle.rules.specs.declared.answer.Tested.{Tested}
-use Rattle.rules.specs.declared.answer.Verdict.{Verdict}
 
 unfoldable pub number_of : Refusal → ℕ
 -- the book has fewer bytes than its contents take
@@ -65,8 +64,8 @@ place_of why = when ltb (number_of why) 16 then number_of why else number_of why
 
 -- tests in order, each with its refusal: the first that holds refuses
 unfoldable pub first_true : List (Bool × Refusal) → Tested
-first_true [] = Tested.Passed
-first_true (t ∷ ts) = when t.0 then Tested.Refused t.1 else first_true ts
+first_true [] = Ok tt
+first_true (t ∷ ts) = when t.0 then Err t.1 else first_true ts
 
 -- a refusal is known by its number
 abbrev pub same_number : Refusal → Refusal → Bool
@@ -85,7 +84,7 @@ tests_before why (t ∷ ts) = when same_number t.1 why then [] else t ∷ tests_
 -- what tests come to is this refusal
 pub record Given (why : Refusal) (tested : Tested) : Type 0 where
   pub refusal : Refusal
-  pub given : tested ≡ Tested.Refused refusal
+  pub given : tested ≡ Err refusal
   pub number : number_of refusal ≡ number_of why
 
 -- a test of `count` records in turn; `first` is the place of the first of them, and `fault` says whether the record i after it offends
@@ -97,11 +96,11 @@ pub record Check : Type 0 where
 
 -- where the record i after the first offends, that is the place of the refusal; `rest` stands for the checks after this one
 unfoldable pub found : Check → ℕ → Verdict → Verdict
-found c i rest = when ltb i c.count then Verdict.Refused c.refusal (c.first + i) else rest
+found c i rest = when ltb i c.count then refused_at c.refusal (c.first + i) else rest
 
 -- checks in order: the first that finds an offender refuses, at the first place where it does
 unfoldable pub first_fault : List Check → Verdict
-first_fault [] = Verdict.Passed
+first_fault [] = Ok tt
 first_fault (c ∷ cs) = found c (first_from c.fault 0 c.count) (first_fault cs)
 
 -- of checks in order the one that gives this refusal; one of no records where none gives it
@@ -117,7 +116,7 @@ checks_before why (c ∷ cs) = when same_number c.refusal why then [] else c ∷
 -- what checks come to is this refusal, at this place
 pub record GivenAt (why : Refusal) (place : ℕ) (verdict : Verdict) : Type 0 where
   pub refusal : Refusal
-  pub given : verdict ≡ Verdict.Refused refusal place
+  pub given : verdict ≡ refused_at refusal place
   pub number : number_of refusal ≡ number_of why
 
 -- the record i after the first is the first that offends
@@ -128,7 +127,7 @@ pub record FirstOffender (c : Check) (i : ℕ) : Type 0 where
 
 -- of checks in order that of this refusal finds its first offender at this place, and those before it find none
 pub record Offended (why : Refusal) (place : ℕ) (cs : List Check) : Type 0 where
-  pub before : first_fault (checks_before why cs) ≡ Verdict.Passed
+  pub before : first_fault (checks_before why cs) ≡ Ok tt
   pub index : ℕ
   pub offender : FirstOffender (check_for why cs) index
   pub there : place ≡ (check_for why cs).first + index

@@ -1,5 +1,6 @@
 -- RULES 12.3 to 12.5: the run of a list of events up to its first refusal, with a row for each event before that. Assumes nothing.
-use Rattle.std.specs.Prelude.{Bool, List, [], ◌∷◌, ℕ, suc, ◌+◌, ◌*◌, set}
+use Rattle.std.specs.Prelude.{Bool, List, [], ◌∷◌, ℕ, suc, ◌+◌, ◌*◌, set, Ok, Err}
+use Rattle.rules.specs.Numbers.Verdict.{Verdict, Answer, refused_at}
 use Rattle.rules.specs.Numbers.Choice.{when◌then◌else◌}
 use Rattle.rules.specs.Replays.Step.{step_of}
 use Rattle.rules.specs.declared.plan.Plan.{Plan}
@@ -7,8 +8,6 @@ use Rattle.rules.specs.declared.protocol.Protocol.{Protocol}
 use Rattle.rules.specs.declared.state.Head.{Head}
 use Rattle.rules.specs.declared.state.State.{State}
 use Rattle.rules.specs.declared.event.Event.{Event}
-use Rattle.rules.specs.declared.answer.Answer.{Answer}
-use Rattle.rules.specs.declared.answer.Verdict.{Verdict}
 
 -- RULES 12.4: the row bytes, with the four of the event at place k; h is the head after it
 unfoldable pub with_row : List ℕ → ℕ → Head → Bool → List ℕ
@@ -23,10 +22,10 @@ pub record Ran : Type 0 where
 
 -- after the answer to the event at place k: an accepted one goes on to `rest`, with its state and its row
 unfoldable pub onward : Answer → State → ℕ → List ℕ → (State → List ℕ → Ran) → Ran
-onward (Answer.Accepted call) s k rows rest = rest s (with_row rows k s.head call)
-onward (Answer.Refused why) s k rows rest = record { verdict = Verdict.Refused why k; state = s; rows = rows }
+onward (Ok call) s k rows rest = rest s (with_row rows k s.head call)
+onward (Err why) s k rows rest = record { verdict = refused_at why k; state = s; rows = rows }
 
 -- the events of a list, the first of them at place k
 unfoldable pub run_from : Protocol → Plan → List Event → ℕ → State → List ℕ → Ran
-run_from pr p [] k s rows = record { verdict = Verdict.Passed; state = s; rows = rows }
+run_from pr p [] k s rows = record { verdict = Ok tt; state = s; rows = rows }
 run_from pr p (e ∷ es) k s rows = onward (step_of pr p s e).answer (step_of pr p s e).state k rows (run_from pr p es (suc k))

@@ -1,5 +1,6 @@
 -- RULES 12.1: a single step, whatever plan, state and event are handed in. Assumes nothing.
-use Rattle.std.specs.Prelude.{Bool}
+use Rattle.std.specs.Prelude.{Bool, Ok, Err}
+use Rattle.rules.specs.Numbers.Verdict.{Tested}
 use Rattle.rules.specs.Numbers.Choice.{when◌then◌else◌}
 use Rattle.rules.specs.Schedulers.Figures.{figures_of}
 use Rattle.rules.specs.Schedulers.EventRefusals.{refusal_of}
@@ -12,13 +13,11 @@ use Rattle.rules.specs.declared.state.State.{State}
 use Rattle.rules.specs.declared.event.Event.{Event}
 use Rattle.rules.specs.declared.refusal.Refusal.{Refusal}
 use Rattle.rules.specs.declared.refusal.Refusal.TheVariants.{Unsound}
-use Rattle.rules.specs.declared.answer.Tested.{Tested}
-use Rattle.rules.specs.declared.answer.Answer.{Answer}
 use Rattle.rules.specs.declared.answer.Stepped.{Stepped}
 
 -- a refusal of 10 to 22 beside the state that was given
 abbrev pub refused_with : State → Refusal → Stepped
-refused_with s why = record { answer = Answer.Refused why; state = s }
+refused_with s why = record { answer = Err why; state = s }
 
 -- the state after an accepted event
 unfoldable pub after_of : Protocol → Plan → State → Event → State
@@ -27,8 +26,8 @@ after_of pr p s e =
     (words_after pr p (figures_of s) (figures_after p (figures_of s) s.head.running e).released (words_of s) e)
 
 unfoldable pub answered : Tested → State → State → Bool → Stepped
-answered Tested.Passed s after call = record { answer = Answer.Accepted call; state = after }
-answered (Tested.Refused why) s after call = refused_with s why
+answered (Ok _) s after call = record { answer = Ok call; state = after }
+answered (Err why) s after call = refused_with s why
 
 -- the step of a sound state: 11 to 22, or the event is accepted
 unfoldable pub act_of : Protocol → Plan → State → Event → Stepped

@@ -1,5 +1,6 @@
 -- RULES 9.2: the tests of an event after 10, in order, where the figures are f and task r runs. Both schedulers use them. Assumes nothing.
 use Rattle.std.specs.Prelude.{Bool, not, ◌&&◌, ◌||◌, List, [], ◌∷◌, ℕ, ◌+◌, eqb, leb, ltb}
+use Rattle.rules.specs.Numbers.Verdict.{Tested}
 use Rattle.rules.specs.Numbers.Capacity.{max_takes, max_accepted, nobody}
 use Rattle.rules.specs.Numbers.Place.{at, any}
 use Rattle.rules.specs.Numbers.Refusal.{first_true}
@@ -7,7 +8,6 @@ use Rattle.rules.specs.Numbers.Row.{newest}
 use Rattle.rules.specs.Books.Plan.{declares}
 use Rattle.rules.specs.Schedulers.Figures.{Figures, holds}
 use Rattle.rules.specs.declared.plan.Plan.{Plan}
-use Rattle.rules.specs.declared.answer.Tested.{Tested}
 use Rattle.rules.specs.declared.event.Event.{Event}
 use Rattle.rules.specs.declared.event.Event.TheVariants.{Release, Acquire, Unlock, Work, Finish, Tick}
 use Rattle.rules.specs.declared.refusal.Refusal.{Refusal}

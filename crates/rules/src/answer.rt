@@ -3,7 +3,7 @@ ghost use Rattle.rules.specs.Numbers.Answer.{answer_calls, answer_number, verdic
 
 use crate::event::Event;
 use crate::plan::Plan;
-use crate::refusal::{Refusal, number};
+use crate::refusal::Refusal;
 use crate::state::State;
 
 // What is refused, and the place of the first offender.
@@ -52,7 +52,7 @@ pub fn verdict_number(v: Result<(), Fault>) -> u8
 {
     match v {
         Ok(()) => 0,
-        Err(fault) => number(fault.why),
+        Err(fault) => u8::from(fault.why),
     }
 }
 
@@ -73,7 +73,7 @@ pub fn answer_number(a: Result<bool, Refusal>) -> u8
 {
     match a {
         Ok(_) => 0,
-        Err(why) => number(why),
+        Err(why) => u8::from(why),
     }
 }
 

@@ -5,26 +5,29 @@ ghost use Rattle.rules.specs.Schedulers.Protocol.{protocol_named, protocol_numbe
 // word: the greatest kept priority (the next word), or the user word (the kernel word).
 #[derive(Clone, Copy, PartialEq, Eq)]
 pub enum Protocol {
-    Second,
-    First,
+    Second = 2,
+    First = 1,
 }
 
 // Its number.
-pub fn number(protocol: Protocol) -> u8
-    ensures { result ≡ protocol_number protocol }
-{
-    match protocol {
-        Protocol::Second => 2,
-        Protocol::First => 1,
+impl From<Protocol> for u8 {
+    ghost from_gives = { λ protocol n. n ≡ protocol_number protocol };
+
+    #[tactic(auto, unfolding(crate::specs::Schedulers::Protocol::protocol_number))]
+    fn from(protocol: Protocol) -> u8 {
+        protocol as u8
     }
 }
 
 // The protocol that a number names: 1 the first, and every other number the second.
-pub fn named(number: u8) -> Protocol
-    ensures { result ≡ protocol_named number }
-{
-    if number == 1 {
-        return Protocol::First;
+impl From<u8> for Protocol {
+    ghost from_gives = { λ n protocol. protocol ≡ protocol_named n };
+
+    fn from(number: u8) -> Protocol {
+        if number == 1 {
+            Protocol::First
+        } else {
+            Protocol::Second
+        }
     }
-    Protocol::Second
 }

@@ -1,78 +1,43 @@
-ghost use Rattle.std.specs.Prelude.{◌≡◌, ◌<◌};
-ghost use Rattle.rules.specs.Numbers.Refusal.{number_of, place_of};
+ghost use Rattle.std.specs.Prelude.{◌≡◌};
+ghost use Rattle.rules.specs.Numbers.Refusal.{number_of};
 
-// Why a book, a plan, a state, an event or a job is refused, in the order of the numbers of RULES 5.1. There is
-// none for 16, which is withdrawn.
+// Why a book, a plan, a state, an event or a job is refused, each with its number of RULES 5.1. There is none for 16, which
+// is withdrawn.
 #[derive(Clone, Copy, PartialEq, Eq)]
 pub enum Refusal {
-    ShortBook,
-    WrongCount,
-    WrongLayout,
-    WrongTask,
-    WrongLock,
-    WrongUse,
-    WrongCeiling,
-    WrongEvent,
-    ShortRows,
-    Unsound,
-    Exhausted,
-    NobodyRuns,
-    Unknown,
-    AlreadyReleased,
-    NotDeclared,
-    OpenElsewhere,
-    RowFull,
-    NotNewest,
-    NoWork,
-    PastLimit,
-    StillOpen,
-    ShortBuffer,
-    AboveMaximum,
-    WrongJob,
-    ShortSpace,
+    ShortBook = 1,
+    WrongCount = 2,
+    WrongLayout = 3,
+    WrongTask = 4,
+    WrongLock = 5,
+    WrongUse = 6,
+    WrongCeiling = 7,
+    WrongEvent = 8,
+    ShortRows = 9,
+    Unsound = 10,
+    Exhausted = 11,
+    NobodyRuns = 12,
+    Unknown = 13,
+    AlreadyReleased = 14,
+    NotDeclared = 15,
+    OpenElsewhere = 17,
+    RowFull = 18,
+    NotNewest = 19,
+    NoWork = 20,
+    PastLimit = 21,
+    StillOpen = 22,
+    ShortBuffer = 23,
+    AboveMaximum = 24,
+    WrongJob = 25,
+    ShortSpace = 26,
 }
 
-// Its place among them, from 1.
-fn place(why: Refusal) -> u8
-    ensures { (result ≡ place_of why) × (result < 100) }
-{
-    match why {
-        Refusal::ShortBook => 1,
-        Refusal::WrongCount => 2,
-        Refusal::WrongLayout => 3,
-        Refusal::WrongTask => 4,
-        Refusal::WrongLock => 5,
-        Refusal::WrongUse => 6,
-        Refusal::WrongCeiling => 7,
-        Refusal::WrongEvent => 8,
-        Refusal::ShortRows => 9,
-        Refusal::Unsound => 10,
-        Refusal::Exhausted => 11,
-        Refusal::NobodyRuns => 12,
-        Refusal::Unknown => 13,
-        Refusal::AlreadyReleased => 14,
-        Refusal::NotDeclared => 15,
-        Refusal::OpenElsewhere => 16,
-        Refusal::RowFull => 17,
-        Refusal::NotNewest => 18,
-        Refusal::NoWork => 19,
-        Refusal::PastLimit => 20,
-        Refusal::StillOpen => 21,
-        Refusal::ShortBuffer => 22,
-        Refusal::AboveMaximum => 23,
-        Refusal::WrongJob => 24,
-        Refusal::ShortSpace => 25,
-    }
-}
+// Its number.
+impl From<Refusal> for u8 {
+    ghost from_gives = { λ why n. n ≡ number_of why };
 
-// Its number: its place, and one more from where 16 would stand. Written out by cases it would be a
-// table of jumps in every answer for C, and a step would copy its state once more.
-pub fn number(why: Refusal) -> u8
-    ensures { result ≡ number_of why }
-{
-    let k = place(why);
-    if k < 16 {
-        return k;
+    #[tactic(auto, unfolding(crate::specs::Numbers::Refusal::number_of))]
+    fn from(why: Refusal) -> u8 {
+        why as u8
     }
-    k + 1
 }

@@ -1,6 +1,6 @@
 -- RULES 6.5, 6.6: a book that is written from its records into a lent buffer: 2, 4 to 7, 24, 8 and 23 in order, or the book's bytes. Assumes nothing.
 use Rattle.std.specs.Prelude.{List, [], ◌∷◌, ◌++◌, ℕ, eqb, ltb, length, drop, Result, Ok, Err}
-use Rattle.rules.specs.Numbers.Verdict.{Verdict, refused_at}
+use Rattle.rules.specs.Numbers.Verdict.{Verdict}
 use Rattle.rules.specs.Numbers.Choice.{when◌then◌else◌}
 use Rattle.rules.specs.Numbers.Place.{at}
 use Rattle.rules.specs.Numbers.Refusal.{Check, first_fault}

@@ -1,6 +1,6 @@
 -- RULES 12.2, 12.3: the replay of a book: 1 to 9 and 24 first, and then its events from a fresh start. Assumes nothing.
 use Rattle.std.specs.Prelude.{List, ℕ, length, Ok, Err}
-use Rattle.rules.specs.Numbers.Verdict.{Verdict, refused_at}
+use Rattle.rules.specs.Numbers.Verdict.{Verdict}
 use Rattle.rules.specs.Schedulers.State.{fresh_of}
 use Rattle.rules.specs.Books.Book.{plan_in, events_of, check_of}
 use Rattle.rules.specs.Replays.Run.{Ran, run_from}

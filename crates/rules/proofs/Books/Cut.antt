@@ -1,4 +1,5 @@
 -- A book that is longer than the largest one is refused for its front alone, as it is for the whole of it. Assumes nothing.
+use Rattle.std.specs.Prelude.{if◌then◌else◌}
 use mathlib.Core.Path.{◌≡◌, refl, sym, ◌∙◌, ap}
 use mathlib.Core.Logic.{⊎_elim}
 use mathlib.Core.Bool.{true, false, not}
@@ -11,7 +12,6 @@ use lib.Seq.{get_or-take, length-take-le}
 use borrow.Author.Tests.{lt-ltb, le-ltb, ltb-false, ne_eqb}
 use Rattle.rules.specs.Numbers.Capacity.{max_tasks, max_locks, max_uses, max_events}
 use Rattle.rules.specs.Numbers.Verdict.{refused_at}
-use Rattle.rules.specs.Numbers.Choice.{when◌then◌else◌}
 use Rattle.rules.specs.Numbers.Place.{at, first_from}
 use Rattle.rules.specs.Books.Plan.{most, count_fault}
 use Rattle.rules.specs.Books.Book.{contents, kind_at, count_at, offset_at, size_of, body_at, layout_fault, contents_checks, check_of, largest_book}
@@ -32,7 +32,7 @@ module _ (b : List ℕ) (long : largest_book < length b) where
   laid = first_from (layout_fault b) 0 5
 
   in_range : 4 ≤ counted → body_at b 4 ≤ largest_book
-  unfolding count_fault most body_at size_of when◌then◌else◌
+  unfolding count_fault most body_at size_of
   in_range h =
       let none : (e : ℕ) → e < 4 → count_fault e (count_at b e) ≡ false = λ e l. first_none (λ e. count_fault e (count_at b e)) 0 4 (omega arith) e (omega arith)
       (omega arith) in
@@ -44,10 +44,10 @@ module _ (b : List ℕ) (long : largest_book < length b) where
       omega arith
 
   wrong_end : 4 ≤ counted → layout_fault b 4 ≡ true
-  unfolding layout_fault when◌then◌else◌
+  unfolding layout_fault
   wrong_end h = ap not (ne_eqb (body_at b 4) (length b) (λ e. omega (arith, in_range h)))
 
-  refused_as_lem : (room : ℕ) → check_of b room ≡ (when ltb counted 4 then refused_at WrongCount (1 + counted) else refused_at WrongLayout (1 + laid))
+  refused_as_lem : (room : ℕ) → check_of b room ≡ (if ltb counted 4 then refused_at WrongCount (1 + counted) else refused_at WrongLayout (1 + laid))
   unfolding check_of contents_checks
   refused_as_lem room =
       check_passes _ _ 1 (one_passes (ltb (length b) contents) (le-ltb (length b) contents (omega arith))) (omega arith)
@@ -58,7 +58,6 @@ module _ (b : List ℕ) (long : largest_book < length b) where
       (lt_or_le counted 4)
 
   pub long_refused : (room : ℕ) → (why : Refusal) × (place : ℕ) × (check_of b room ≡ refused_at why place)
-  unfolding when◌then◌else◌
   long_refused room = by_test (ltb counted 4)
       (λ l. (WrongCount, 1 + counted, rw l at (refused_as_lem room)))
       (λ l. (WrongLayout, 1 + laid, rw l at (refused_as_lem room)))
@@ -112,7 +111,6 @@ module _ (b : List ℕ) (n : ℕ) (long : n ≤ length b) (enough : largest_book
 
   -- what is refused of the front is what is refused of the whole
   pub cut_same : (room : ℕ) → check_of front room ≡ check_of b room
-  unfolding when◌then◌else◌
   cut_same room = refused_as_lem front (omega (arith, sized)) room ∙ by_test (ltb (counted b (omega arith)) 4)
       (λ l. rw (counted_same, l))
       (λ l. rw (counted_same, l, laid_same (ltb-false (counted b (omega arith)) 4 l)))

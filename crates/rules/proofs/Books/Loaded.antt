@@ -13,7 +13,6 @@ use lib.Seq.{get_or-set_same, get_or-set_other}
 use lib.Pow.{pow_pos}
 use borrow.Author.Tests.{eqb-true, eqb-false, ltb-false, leb-false}
 use Rattle.rules.specs.Numbers.Capacity.{max_tasks, max_locks}
-use Rattle.rules.specs.Numbers.Choice.{when◌then◌else◌}
 use Rattle.rules.specs.Numbers.Place.{at, any, tabulate}
 use Rattle.rules.specs.Numbers.Mask.{has_bit, with_bit}
 use Rattle.rules.specs.Books.Plan.{most, count_fault, task_fault, lock_fault, declares, maximum_fault, Obeys}
@@ -110,11 +109,11 @@ module _ (uses : List ℕ) where
 -- ---- what a record that is no offender is
 
 pub tasks_fit : (n m u : ℕ) → count_fault_of n m u 0 ≡ false → n ≤ max_tasks
-unfolding count_fault_of count_fault most when◌then◌else◌
+unfolding count_fault_of count_fault most
 tasks_fit n m u e = ltb-false max_tasks n (or_false (eqb n 0) (ltb max_tasks n) e).1
 
 pub locks_fit : (n m u : ℕ) → count_fault_of n m u 1 ≡ false → m ≤ max_locks
-unfolding count_fault_of count_fault most when◌then◌else◌
+unfolding count_fault_of count_fault most
 locks_fit n m u e = ltb-false max_locks m e
 
 pub use_known : (n m : ℕ) (uses : List ℕ) (i : ℕ) → use_fault n m uses i ≡ false → (use_task (at uses i) < n) × (use_lock (at uses i) < m)
@@ -134,7 +133,7 @@ module _ (tasks locks uses : List ℕ) (passed : first_fault (load_checks tasks 
   clean = clean_for (load_checks tasks locks uses) passed
 
   counts : (e : ℕ) → e < 3 → count_fault_of (length tasks) (length locks) (length uses) e ≡ false
-  unfolding load_checks record_checks check_for number_of when◌then◌else◌
+  unfolding load_checks record_checks check_for number_of
   counts = clean WrongCount
 
   few_tasks : length tasks ≤ max_tasks
@@ -144,7 +143,7 @@ module _ (tasks locks uses : List ℕ) (passed : first_fault (load_checks tasks 
   few_locks = locks_fit (length tasks) (length locks) (length uses) (counts 1 (omega arith))
 
   known_use : (i : ℕ) → i < length uses → (use_task (at uses i) < length tasks) × (use_lock (at uses i) < length locks)
-  unfolding load_checks record_checks check_for number_of when◌then◌else◌
+  unfolding load_checks record_checks check_for number_of
   known_use i h = use_known (length tasks) (length locks) uses i (clean WrongUse i h)
 
   loaded_base : (t : ℕ) → at p.base t ≡ task_base (at tasks t)
@@ -164,11 +163,11 @@ module _ (tasks locks uses : List ℕ) (passed : first_fault (load_checks tasks 
   loaded_limit l = loaded lock_limit max_locks locks few_locks refl l
 
   task_clean : (t : ℕ) → t < length tasks → task_fault (at p.base t) (at p.maximum t) ≡ false
-  unfolding load_checks record_checks check_for number_of task_fault_at when◌then◌else◌
+  unfolding load_checks record_checks check_for number_of task_fault_at
   task_clean t h = rw (loaded_base t, loaded_maximum t) (clean WrongTask t h)
 
   lock_clean : (l : ℕ) → l < length locks → lock_fault (at p.ceiling l) 0 (at p.limit l) ≡ false
-  unfolding load_checks record_checks check_for number_of lock_fault_at lock_fault when◌then◌else◌
+  unfolding load_checks record_checks check_for number_of lock_fault_at lock_fault
   lock_clean l h =
       let (ab, c) = or_false (eqb (lock_ceiling (at locks l)) 0 || not (eqb (lock_second (at locks l)) 0)) (eqb (lock_limit (at locks l)) 0)
       (clean WrongLock l h) in
@@ -183,7 +182,7 @@ module _ (tasks locks uses : List ℕ) (passed : first_fault (load_checks tasks 
 
   -- and no use that says so has a lock above its task's maximum
   use_clean : (t l : ℕ) → t < length tasks → l < length locks → declares p t l ≡ true → maximum_fault (at p.maximum t) (at p.ceiling l) ≡ false
-  unfolding load_checks record_checks check_for number_of use_above when◌then◌else◌
+  unfolding load_checks record_checks check_for number_of use_above
   use_clean t l _ _ d =
       let (i, h, says) = any_some (λ i. eqb (use_task (at uses i)) t && eqb (use_lock (at uses i)) l) (length uses) (sym (loaded_uses t l) ∙ d) in
       let (a, b) = and_true (eqb (use_task (at uses i)) t) (eqb (use_lock (at uses i)) l) says in
@@ -191,7 +190,7 @@ module _ (tasks locks uses : List ℕ) (passed : first_fault (load_checks tasks 
       (loaded_ceiling l ∙ ap (λ x. lock_ceiling (at locks x)) (sym (eqb-true (use_lock (at uses i)) l b))) ∙ clean AboveMaximum i h
 
   pub loaded_obeys : Obeys p
-  unfolding plan_of load_checks record_checks check_for number_of count_fault_of when◌then◌else◌
+  unfolding plan_of load_checks record_checks check_for number_of count_fault_of
   loaded_obeys = record {
     tasks = counts 0 (omega arith);
     locks = counts 1 (omega arith);

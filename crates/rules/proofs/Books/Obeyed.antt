@@ -1,4 +1,5 @@
 -- What the theory uses of a plan that obeys the rules. Assumes nothing.
+use Rattle.std.specs.Prelude.{if◌then◌else◌}
 use mathlib.Core.Path.{◌≡◌}
 use mathlib.Core.Bool.{Bool, true, false}
 use mathlib.Core.Logic.{◌↔◌}
@@ -7,7 +8,6 @@ use native.Mathlib.Omega.{arith}
 use lib.Dec.{eqb, ltb}
 use borrow.Author.Tests.{eqb-true, eqb-false, eq-eqb, ltb-false, le-ltb, not-false}
 use Rattle.rules.specs.Numbers.Capacity.{max_tasks, max_locks}
-use Rattle.rules.specs.Numbers.Choice.{when◌then◌else◌}
 use Rattle.rules.specs.Numbers.Place.{at, count}
 use Rattle.rules.specs.Books.Plan.{most, count_fault, task_fault, declares, Shared, users, users_base, users_fault, ceiling_fault, maximum_fault, Obeys}
 use Rattle.rules.specs.declared.plan.Plan.{Plan}
@@ -35,11 +35,11 @@ seven p l = (
 
 module _ {p : Plan} (O : Obeys p) where
   pub few_tasks : p.tasks ≤ max_tasks
-  unfolding count_fault most when◌then◌else◌
+  unfolding count_fault most
   few_tasks = ltb-false max_tasks p.tasks (or_false (eqb p.tasks 0) (ltb max_tasks p.tasks) O.tasks).1
 
   pub few_locks : p.locks ≤ max_locks
-  unfolding count_fault most when◌then◌else◌
+  unfolding count_fault most
   few_locks = ltb-false max_locks p.locks O.locks
 
   pub base_some : (t : ℕ) → t < p.tasks → 0 < at p.base t
@@ -62,7 +62,7 @@ module _ {p : Plan} (O : Obeys p) where
   pub ceiling_user : (x l : ℕ) → x < p.tasks → l < p.locks → declares p x l ≡ true → at p.base x ≤ at p.ceiling l
   unfolding users_base
   ceiling_user x l hx hl d =
-      let b : ℕ → ℕ = λ y. when declares p y l then at p.base y else 0 in
+      let b : ℕ → ℕ = λ y. if declares p y l then at p.base y else 0 in
       omega (arith, ceiling_is l hl, greatest_all b p.tasks x hx, if_true (declares p x l) (at p.base x) 0 d)
 
   pub base_byte : (t : ℕ) → at p.base t < 256

@@ -8,7 +8,6 @@ use mathlib.Core.List.{List}
 use Prim.Native.Nat.{ℕ, zero, suc, ◌<◌}
 use native.Mathlib.Omega.{arith}
 use lib.ListN.{length}
-use Rattle.rules.specs.Numbers.Choice.{when◌then◌else◌}
 use Rattle.rules.specs.Numbers.Refusal.{number_of, first_fault, check_for}
 use Rattle.rules.specs.Numbers.Answer.{verdict_number}
 use Rattle.rules.specs.Books.Plan.{Obeys, count_fault}
@@ -30,7 +29,7 @@ verdict_held (Err f) b = refl
 module _ (b : List ℕ) where
   pub counts_clean : first_fault (contents_checks b) ≡ Ok tt → (e : ℕ) → e < 3
       → count_fault_of (length (tasks_of b)) (length (locks_of b)) (length (uses_of b)) e ≡ false
-  unfolding contents_checks check_for number_of count_fault_of when◌then◌else◌
+  unfolding contents_checks check_for number_of count_fault_of
   counts_clean passed zero h = ap (count_fault 0) (length_from _ 0 (count_at b 0)) ∙ clean_for (contents_checks b) passed WrongCount 0 (omega arith)
   counts_clean passed (suc zero) h = ap (count_fault 1) (length_from _ 0 (count_at b 1)) ∙ clean_for (contents_checks b) passed WrongCount 1 (omega arith)
   counts_clean passed (suc (suc zero)) h = ap (count_fault 2) (length_from _ 0 (count_at b 2)) ∙ clean_for (contents_checks b) passed WrongCount 2 (omega arith)

@@ -9,7 +9,6 @@ use lib.Dec.{ltb}
 use lib.ListN.{length, get_or, drop, length-append, length-map}
 use lib.Seq.{get_or-drop, drop-drop, drop_at, ext_get_or}
 use borrow.Author.Tests.{lt-ltb, le-ltb, eq-eqb}
-use Rattle.rules.specs.Numbers.Choice.{when◌then◌else◌}
 use Rattle.rules.specs.Numbers.Place.{at, tabulate}
 use Rattle.rules.specs.Numbers.Refusal.{Check, first_fault}
 use Rattle.rules.specs.Books.Event.{record_kind, record_id, record_amount, number_fault, number_event}
@@ -128,7 +127,7 @@ module _ (tasks locks uses events : List ℕ) where
 
   starts : (body_at b 0 ≡ contents) × (body_at b 1 ≡ locks_at) × (body_at b 2 ≡ uses_at) × (body_at b 3 ≡ events_at)
       × (body_at b 4 ≡ events_at + length (long_bytes events))
-  unfolding body_at size_of when◌then◌else◌
+  unfolding body_at size_of
   starts = (
     refl,
     omega (arith, counts_back.0, word_size tasks),
@@ -201,11 +200,11 @@ module _ (tasks locks uses events : List ℕ) where
   -- ---- what is asked of it
 
   right : (e : ℕ) → e < 4 → kind_at b e ≡ e + 1 → offset_at b e ≡ body_at b e → layout_fault b e ≡ false
-  unfolding layout_fault when◌then◌else◌
+  unfolding layout_fault
   right e h k o = rw (lt-ltb e 4 h) (rw (k, o, eq-eqb (e + 1) (e + 1) refl, eq-eqb (body_at b e) (body_at b e) refl) refl)
 
   pub layout_right : (e : ℕ) → e < 5 → layout_fault b e ≡ false
-  unfolding layout_fault when◌then◌else◌
+  unfolding layout_fault
   layout_right zero h = right 0 (omega arith) kinds.0 (offsets.0 ∙ sym starts.0)
   layout_right (suc zero) h = right 1 (omega arith) kinds.1 (offsets.1 ∙ sym starts.1)
   layout_right (suc (suc zero)) h = right 2 (omega arith) kinds.2 (offsets.2 ∙ sym starts.2)
@@ -215,7 +214,6 @@ module _ (tasks locks uses events : List ℕ) where
   layout_right (suc (suc (suc (suc (suc e))))) h = absurd (omega arith)
 
   same_counts : (e : ℕ) → e < 4 → count_fault e (count_at b e) ≡ count_fault e (counts_of tasks locks uses events e)
-  unfolding when◌then◌else◌
   same_counts zero h = ap (count_fault 0) counts_back.0
   same_counts (suc zero) h = ap (count_fault 1) counts_back.1
   same_counts (suc (suc zero)) h = ap (count_fault 2) counts_back.2

@@ -10,7 +10,6 @@ use native.Mathlib.Omega.{arith}
 use lib.ListN.{length, length-map}
 use borrow.Author.Tests.{le-ltb}
 use Rattle.rules.specs.Numbers.Capacity.{max_events}
-use Rattle.rules.specs.Numbers.Choice.{when◌then◌else◌}
 use Rattle.rules.specs.Numbers.Place.{at}
 use Rattle.rules.specs.Numbers.Refusal.{first_fault}
 use Rattle.rules.specs.Books.Event.{kind_of, id_of, amount_of, event_fault, event_of}
@@ -39,7 +38,7 @@ pub record Recorded (e : Event) : Type 0 where
   pub amount : amount_of e < 65536
 
 event_back : (e : Event) → event_of (kind_of e) (id_of e) (amount_of e) ≡ e
-unfolding event_of kind_of id_of amount_of when◌then◌else◌
+unfolding event_of kind_of id_of amount_of
 event_back (Release t) = refl
 event_back (Acquire l) = refl
 event_back (Unlock l) = refl
@@ -98,7 +97,7 @@ module _ (b : List ℕ) (es : List Event) (R : (k : ℕ) → k < length es → R
 
   module _ (room : ℕ) (passed : check_of b room ≡ Ok tt) (few : length es ≤ max_events) where
     counts : (e : ℕ) → e < 4 → count_fault e (counts_of (tasks_of b) (locks_of b) (uses_of b) (map event_number es) e) ≡ false
-    unfolding count_fault_of count_fault most when◌then◌else◌
+    unfolding count_fault_of count_fault most
     counts zero h = counts_clean b (passed_contents b room passed) 0 (omega arith)
     counts (suc zero) h = counts_clean b (passed_contents b room passed) 1 (omega arith)
     counts (suc (suc zero)) h = counts_clean b (passed_contents b room passed) 2 (omega arith)

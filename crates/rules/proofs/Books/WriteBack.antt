@@ -10,7 +10,6 @@ use lib.Dec.{eqb, ltb}
 use lib.ListN.{length, drop, drop_of_length-le}
 use lib.Seq.{drop-cons}
 use borrow.Author.Tests.{lt-ltb, eqb-true, not-false}
-use Rattle.rules.specs.Numbers.Choice.{when◌then◌else◌}
 use Rattle.rules.specs.Numbers.Place.{at, from}
 use Rattle.rules.specs.Numbers.Refusal.{number_of, first_fault, check_for}
 use Rattle.rules.specs.Books.Book.{word, long, contents, kind_at, count_at, offset_at, size_of, body_at, layout_fault, tasks_of, locks_of, uses_of}
@@ -102,14 +101,14 @@ module _ (b : List ℕ) (bytes : Bytes b) where
   module _ (passed : first_fault (contents_checks b) ≡ Ok tt) where
     -- 3 finds nothing
     entries : (e : ℕ) → e < 4 → (kind_at b e ≡ e + 1) × (offset_at b e ≡ body_at b e)
-    unfolding contents_checks check_for number_of layout_fault when◌then◌else◌
+    unfolding contents_checks check_for number_of layout_fault
     entries e h =
         let (k, o) = or_false (not (eqb (kind_at b e) (e + 1))) (not (eqb (offset_at b e) (body_at b e)))
         (sym (if_true (ltb e 4) _ _ (lt-ltb e 4 h)) ∙ clean_for (contents_checks b) passed WrongLayout e (omega arith)) in
         (eqb-true (kind_at b e) (e + 1) (not-false _ k), eqb-true (offset_at b e) (body_at b e) (not-false _ o))
 
     ends : body_at b 4 ≡ length b
-    unfolding contents_checks check_for number_of layout_fault when◌then◌else◌
+    unfolding contents_checks check_for number_of layout_fault
     ends = eqb-true (body_at b 4) (length b) (not-false _ (clean_for (contents_checks b) passed WrongLayout 4 (omega arith)))
 
     start : body_at b 0 ≡ contents
@@ -119,7 +118,7 @@ module _ (b : List ℕ) (bytes : Bytes b) where
     -- each body ends where the next one starts
     spans : (body_at b 1 ≡ contents + count_at b 0 * 2) × (body_at b 2 ≡ body_at b 1 + count_at b 1 * 4) × (body_at b 3 ≡ body_at b 2 + count_at b 2 * 2)
         × (length b ≡ body_at b 3 + count_at b 3 * 4)
-    unfolding body_at size_of when◌then◌else◌
+    unfolding body_at size_of
     spans = (refl, refl, refl, sym ends)
 
     bodies : bodies_of (tasks_of b) (locks_of b) (uses_of b) (event_numbers_of b) ≡ drop contents b

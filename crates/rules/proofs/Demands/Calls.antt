@@ -1,6 +1,6 @@
 -- RULES 14.2, of calls: an unlock is a lazy call exactly where another released task is strictly above the restored priority (second protocol), or where the
 -- kernel word is, which is the history's (first protocol); and the count of lazy calls is the history's. Assumes nothing.
-use Rattle.std.specs.Prelude.{Ok, Err}
+use Rattle.std.specs.Prelude.{Ok, Err, if◌then◌else◌}
 use Rattle.rules.specs.Numbers.Verdict.{Tested}
 use mathlib.Core.Path.{◌≡◌, refl, sym, ◌∙◌, ap, ap₂}
 use mathlib.Core.Logic.{◌≢◌, ⊎_elim}
@@ -11,7 +11,6 @@ use native.Mathlib.Nat.{eq-zero-or-pos}
 use native.Mathlib.Omega.{arith}
 use lib.Dec.{eqb, ltb}
 use borrow.Author.Tests.{ltb-true, lt-ltb, eqb-false, ne_eqb, not-true}
-use Rattle.rules.specs.Numbers.Choice.{when◌then◌else◌}
 use Rattle.rules.specs.Numbers.Place.{at, greatest, sum}
 use Rattle.rules.specs.Books.Plan.{Obeys}
 use Rattle.rules.specs.Schedulers.Figures.{Figures, figures_of, priority_of, rank_of}
@@ -131,18 +130,18 @@ rule_is First {p} {s} F word i l z =
 
 module _ {pr : Protocol} {p : Plan} {s : State} (F : Follows pr p s) (word : ℕ) (i : KernelIs pr word s.head.next.0) where
   pub due : (e : Event) → refusal_of p (figures_of s) s.head.running e ≡ Ok tt
-      → (when lazy_call (words_of s) e then 1 else 0) ≡ calls_due pr p (figures_of s) word e
-  unfolding lazy_call calls_due when◌then◌else◌
+      → (if lazy_call (words_of s) e then 1 else 0) ≡ calls_due pr p (figures_of s) word e
+  unfolding lazy_call calls_due
   due (Release t) z = refl
   due (Acquire l) z = refl
-  due (Unlock l) z = ap (λ b. when b then 1 else 0) (sym (rule_is pr F word i l z))
+  due (Unlock l) z = ap (λ b. if b then 1 else 0) (sym (rule_is pr F word i l z))
   due (Work a) z = refl
   due Finish z = refl
   due Tick z = refl
 
 lazy_after : (pr : Protocol) (p : Plan) (f : Figures) (released : List ℕ) (w : Words) (e : Event)
-    → (words_after pr p f released w e).lazy ≡ w.lazy + (when lazy_call w e then 1 else 0)
-unfolding words_after after_release stays after_acquire after_unlock leaves entering restored switched runs_on lazy_call when◌then◌else◌
+    → (words_after pr p f released w e).lazy ≡ w.lazy + (if lazy_call w e then 1 else 0)
+unfolding words_after after_release stays after_acquire after_unlock leaves entering restored switched runs_on lazy_call
 lazy_after pr p f released w (Release t) = by_test (ltb (cut_to (at p.maximum w.running) w.user) (at p.base t)) (λ e. rw e (omega arith))
     (λ e. rw e (omega arith))
 lazy_after pr p f released w (Acquire l) = omega arith
@@ -159,13 +158,13 @@ module _ {pr : Protocol} {p : Plan} {s : State} (F : Follows pr p s) (word : ℕ
 
   -- what one event adds to the count: the calls that are due, if it is accepted
   counted_by : (e : Event) (t : Tested) → refusal_of p g s.head.running e ≡ t
-      → (answered t s (after_of pr p s e) (lazy_call (words_of s) e)).state.head.lazy ≡ s.head.lazy + (when passes t then calls_due pr p g word e else 0)
-  unfolding answered after_of passes when◌then◌else◌
+      → (answered t s (after_of pr p s e) (lazy_call (words_of s) e)).state.head.lazy ≡ s.head.lazy + (if passes t then calls_due pr p g word e else 0)
+  unfolding answered after_of passes
   counted_by e (Ok _) z =
       lazy_after pr p g (figures_after p g s.head.running e).released (words_of s) e ∙ ap (λ b. s.head.lazy + b) (due F word i e z)
   counted_by e (Err why) z = omega arith
 
-  counted_one : (e : Event) → (step_of pr p s e).state.head.lazy ≡ s.head.lazy + (when passes (eager_test p g e) then calls_due pr p g word e else 0)
+  counted_one : (e : Event) → (step_of pr p s e).state.head.lazy ≡ s.head.lazy + (if passes (eager_test p g e) then calls_due pr p g word e else 0)
   unfolding act_of
   counted_one e = rw (step_act F.sound e, same_test F e) (counted_by e (refusal_of p g s.head.running e) refl)
 
@@ -178,24 +177,24 @@ module _ {p : Plan} {s : State} (F : Follows First p s) where
   K e = enters (eqb (calls_due First p h s.head.next.0 e) 1) e
 
   same_entry : (e : Event) → refusal_of p h s.head.running e ≡ Ok tt → K e ≡ enters (lazy_call (words_of s) e) e
-  unfolding when◌then◌else◌ KernelIs
+  unfolding KernelIs
   same_entry e z = ap (λ b. enters b e) (ap (λ n. eqb n 1) (sym (due F s.head.next.0 refl e z)) ∙ back (lazy_call (words_of s) e))
     where
-      back : (b : Bool) → eqb (when b then 1 else 0) 1 ≡ b
+      back : (b : Bool) → eqb (if b then 1 else 0) 1 ≡ b
       back true = refl
       back false = refl
 
   kernel_by : (e : Event) (t : Tested) → refusal_of p h s.head.running e ≡ t
       → (answered t s (after_of First p s e) (lazy_call (words_of s) e)).state.head.next.0
-      ≡ (when passes t && K e then (answered t s (after_of First p s e) (lazy_call (words_of s) e)).state.head.user.0 else s.head.next.0)
-  unfolding answered after_of passes second_word when◌then◌else◌
+      ≡ (if passes t && K e then (answered t s (after_of First p s e) (lazy_call (words_of s) e)).state.head.user.0 else s.head.next.0)
+  unfolding answered after_of passes second_word
   kernel_by e (Ok _) z = by_test (enters (lazy_call (words_of s) e) e)
       (λ q. (entered First p h (figures_after p h s.head.running e).released (words_of s) e q).next ∙ sym (if_true (K e) _ _ (same_entry e z ∙ q)))
       (λ q. (left First p h (figures_after p h s.head.running e).released (words_of s) e q).next ∙ sym (if_false (K e) _ _ (same_entry e z ∙ q)))
   kernel_by e (Err why) z = refl
 
   kernel_one : (e : Event) → (step_of First p s e).state.head.next.0
-      ≡ (when passes (eager_test p h e) && K e then (step_of First p s e).state.head.user.0 else s.head.next.0)
+      ≡ (if passes (eager_test p h e) && K e then (step_of First p s e).state.head.user.0 else s.head.next.0)
   unfolding act_of
   kernel_one e = rw (step_act F.sound e, same_test F e) (kernel_by e (refusal_of p h s.head.running e) refl)
 
@@ -203,7 +202,7 @@ module _ {p : Plan} (O : Obeys p) (es : List Event) where
   -- the kernel word after the event at place k, by the figures before it, the word before it and the user word after it
   kernel_next : ℕ → Figures → (word user : ℕ) → ℕ
   kernel_next k f word user =
-      when passes (eager_test p f (event_at es k)) && enters (eqb (calls_due First p f word (event_at es k)) 1) (event_at es k) then user else word
+      if passes (eager_test p f (event_at es k)) && enters (eqb (calls_due First p f word (event_at es k)) 1) (event_at es k) then user else word
 
   user_is : (k : ℕ) → (lazy_at First p es k).head.user.0 ≡ rank_of p (eager_at p es k) (runner_at p es k)
   user_is k = (follows First O es k).sound.sound.words.user ∙ ap₂ (rank_of p) (same_figures First O es k) (same_running First O es k)
@@ -228,5 +227,5 @@ module _ (pr : Protocol) {p : Plan} (O : Obeys p) (es : List Event) where
   lazy_counted zero = refl
   lazy_counted (suc k) =
       counted_one (follows pr O es k) (kernel_at p es k) (kernel_is pr O es k) (event_at es k)
-      ∙ ap₂ (λ n (f : Figures). n + (when passes (eager_test p f (event_at es k)) then calls_due pr p f (kernel_at p es k) (event_at es k) else 0))
+      ∙ ap₂ (λ n (f : Figures). n + (if passes (eager_test p f (event_at es k)) then calls_due pr p f (kernel_at p es k) (event_at es k) else 0))
       (lazy_counted k) (same_figures pr O es k)

@@ -7,7 +7,6 @@ use mathlib.Core.List.{List, [], ◌∷◌}
 use Prim.Native.Nat.{ℕ, zero, suc, ◌<◌}
 use native.Mathlib.Omega.{arith}
 use lib.ListN.{length}
-use Rattle.rules.specs.Numbers.Choice.{when◌then◌else◌}
 use Rattle.rules.specs.Numbers.Refusal.{number_of, first_true, Check, first_fault, check_for}
 use Rattle.rules.specs.Numbers.Answer.{tested_number, answer_number, answer_calls, verdict_number}
 use Rattle.rules.specs.Books.Load.{count_fault_of, record_checks, load_checks, plan_of, loaded_as, load_of}
@@ -67,7 +66,7 @@ module _ (pr : Protocol) (p : Plan) (s : State) where
     tested = first_true (step_tests pr p s e)
 
     step_is : step_of pr p s e ≡ answered tested s (after_of pr p s e) (lazy_call (words_of s) e)
-    unfolding step_of act_of answered refusal_of first_true when◌then◌else◌
+    unfolding step_of act_of answered refusal_of first_true
     step_is = by_test (sound_test pr p s) (λ q. rw q refl) (λ q. rw q refl)
 
     step_number : answer_number (step_of pr p s e).answer ≡ tested_number tested
@@ -153,7 +152,7 @@ module _ (tasks locks uses events : List ℕ) where
   -- the plan's own check of the counts finds nothing that the check of all four does not
   counts_spare : first_fault (count_check (counts_of tasks locks uses events) ∷ []) ≡ Ok tt → (e : ℕ) → e < 3
       → count_fault_of (length tasks) (length locks) (length uses) e ≡ false
-  unfolding check_for number_of count_fault_of when◌then◌else◌
+  unfolding check_for number_of count_fault_of
   counts_spare passed zero h = clean_for (count_check (counts_of tasks locks uses events) ∷ []) passed WrongCount 0 (omega arith)
   counts_spare passed (suc zero) h = clean_for (count_check (counts_of tasks locks uses events) ∷ []) passed WrongCount 1 (omega arith)
   counts_spare passed (suc (suc zero)) h = clean_for (count_check (counts_of tasks locks uses events) ∷ []) passed WrongCount 2 (omega arith)

@@ -1,5 +1,5 @@
 -- Demand 2 holds: of every plan that obeys the rules, every list of events and every place of it. Assumes nothing.
-use Rattle.std.specs.Prelude.{Ok, Err}
+use Rattle.std.specs.Prelude.{Ok, Err, if◌then◌else◌}
 use Rattle.rules.specs.Numbers.Verdict.{Tested}
 use mathlib.Core.Path.{◌≡◌, refl, sym, ◌∙◌, ap, ap₂, subst}
 use mathlib.Core.Logic.{◌≢◌, ⊎_elim, ◌↔◌}
@@ -10,7 +10,6 @@ use native.Mathlib.Nat.{eq-zero-or-pos}
 use native.Mathlib.Omega.{arith}
 use borrow.Author.Tests.{eqb-false, leb-false, not-false}
 use Rattle.rules.specs.Numbers.Capacity.{nobody}
-use Rattle.rules.specs.Numbers.Choice.{when◌then◌else◌}
 use Rattle.rules.specs.Numbers.Place.{at, greatest}
 use Rattle.rules.specs.Numbers.Refusal.{number_of, test_for, tests_before, Given}
 use Rattle.rules.specs.Books.Plan.{Obeys, declares}
@@ -63,7 +62,7 @@ module _ {p : Plan} (O : Obeys p) {f : Figures} (R : Ruled p f) where
 
   -- only an acquire has a test that gives 17, and where those before it do not hold the lock is open for no other task
   never_elsewhere : (e : Event) → Given OpenElsewhere (eager_test p f e) → ⊥
-  unfolding eager_test refusal_of tests_of release_order acquire_order unlock_order work_order finish_order test_for tests_before among once number_of when◌then◌else◌
+  unfolding eager_test refusal_of tests_of release_order acquire_order unlock_order work_order finish_order test_for tests_before among once number_of
   never_elsewhere (Release t) G = never_given _ OpenElsewhere refl G
   never_elsewhere (Acquire l) G =
       let (so, before) = given_holds (all_tests p f r (Acquire l)) refl OpenElsewhere G in
@@ -95,12 +94,12 @@ module _ {pr : Protocol} {p : Plan} {s : State} (F : Follows pr p s) where
 
   -- the calls of an event that is accepted, and of one that is refused
   calls_by : (e : Event) (t : Tested) → answer_calls (answered t s (after_of pr p s e) (lazy_call (words_of s) e)).answer
-      ≡ (when passes t then (when lazy_call (words_of s) e then 1 else 0) else 0)
-  unfolding answered answer_calls passes when◌then◌else◌
+      ≡ (if passes t then (if lazy_call (words_of s) e then 1 else 0) else 0)
+  unfolding answered answer_calls passes
   calls_by e (Ok _) = refl
   calls_by e (Err why) = refl
 
-  calls_are : (e : Event) → answer_calls (step_of pr p s e).answer ≡ (when passes (eager_test p f e) then (when lazy_call (words_of s) e then 1 else 0) else 0)
+  calls_are : (e : Event) → answer_calls (step_of pr p s e).answer ≡ (if passes (eager_test p f e) then (if lazy_call (words_of s) e then 1 else 0) else 0)
   unfolding act_of
   calls_are e = rw (step_act F.sound e, same_test F e) (calls_by e (refusal_of p f s.head.running e))
 
@@ -108,7 +107,7 @@ module _ {pr : Protocol} {p : Plan} {s : State} (F : Follows pr p s) where
   calls_few e = rw (calls_are e) (either (λ n. n ≤ 1) _ _ 0 (either (λ n. n ≤ 1) _ 1 0 (omega arith) (omega arith)) (omega arith))
 
   acquire_by : (l : ℕ) → answer_calls (step_of pr p s (Acquire l)).answer ≡ 0
-  unfolding lazy_call when◌then◌else◌
+  unfolding lazy_call
   acquire_by l = calls_are (Acquire l) ∙ by_test (passes (eager_test p f (Acquire l))) (λ e. rw e) (λ e. rw e)
 
   -- an accepted unlock is a call exactly where the rule says so; X is what the rule comes to
@@ -119,7 +118,7 @@ module _ {pr : Protocol} {p : Plan} {s : State} (F : Follows pr p s) where
   unfolding lazy_call
   unlock_by l X a rule =
       let z : refusal_of p f s.head.running (Unlock l) ≡ Ok tt = sym (same_test F (Unlock l)) ∙ passes_so _ a in
-      let c : answer_calls (step_of pr p s (Unlock l)).answer ≡ (when calls_for (back_of (words_of s)) s.head.next.0 then 1 else 0) = calls_are (Unlock l)
+      let c : answer_calls (step_of pr p s (Unlock l)).answer ≡ (if calls_for (back_of (words_of s)) s.head.next.0 then 1 else 0) = calls_are (Unlock l)
       ∙ if_true _ _ 0 a in (
         λ q. by_test (calls_for (back_of (words_of s)) s.head.next.0) (λ e. (rule z).0 e)
             (λ e. absurd (omega (arith, c, if_false {A = ℕ} (calls_for (back_of (words_of s)) s.head.next.0) 1 0 e))),

@@ -1,6 +1,6 @@
 -- Lazy calls never exceed eager calls, by either protocol: a call puts back a word below the second word, which is at most the user word, so the acting task's
 -- priority has fallen. And where the second protocol calls, another task is above the restored priority, so that the first calls too. Assumes nothing.
-use Rattle.std.specs.Prelude.{Ok}
+use Rattle.std.specs.Prelude.{Ok, if◌then◌else◌}
 use mathlib.Core.Path.{◌≡◌, refl, sym, ◌∙◌, ap, subst}
 use mathlib.Core.Logic.{◌≢◌}
 use mathlib.Core.Bool.{Bool, true, false}
@@ -9,7 +9,6 @@ use Prim.Native.Nat.{ℕ, zero, suc, ◌+◌, ◌≤◌}
 use native.Mathlib.Omega.{arith}
 use lib.Dec.{eqb}
 use borrow.Author.Tests.{ne_eqb}
-use Rattle.rules.specs.Numbers.Choice.{when◌then◌else◌}
 use Rattle.rules.specs.Numbers.Place.{sum}
 use Rattle.rules.specs.Books.Plan.{Obeys}
 use Rattle.rules.specs.Schedulers.Figures.{Figures, figures_of, priority_of}
@@ -51,8 +50,8 @@ module _ {pr : Protocol} {p : Plan} {s : State} (F : Follows pr p s) where
   r = s.head.running
 
   -- a call puts back a word below the second word, which is at most the user word: so the priority has fallen
-  fair_one : (e : Event) → refusal_of p f r e ≡ Ok tt → (when lazy_call (words_of s) e then 1 else 0) ≤ eager_calls p f (figures_after p f r e) r e
-  unfolding lazy_call eager_calls when◌then◌else◌
+  fair_one : (e : Event) → refusal_of p f r e ≡ Ok tt → (if lazy_call (words_of s) e then 1 else 0) ≤ eager_calls p f (figures_after p f r e) r e
+  unfolding lazy_call eager_calls
   fair_one (Release t) z = omega arith
   fair_one (Acquire l) z = omega arith
   fair_one (Unlock l) z = by_test (calls_for (back_of (words_of s)) s.head.next.0)
@@ -75,8 +74,7 @@ module _ {pr : Protocol} {p : Plan} {s : State} (F : Follows pr p s) where
   fair_one Tick z = omega arith
 
 -- what an event adds to two sums
-added : (t : Bool) (a b c d : ℕ) → a ≤ b → (t ≡ true → c ≤ d) → a + (when t then c else 0) ≤ b + (when t then d else 0)
-unfolding when◌then◌else◌
+added : (t : Bool) (a b c d : ℕ) → a ≤ b → (t ≡ true → c ≤ d) → a + (if t then c else 0) ≤ b + (if t then d else 0)
 added true a b c d h k = omega (arith, k refl)
 added false a b c d h k = omega arith
 
@@ -86,7 +84,7 @@ module _ {p : Plan} (O : Obeys p) (es : List Event) where
   passed_at_lem pr k a = sym (same_tests pr O es k) ∙ passed_at p es k a
 
   -- the event at place k, where it is accepted, has the calls that are due
-  due_at : (pr : Protocol) (k : ℕ) → accepted_at p es k ≡ true → (when lazy_call (words_of (lazy_at pr p es k)) (event_at es k) then 1 else 0) ≡ calls_at pr p es k
+  due_at : (pr : Protocol) (k : ℕ) → accepted_at p es k ≡ true → (if lazy_call (words_of (lazy_at pr p es k)) (event_at es k) then 1 else 0) ≡ calls_at pr p es k
   due_at pr k a = due (follows pr O es k) (kernel_at p es k) (kernel_is pr O es k) (event_at es k) (passed_at_lem pr k a)
       ∙ ap (λ f. calls_due pr p f (kernel_at p es k) (event_at es k)) (same_figures pr O es k)
 
@@ -95,7 +93,7 @@ module _ {p : Plan} (O : Obeys p) (es : List Event) where
   fair_event pr k a =
       let F : Follows pr p (lazy_at pr p es k) = follows pr O es k in
       let e : Event = event_at es k in
-      let bit : ℕ = when lazy_call (words_of (lazy_at pr p es k)) e then 1 else 0 in
+      let bit : ℕ = if lazy_call (words_of (lazy_at pr p es k)) e then 1 else 0 in
       let h : bit ≤ eager_calls p (eager_at p es k) (figures_after p (eager_at p es k) (runner_at p es k) e) (runner_at p es k) e =
       subst (λ (f : Figures). bit ≤ eager_calls p f (figures_after p f (running_of p f) e) (running_of p f) e) (same_figures pr O es k)
       (rw (← F.running) (fair_one F e (passed_at_lem pr k a))) in
@@ -117,8 +115,8 @@ module _ {p : Plan} {s₁ s₂ : State} (F₁ : Follows First p s₁) (F₂ : Fo
   -- where the second calls, so does the first
   between_one : (e : Event) → refusal_of p (figures_of s₁) s₁.head.running e ≡ Ok tt
       → refusal_of p (figures_of s₂) s₂.head.running e ≡ Ok tt
-      → (when lazy_call (words_of s₂) e then 1 else 0) ≤ (when lazy_call (words_of s₁) e then 1 else 0)
-  unfolding lazy_call when◌then◌else◌
+      → (if lazy_call (words_of s₂) e then 1 else 0) ≤ (if lazy_call (words_of s₁) e then 1 else 0)
+  unfolding lazy_call
   between_one (Release t) y z = omega arith
   between_one (Acquire l) y z = omega arith
   between_one (Unlock l) y z = by_test (calls_for (back_of (words_of s₂)) s₂.head.next.0)

@@ -1,5 +1,5 @@
 -- The history of a list by the eager scheduler alone: each event is accepted, and moves the figures, or it changes nothing. Assumes nothing.
-use Rattle.std.specs.Prelude.{Ok, Err}
+use Rattle.std.specs.Prelude.{Ok, Err, if◌then◌else◌}
 use Rattle.rules.specs.Numbers.Verdict.{Tested}
 use mathlib.Core.Path.{◌≡◌, refl, sym, ◌∙◌, ap, subst}
 use mathlib.Core.Bool.{true, false}
@@ -7,7 +7,6 @@ use mathlib.Core.List.{List}
 use Prim.Native.Nat.{ℕ, zero, suc, ◌+◌, ◌<◌}
 use native.Mathlib.Omega.{arith}
 use Rattle.rules.specs.Numbers.Capacity.{max_accepted}
-use Rattle.rules.specs.Numbers.Choice.{when◌then◌else◌}
 use Rattle.rules.specs.Numbers.Place.{sum}
 use Rattle.rules.specs.Schedulers.Figures.{Figures}
 use Rattle.rules.specs.Schedulers.FiguresAfter.{eager_calls, figures_after}
@@ -38,8 +37,8 @@ step_refused p f e h = refused_still (eager_test p f e) (figures_after p f (runn
 -- what an event adds to the eager calls: those that it has, if it is accepted
 step_calls : (p : Plan) (f : Figures) (e : Event) (t : Tested)
     → (settle t (figures_after p f (running_of p f) e) f).eager
-    ≡ f.eager + (when passes t then eager_calls p f (settle t (figures_after p f (running_of p f) e) f) (running_of p f) e else 0)
-unfolding settle passes when◌then◌else◌
+    ≡ f.eager + (if passes t then eager_calls p f (settle t (figures_after p f (running_of p f) e) f) (running_of p f) e else 0)
+unfolding settle passes
 step_calls p f e (Ok _) = calls_moved p f (running_of p f) e
 step_calls p f e (Err why) = omega arith
 

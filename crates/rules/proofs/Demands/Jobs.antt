@@ -1,4 +1,5 @@
 -- The work of lower tasks in a job, by places in the history. Assumes nothing.
+use Rattle.std.specs.Prelude.{if◌then◌else◌}
 use mathlib.Core.Path.{◌≡◌, refl, sym, ◌∙◌, ap, subst}
 use mathlib.Core.Logic.{⊎_elim, ◌↔◌}
 use mathlib.Core.Bool.{true, ◌&&◌}
@@ -9,7 +10,6 @@ use native.Mathlib.Omega.{arith}
 use lib.Dec.{ltb}
 use borrow.Author.Tests.{ltb-true, lt-ltb}
 use Rattle.rules.specs.Numbers.Capacity.{max_tasks}
-use Rattle.rules.specs.Numbers.Choice.{when◌then◌else◌}
 use Rattle.rules.specs.Numbers.Place.{at}
 use Rattle.rules.specs.Books.Event.{kind_of, amount_of}
 use Rattle.rules.specs.Books.Plan.{Obeys}
@@ -191,8 +191,8 @@ module _ {p : Plan} (O : Obeys p) (es : List Event) where
         (eq-or-lt_of_le (le_of_suc-le-suc J.since))
       where
         lower_accepted : (k : ℕ) → accepted_at p es k ≡ true → lower_units p es t k
-            ≡ (when ltb (at p.base (runner_at p es k)) (at p.base t) then amount_of (event_at es k) else 0)
-        lower_accepted k a = ap (λ b. when b && ltb (at p.base (runner_at p es k)) (at p.base t) then amount_of (event_at es k) else 0) a
+            ≡ (if ltb (at p.base (runner_at p es k)) (at p.base t) then amount_of (event_at es k) else 0)
+        lower_accepted k a = ap (λ b. if b && ltb (at p.base (runner_at p es k)) (at p.base t) then amount_of (event_at es k) else 0) a
 
     ends : (k : ℕ) → Does p es k t Finish → (at (eager_at p es (suc k)).released t ≡ 0) × (at (eager_at p es (suc k)).delay t ≡ at (eager_at p es k).delay t)
     unfolding figures_after
@@ -218,7 +218,7 @@ module _ {p : Plan} (O : Obeys p) (es : List Event) where
   delay_history : (k t : ℕ) → at (eager_at p es k).delay t ≡ delay_count p es t k
   unfolding eager_at delay_count
   delay_history zero t = zero_past max_tasks t
-  delay_history (suc k) t = each p es (λ f. at f.delay t ≡ (when accepted_at p es k then delay_next p (eager_at p es k) (event_at es k) t
+  delay_history (suc k) t = each p es (λ f. at f.delay t ≡ (if accepted_at p es k then delay_next p (eager_at p es k) (event_at es k) t
       (delay_count p es t k) else delay_count p es t k)) k
       (λ a. delay_one O (ruled_at O es k) (room_at p es k a) (late_at k) (event_at es k) (allowed_at p es k a) t
       ∙ ap (delay_next p (eager_at p es k) (event_at es k) t) (delay_history k t) ∙ sym (if_true _ _ (delay_count p es t k) a))

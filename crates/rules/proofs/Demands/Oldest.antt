@@ -1,11 +1,11 @@
 -- The oldest open lock of a ceiling: the section by which a task of lower base holds up another. Assumes nothing.
+use Rattle.std.specs.Prelude.{if◌then◌else◌}
 use mathlib.Core.Path.{◌≡◌, sym, ◌∙◌, ap, ap₂, subst}
 use mathlib.Core.Bool.{true}
 use Prim.Native.Nat.{ℕ, zero, suc, ◌≤◌, ◌<◌}
 use native.Mathlib.Omega.{arith}
 use lib.Dec.{leb}
 use borrow.Author.Tests.{leb-true, leb-false, le-leb}
-use Rattle.rules.specs.Numbers.Choice.{when◌then◌else◌}
 use Rattle.rules.specs.Numbers.Place.{at}
 use Rattle.rules.specs.Numbers.Row.{newest, under, pushed, has, priority}
 use Rattle.rules.specs.Schedulers.Figures.{Figures, holds, priority_of}
@@ -18,7 +18,7 @@ module _ (ceiling : ℕ → ℕ) (base : ℕ) where
   -- of a row of k takes the lock of the oldest one of ceiling q or more
   unfoldable pub oldest : ℕ → ℕ → ℕ → ℕ
   oldest q row zero = 0
-  oldest q row (suc k) = when leb q (priority ceiling base (under row) k) then oldest q (under row) k else newest row
+  oldest q row (suc k) = if leb q (priority ceiling base (under row) k) then oldest q (under row) k else newest row
 
   -- the row under the newest take decides it, where that row is urgent enough
   pub oldest_under : (q row k : ℕ) → q ≤ priority ceiling base (under row) k → oldest q row (suc k) ≡ oldest q (under row) k

@@ -1,4 +1,5 @@
 -- What one accepted event of the eager scheduler does to a job, a row of takes, the units of a section, who holds up whom, and a delay. Assumes nothing.
+use Rattle.std.specs.Prelude.{if◌then◌else◌}
 use mathlib.Core.Path.{◌≡◌, refl, sym, ◌∙◌, ap, ap₂, subst}
 use mathlib.Core.Logic.{◌≢◌}
 use mathlib.Core.Bool.{Bool, true, false, ◌&&◌}
@@ -8,7 +9,6 @@ use lib.Dec.{ltb, eqb}
 use lib.Seq.{get_or-set_other}
 use borrow.Author.Tests.{ltb-true, eqb-true, eqb-false, lt-ltb, le-ltb, eq-eqb, ne_eqb}
 use Rattle.rules.specs.Numbers.Capacity.{max_accepted}
-use Rattle.rules.specs.Numbers.Choice.{when◌then◌else◌}
 use Rattle.rules.specs.Numbers.Place.{at}
 use Rattle.rules.specs.Books.Event.{kind_of, amount_of}
 use Rattle.rules.specs.Numbers.Row.{priority}
@@ -55,11 +55,10 @@ plain_same p f g x t h l u = (
   ap₂ (oldest (at p.ceiling) (at p.base x) (at p.base t)) l h,
 )
 
-nothing : (b : Bool) (c : ℕ) → c ≡ c + (when b then 0 else 0)
+nothing : (b : Bool) (c : ℕ) → c ≡ c + (if b then 0 else 0)
 nothing b c = either (λ v. c ≡ c + v) b 0 0 (omega arith) (omega arith)
 
-no_more : (b : Bool) → ◌≡◌ {A = ℕ} (when b && false then 1 else 0) 0
-unfolding when◌then◌else◌
+no_more : (b : Bool) → ◌≡◌ {A = ℕ} (if b && false then 1 else 0) 0
 no_more true = refl
 no_more false = refl
 
@@ -90,21 +89,21 @@ module _ {p : Plan} (O : Obeys p) {f : Figures} (R : Ruled p f) (room : f.accept
 
   -- a row that stays, of a task that does not run, has neither a take more nor one less
   row_others : (g : Figures) (y l : ℕ) (given taken : Bool) → y ≢ r → at g.depth y ≡ at f.depth y → at g.takes y ≡ at f.takes y
-      → in_row g y l + (when eqb r y && given then 1 else 0) ≡ in_row f y l + (when eqb r y && taken then 1 else 0)
+      → in_row g y l + (if eqb r y && given then 1 else 0) ≡ in_row f y l + (if eqb r y && taken then 1 else 0)
   row_others g y l given taken n d t = rw (ne_eqb r y (λ q. n (sym q)), t, d)
 
   -- an event adds a take where it is one, and leaves one less where it gives one back; the rows of the others stay
   pub row_counts : (e : Event) → Allowed p f r e → (x l : ℕ)
-      → in_row (figures_after p f r e) x l + (when eqb r x && gives_back l e then 1 else 0) ≡ in_row f x l + (when eqb r x && takes_lock l e then 1 else 0)
+      → in_row (figures_after p f r e) x l + (if eqb r x && gives_back l e then 1 else 0) ≡ in_row f x l + (if eqb r x && takes_lock l e then 1 else 0)
   unfolding figures_after takes_lock gives_back
   row_counts (Release y) o x l = rw (no_more (eqb r x))
-  row_counts (Acquire v) o x l = at_or (λ x. in_row (figures_after p f r (Acquire v)) x l + (when eqb r x && false then 1 else 0)
-      ≡ in_row f x l + (when eqb r x && eqb v l then 1 else 0)) r
+  row_counts (Acquire v) o x l = at_or (λ x. in_row (figures_after p f r (Acquire v)) x l + (if eqb r x && false then 1 else 0)
+      ≡ in_row f x l + (if eqb r x && eqb v l then 1 else 0)) r
       (rw (no_more (eqb r r), eq-eqb r r refl) (omega (arith, SoundFigures.take_copies A (runner_out O R o.runs) o l)))
       (λ y n. row_others (figures_after p f r (Acquire v)) y l false (eqb v l) n (SoundFigures.take_helds A (runner_out O R o.runs) o y n)
       (SoundFigures.take_rows A (runner_out O R o.runs) o y n)) x
-  row_counts (Unlock v) o x l = at_or (λ x. in_row (figures_after p f r (Unlock v)) x l + (when eqb r x && eqb v l then 1 else 0)
-      ≡ in_row f x l + (when eqb r x && false then 1 else 0)) r
+  row_counts (Unlock v) o x l = at_or (λ x. in_row (figures_after p f r (Unlock v)) x l + (if eqb r x && eqb v l then 1 else 0)
+      ≡ in_row f x l + (if eqb r x && false then 1 else 0)) r
       (rw (no_more (eqb r r), eq-eqb r r refl) (omega (arith, SoundFigures.give_copies A (runner_out O R o.runs) o l)))
       (λ y n. row_others (figures_after p f r (Unlock v)) y l (eqb v l) false n (SoundFigures.give_helds A (runner_out O R o.runs) o y n)
       (SoundFigures.give_rows A (runner_out O R o.runs) o y n)) x
@@ -116,11 +115,11 @@ module _ {p : Plan} (O : Obeys p) {f : Figures} (R : Ruled p f) (room : f.accept
 
   -- of a lock that task x has open before an event and after it, the units grow by what x works
   pub units_one : (e : Event) → Allowed p f r e → (x l : ℕ) → holds f x l ≡ true → holds (figures_after p f r e) x l ≡ true
-      → at (figures_after p f r e).units l ≡ at f.units l + (when eqb r x then amount_of e else 0)
+      → at (figures_after p f r e).units l ≡ at f.units l + (if eqb r x then amount_of e else 0)
   unfolding figures_after amount_of
   units_one (Release y) o x l h k = nothing (eqb r x) (at f.units l)
   units_one (Acquire v) o x l h k = nothing (eqb r x) (at f.units l)
-  units_one (Unlock v) o x l h k = at_or (λ x. holds f x l ≡ true → holds g x l ≡ true → at g.units l ≡ at f.units l + (when eqb r x then 0 else 0)) r
+  units_one (Unlock v) o x l h k = at_or (λ x. holds f x l ≡ true → holds g x l ≡ true → at g.units l ≡ at f.units l + (if eqb r x then 0 else 0)) r
       (λ h k. SoundFigures.give_section A out o l k ∙ nothing (eqb r r) (at f.units l))
       (λ y n h k. SoundFigures.give_units A out o l
       (λ q. n (R.figured.alone y r l h (subst (λ v. holds f r v ≡ true) (sym q) (SoundFigures.give_mine A out o))))
@@ -131,7 +130,7 @@ module _ {p : Plan} (O : Obeys p) {f : Figures} (R : Ruled p f) (room : f.accept
 
       out : 0 < at f.released r
       out = runner_out O R o.runs
-  units_one (Work a) o x l h k = at_or (λ x. holds f x l ≡ true → holds g x l ≡ true → at g.units l ≡ at f.units l + (when eqb r x then a else 0)) r
+  units_one (Work a) o x l h k = at_or (λ x. holds f x l ≡ true → holds g x l ≡ true → at g.units l ≡ at f.units l + (if eqb r x then a else 0)) r
       (λ h k. SoundFigures.work_units A out o l ∙ charged_open f r a l h ∙ ap (λ v. at f.units l + v) (sym (if_true (eqb r r) a 0 (eq-eqb r r refl))))
       (λ y n h k. omega (
         arith,
@@ -181,7 +180,7 @@ module _ {p : Plan} (O : Obeys p) {f : Figures} (R : Ruled p f) (room : f.accept
 
   -- r's work, where it counts, is within the bound and so does not stick
   no_stick : Late p f → {a : ℕ} → Workable p f r a → (t : ℕ)
-      → delayed p f r a t ≡ (when ltb 0 (at f.released t) && ltb (at p.base r) (at p.base t) then at f.delay t + a else at f.delay t)
+      → delayed p f r a t ≡ (if ltb 0 (at f.released t) && ltb (at p.base r) (at p.base t) then at f.delay t + a else at f.delay t)
   no_stick L {a} o t = by_test (ltb 0 (at f.released t) && ltb (at p.base r) (at p.base t))
       (λ e. let (u, v) = and_true (ltb 0 (at f.released t)) (ltb (at p.base r) (at p.base t)) e in
       let c : Counts p f r t = record { out = ltb-true 0 (at f.released t) u; lower = ltb-true (at p.base r) (at p.base t) v } in
@@ -206,8 +205,8 @@ module _ {p : Plan} (O : Obeys p) {f : Figures} (R : Ruled p f) (room : f.accept
 
   -- to the delay of a released task it adds the units of a task of lower base
   pub delay_adds : (e : Event) → Allowed p f r e → (t c : ℕ) → 0 < at f.released t
-      → delay_next p f e t c ≡ c + (when ltb (at p.base r) (at p.base t) then amount_of e else 0)
-  unfolding delay_next amount_of when◌then◌else◌
+      → delay_next p f e t c ≡ c + (if ltb (at p.base r) (at p.base t) then amount_of e else 0)
+  unfolding delay_next amount_of
   delay_adds (Release y) o t c u = rw (ne_eqb y t (λ q. omega (arith, o.resting, ap (at f.released) q))) (nothing (ltb (at p.base r) (at p.base t)) c)
   delay_adds (Acquire l) o t c u = nothing (ltb (at p.base r) (at p.base t)) c
   delay_adds (Unlock l) o t c u = nothing (ltb (at p.base r) (at p.base t)) c
@@ -218,7 +217,7 @@ module _ {p : Plan} (O : Obeys p) {f : Figures} (R : Ruled p f) (room : f.accept
   -- a task that is not released stays so, with its delay, until it is
   pub stays_off : (e : Event) → Allowed p f r e → (t : ℕ) → at f.released t ≡ 0 → (e ≢ Release t)
       → (at (figures_after p f r e).released t ≡ 0) × ((c : ℕ) → delay_next p f e t c ≡ c)
-  unfolding figures_after delay_next when◌then◌else◌
+  unfolding figures_after delay_next
   stays_off (Release y) o t z n =
       let m : t ≢ y = λ q. n (ap Release (sym q)) in
       (SoundFigures.release_others A o r t m ∙ z, λ c. rw (ne_eqb y t (λ q. m (sym q))))

@@ -11,7 +11,6 @@ use native.Mathlib.Omega.{arith}
 use lib.ListN.{length}
 use borrow.Author.Tests.{ltb-false}
 use Rattle.rules.specs.Numbers.Capacity.{max_events}
-use Rattle.rules.specs.Numbers.Choice.{when◌then◌else◌}
 use Rattle.rules.specs.Numbers.Refusal.{number_of, check_for}
 use Rattle.rules.specs.Numbers.Answer.{tested_number, verdict_number, verdict_place}
 use Rattle.rules.specs.Books.Plan.{Obeys}
@@ -45,7 +44,7 @@ use Rattle.rules.proofs.Demands.WorstRun.{worst_few, worst_recorded, worst_reach
 module _ (b rows : List ℕ) where
   module _ (passed : check_of b (length rows) ≡ Ok tt) where
     rows_fit : length (events_of b) * 4 ≤ length rows
-    unfolding event_checks check_for number_of when◌then◌else◌
+    unfolding event_checks check_for number_of
     rows_fit = omega (
       arith,
       length_from (record_event (event_body b)) 0 (count_at b 3),

@@ -1,5 +1,5 @@
 -- The run of a list from a fresh start: its rows, its verdict and its state keep demands 2 and 3. Assumes nothing.
-use Rattle.std.specs.Prelude.{Ok, Err}
+use Rattle.std.specs.Prelude.{Ok, Err, if◌then◌else◌}
 use Rattle.rules.specs.Numbers.Verdict.{Answer, refused_at}
 use mathlib.Core.Path.{◌≡◌, refl, sym, ◌∙◌, ap, subst}
 use mathlib.Core.Logic.{◌≢◌, ⊎_elim}
@@ -9,7 +9,6 @@ use Prim.Native.Nat.{ℕ, zero, suc, ◌+◌, ◌*◌, ◌≤◌, ◌<◌}
 use native.Mathlib.Omega.{arith}
 use lib.ListN.{length, drop, drop_of_length-le}
 use lib.Seq.{drop-cons}
-use Rattle.rules.specs.Numbers.Choice.{when◌then◌else◌}
 use Rattle.rules.specs.Numbers.Place.{at}
 use Rattle.rules.specs.Books.Plan.{Obeys}
 use Rattle.rules.specs.Schedulers.State.{fresh_of}
@@ -73,14 +72,14 @@ module _ (pr : Protocol) {p : Plan} (O : Obeys p) (es : List Event) (rows : List
     unfolding accepted_at passes
     accepted_here = ap passes (same_tests pr O es k ∙ (step_call (follows pr O es k).sound (event_at es k) call said).0)
 
-    calls_here : answer_calls (step_of pr p (lazy_at pr p es k) (event_at es k)).answer ≡ (when call then 1 else 0)
+    calls_here : answer_calls (step_of pr p (lazy_at pr p es k) (event_at es k)).answer ≡ (if call then 1 else 0)
     unfolding answer_calls
     calls_here = ap answer_calls said
 
-    due_here : (when call then 1 else 0) ≡ calls_at pr p es k
+    due_here : (if call then 1 else 0) ≡ calls_at pr p es k
     due_here =
         let (z, c) = step_call (follows pr O es k).sound (event_at es k) call said in
-        ap (λ c. when c then 1 else 0) c ∙ due (follows pr O es k) (kernel_at p es k) (kernel_is pr O es k) (event_at es k) z
+        ap (λ c. if c then 1 else 0) c ∙ due (follows pr O es k) (kernel_at p es k) (kernel_is pr O es k) (event_at es k) z
         ∙ ap (λ f. calls_due pr p f (kernel_at p es k) (event_at es k)) (same_figures pr O es k)
 
     row_here : (xs : List ℕ) → length xs ≡ length rows → let ys = with_row xs k (lazy_at pr p es (suc k)).head call in RowAt pr p es k (at ys (k * 4))

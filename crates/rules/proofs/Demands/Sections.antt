@@ -1,4 +1,5 @@
 -- The sections of the history: where they begin, that they are the open locks of the state, and that their units are the work done in them. Assumes nothing.
+use Rattle.std.specs.Prelude.{if◌then◌else◌}
 use mathlib.Core.Path.{◌≡◌, refl, sym, ◌∙◌, ap, subst}
 use mathlib.Core.Logic.{⊎_elim}
 use mathlib.Core.Bool.{Bool, true, false, ◌&&◌}
@@ -10,7 +11,6 @@ use lib.Dec.{eqb}
 use lib.ListN.{replicate}
 use borrow.Author.Tests.{eqb-true}
 use Rattle.rules.specs.Numbers.Capacity.{max_tasks}
-use Rattle.rules.specs.Numbers.Choice.{when◌then◌else◌}
 use Rattle.rules.specs.Numbers.Place.{at, count}
 use Rattle.rules.specs.Books.Event.{amount_of}
 use Rattle.rules.specs.Books.Plan.{Obeys}
@@ -33,8 +33,7 @@ use Rattle.rules.proofs.Demands.History.{each, room_at, allowed_at, allowed_for,
 use Rattle.rules.proofs.Demands.OneEvent.{in_row, row_counts, units_one}
 
 -- a count goes up by one where its test holds
-count_one : (b : Bool) (n : ℕ) → (when b then n + 1 else n) ≡ n + (when b then 1 else 0)
-unfolding when◌then◌else◌
+count_one : (b : Bool) (n : ℕ) → (if b then n + 1 else n) ≡ n + (if b then 1 else 0)
 count_one true n = refl
 count_one false n = omega arith
 
@@ -62,9 +61,9 @@ module _ {p : Plan} (O : Obeys p) (es : List Event) where
   gives x l k = acts_at p es x k && gives_back l (event_at es k)
 
   -- the takes in a row are those that were not given back
-  row_next : (k x l : ℕ) → in_row (eager_at p es (suc k)) x l + (when gives x l k then 1 else 0) ≡ in_row (eager_at p es k) x l + (when takes x l k then 1 else 0)
+  row_next : (k x l : ℕ) → in_row (eager_at p es (suc k)) x l + (if gives x l k then 1 else 0) ≡ in_row (eager_at p es k) x l + (if takes x l k then 1 else 0)
   unfolding acts_at
-  row_next k x l = each p es (λ f. in_row f x l + (when gives x l k then 1 else 0) ≡ in_row (eager_at p es k) x l + (when takes x l k then 1 else 0)) k
+  row_next k x l = each p es (λ f. in_row f x l + (if gives x l k then 1 else 0) ≡ in_row (eager_at p es k) x l + (if takes x l k then 1 else 0)) k
       (λ a. rw a (row_counts O (ruled_at O es k) (room_at p es k a) (event_at es k) (allowed_at p es k a) x l))
       (λ a. rw a)
 
@@ -145,12 +144,12 @@ module _ {p : Plan} (O : Obeys p) (es : List Event) where
       (runner_out O (ruled_at O es k) (allowed_for p es D.does).runs) (allowed_for p es D.does) y m h) y)))
 
   -- what task x works at place k, where the event is accepted, and where it is not
-  own_accepted : (k x : ℕ) → accepted_at p es k ≡ true → own_units p es x k ≡ (when eqb (runner_at p es k) x then amount_of (event_at es k) else 0)
+  own_accepted : (k x : ℕ) → accepted_at p es k ≡ true → own_units p es x k ≡ (if eqb (runner_at p es k) x then amount_of (event_at es k) else 0)
   unfolding own_units acts_at
   own_accepted k x a = rw a
 
   own_refused : (k x : ℕ) → accepted_at p es k ≡ false → own_units p es x k ≡ 0
-  unfolding own_units acts_at when◌then◌else◌
+  unfolding own_units acts_at
   own_refused k x a = rw a
 
   section_units : (k x l a : ℕ) → Section p es x l a k → at (eager_at p es k).units l ≡ own_total p es x a k
@@ -164,7 +163,7 @@ module _ {p : Plan} (O : Obeys p) (es : List Event) where
       let was : holds (eager_at p es k) x l ≡ true = now_open k x l (S.still k g (omega arith)) in
       rw (after_more (own_units p es x) a k g) (each p es (λ f. holds f x l ≡ true → at f.units l ≡ own_total p es x a k + own_units p es x k) k
       (λ b is. units_one O (ruled_at O es k) (room_at p es k b) (event_at es k) (allowed_at p es k b) x l was is
-      ∙ ap (λ v. v + (when eqb (runner_at p es k) x then amount_of (event_at es k) else 0)) u ∙ ap (λ v. own_total p es x a k + v) (sym (own_accepted k x b)))
+      ∙ ap (λ v. v + (if eqb (runner_at p es k) x then amount_of (event_at es k) else 0)) u ∙ ap (λ v. own_total p es x a k + v) (sym (own_accepted k x b)))
       (λ b is. omega (arith, u, own_refused k x b))
       (now_open (suc k) x l (S.still (suc k) (omega arith) (omega arith)))))
       (eq-or-lt_of_le (le_of_suc-le-suc S.since))

@@ -12,7 +12,6 @@ use lib.Dec.{eqb, ltb}
 use lib.ListN.{length}
 use borrow.Author.Tests.{ltb-true, ltb-false}
 use Rattle.rules.specs.Numbers.Capacity.{max_tasks, max_locks, max_uses, max_events, max_delay, nobody}
-use Rattle.rules.specs.Numbers.Choice.{when◌then◌else◌}
 use Rattle.rules.specs.Numbers.Place.{at, sum, greatest, first_from}
 use Rattle.rules.specs.Numbers.Refusal.{number_of, Check, first_fault, check_for}
 use Rattle.rules.specs.Books.Plan.{most, count_fault, Obeys}
@@ -62,11 +61,11 @@ place_within n (c ∷ cs) w why place e = by_test (ltb (first_of c) c.count)
 -- a book whose contents pass has no more records of a kind than a book may have
 module _ (b : List ℕ) (passed : first_fault (contents_checks b) ≡ Ok tt) where
   in_range : (e : ℕ) → e < 4 → count_fault e (count_at b e) ≡ false
-  unfolding contents_checks check_for number_of when◌then◌else◌
+  unfolding contents_checks check_for number_of
   in_range = clean_for (contents_checks b) passed WrongCount
 
   few_records : (count_at b 0 ≤ max_tasks) × (count_at b 1 ≤ max_locks) × (count_at b 2 ≤ max_uses) × (count_at b 3 ≤ max_events)
-  unfolding count_fault most when◌then◌else◌
+  unfolding count_fault most
   few_records = (
     ltb-false max_tasks (count_at b 0) (or_false (eqb (count_at b 0) 0) (ltb max_tasks (count_at b 0)) (in_range 0 (omega arith))).1,
     ltb-false max_locks (count_at b 1) (in_range 1 (omega arith)),

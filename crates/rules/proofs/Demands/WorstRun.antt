@@ -6,7 +6,6 @@ use native.Mathlib.Omega.{arith}
 use lib.Dec.{eqb}
 use lib.ListN.{length}
 use borrow.Author.Tests.{ne_eqb}
-use Rattle.rules.specs.Numbers.Choice.{when◌then◌else◌}
 use Rattle.rules.specs.Numbers.Place.{at}
 use Rattle.rules.specs.Books.Event.{kind_of, id_of, amount_of, event_fault}
 use Rattle.rules.specs.Books.Plan.{Obeys}
@@ -34,7 +33,7 @@ use Rattle.rules.proofs.Demands.Running.{ran_up_to, ran_whole}
 
 -- an accepted event has a record, if its amount fits
 allowed_recorded : {p : Plan} → Obeys p → (f : Figures) (r : ℕ) (e : Event) → Allowed p f r e → amount_of e < 65536 → Recorded e
-unfolding event_fault kind_of id_of amount_of when◌then◌else◌
+unfolding event_fault kind_of id_of amount_of
 allowed_recorded O f r (Release t) o h = record { right = refl; id = omega (arith, o.known, few_tasks O); amount = h }
 allowed_recorded O f r (Acquire l) o h = record { right = refl; id = omega (arith, o.known, few_locks O); amount = h }
 allowed_recorded O f r (Unlock l) o h = record { right = refl; id = omega (arith, o.known, few_locks O); amount = h }
@@ -60,11 +59,11 @@ module _ {p : Plan} (O : Obeys p) (t : ℕ) (h : t < p.tasks) where
   worst = worst_case p t
 
   pub worst_few : length worst ≤ 4
-  unfolding worst_case when◌then◌else◌
+  unfolding worst_case
   worst_few = by_test (eqb (bound_of p t) 0) (λ e. rw e (omega arith)) (λ e. rw e (omega arith))
 
   worst_amounts : (k : ℕ) → amount_of (event_at worst k) ≤ bound_of p t
-  unfolding worst_case when◌then◌else◌
+  unfolding worst_case
   worst_amounts k = by_test (eqb (bound_of p t) 0) (λ e. rw e (one_amount t (bound_of p t) k)) (λ e. rw e (four_amounts _ _ t (bound_of p t) k))
 
   pub worst_recorded : (k : ℕ) → k < length worst → Recorded (event_at worst k)

@@ -9,7 +9,6 @@ use lib.Dec.{ltb}
 use lib.ListN.{length, drop, length-append, length-drop}
 use lib.Seq.{take-append_seam, get_or-append-add, get_or-drop}
 use borrow.Author.Tests.{lt-ltb, le-ltb, ltb-false}
-use Rattle.rules.specs.Numbers.Choice.{when◌then◌else◌}
 use Rattle.rules.specs.Numbers.Place.{at}
 use Rattle.rules.specs.Numbers.Refusal.{number_of, first_fault, check_for}
 use Rattle.rules.specs.Numbers.Answer.{verdict_number, verdict_place}
@@ -70,7 +69,7 @@ module _ (tasks locks uses events : List ℕ) where
 
     -- where the writer writes, the records pass and there is room
     wrote_passed : first_fault (write_checks tasks locks uses events room) ≡ Ok tt → (whole ≡ Ok tt) × (length b ≤ room)
-    unfolding write_checks check_for number_of when◌then◌else◌
+    unfolding write_checks check_for number_of
     wrote_passed e =
         let (x, y) = passed_both (whole_checks tasks locks uses events) _ e in
         (x, ltb-false room (length b) (clean_for (_ ∷ []) y ShortBuffer 0 (omega arith)))

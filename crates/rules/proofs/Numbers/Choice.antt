@@ -1,4 +1,5 @@
 -- Laws of a choice by a test, and the sets by which a proof goes along the code's own tests. Assumes nothing.
+use Rattle.std.specs.Prelude.{if◌then◌else◌}
 use mathlib.Core.Path.{◌≡◌, refl, sym, ◌∙◌, ap, subst}
 use mathlib.Core.Logic.{◌⊎◌, inl, inr}
 use mathlib.Core.Bool.{Bool, true, false, not, ◌&&◌, ◌||◌}
@@ -9,29 +10,26 @@ use native.Mathlib.Omega.{arith}
 use lib.Dec.{T}
 use mir.Val.{bool_byte}
 use borrow.Author.Tests.{lt-ltb, le-ltb, le-leb, lt-leb, eq-eqb, ne_eqb, not-true, not-false}
-use Rattle.rules.specs.Numbers.Choice.{when◌then◌else◌, all_true}
+use Rattle.rules.specs.Numbers.Choice.{all_true}
 
 -- every proof rests on this file, so the runs of RULES 18 are checked before them all: a wrong rule that they show is refused there first
 
-pub if_true : {A : Type 0} (t : Bool) (a b : A) → t ≡ true → (when t then a else b) ≡ a
-unfolding when◌then◌else◌
+pub if_true : {A : Type 0} (t : Bool) (a b : A) → t ≡ true → (if t then a else b) ≡ a
 if_true t a b e = rw e
 
-pub if_false : {A : Type 0} (t : Bool) (a b : A) → t ≡ false → (when t then a else b) ≡ b
-unfolding when◌then◌else◌
+pub if_false : {A : Type 0} (t : Bool) (a b : A) → t ≡ false → (if t then a else b) ≡ b
 if_false t a b e = rw e
 
 -- a test as the byte that the code makes of it
-pub byte_when : (t : Bool) → bool_byte t ≡ (when t then 1 else 0)
-unfolding when◌then◌else◌
+pub byte_when : (t : Bool) → bool_byte t ≡ (if t then 1 else 0)
 byte_when true = refl
 byte_when false = refl
 
 -- what the code answers is what the test chooses
-pub if_yes : {A : Type 0} (t : Bool) (a b r : A) → t ≡ true → r ≡ a → r ≡ (when t then a else b)
+pub if_yes : {A : Type 0} (t : Bool) (a b r : A) → t ≡ true → r ≡ a → r ≡ (if t then a else b)
 if_yes t a b r e h = h ∙ sym (if_true t a b e)
 
-pub if_no : {A : Type 0} (t : Bool) (a b r : A) → t ≡ false → r ≡ b → r ≡ (when t then a else b)
+pub if_no : {A : Type 0} (t : Bool) (a b r : A) → t ≡ false → r ≡ b → r ≡ (if t then a else b)
 if_no t a b r e h = h ∙ sym (if_false t a b e)
 
 -- a proof by cases on a test
@@ -40,8 +38,7 @@ by_test true f g = f refl
 by_test false f g = g refl
 
 -- what holds of both holds of the one that is chosen
-pub either : {A : Type 0} (P : A → Type 0) (t : Bool) (a b : A) → P a → P b → P (when t then a else b)
-unfolding when◌then◌else◌
+pub either : {A : Type 0} (P : A → Type 0) (t : Bool) (a b : A) → P a → P b → P (if t then a else b)
 either P true a b x y = x
 either P false a b x y = y
 
@@ -136,7 +133,7 @@ unfolding all_true
 all_next t r ts e h = h ∙ sym (if_true t (all_true ts) false e)
 
 pub all_last : (t r : Bool) → r ≡ t → r ≡ all_true (t ∷ [])
-unfolding all_true when◌then◌else◌
+unfolding all_true
 all_last true r e = e
 all_last false r e = e
 

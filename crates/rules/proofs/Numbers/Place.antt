@@ -1,4 +1,5 @@
 -- Laws of what is asked of the places below n: what each means, and the turns of a loop that works it out from place 0 up. Assumes nothing.
+use Rattle.std.specs.Prelude.{if◌then◌else◌}
 use mathlib.Core.Path.{◌≡◌, refl, sym, ◌∙◌, ap, ap₂, subst}
 use mathlib.Core.Logic.{⊎_elim}
 use mathlib.Core.Bool.{Bool, true, false, ◌||◌}
@@ -11,7 +12,6 @@ use lib.Dec.{eqb, ltb}
 use lib.ListN.{length, get_or, set, take, drop, length-set, replicate, length-replicate}
 use lib.Seq.{set-get_or, get_or-set_same, get_or-set_other, get_or-take, length-take-le, ext_get_or}
 use borrow.Author.Tests.{eqb-true, eq-eqb, lt-ltb, le-ltb}
-use Rattle.rules.specs.Numbers.Choice.{when◌then◌else◌}
 use Rattle.rules.specs.Numbers.Place.{at, every, any, count, sum, sum_after, greatest, first_from, from, tabulate, renewed, zeros}
 use Rattle.rules.proofs.Numbers.Choice.{if_true, if_false, by_test, untrue, and_true, or_false, at_or, lt_or_le}
 
@@ -306,7 +306,7 @@ pub first_same : (f g : ℕ → Bool) (i left : ℕ) → ((x : ℕ) → i ≤ x 
 unfolding first_from
 first_same f g i zero h = refl
 first_same f g i (suc left) h =
-    ap₂ (λ t k. when t then i else k) (h i (omega arith) (omega arith)) (first_same f g (suc i) left (λ x a b. h x (omega arith) (omega arith)))
+    ap₂ (λ t k. if t then i else k) (h i (omega arith) (omega arith)) (first_same f g (suc i) left (λ x a b. h x (omega arith) (omega arith)))
 
 -- ---- tables
 

@@ -1,4 +1,5 @@
 -- Laws of a row: what is pushed is the newest, and the old row stands under it. Assumes nothing.
+use Rattle.std.specs.Prelude.{if◌then◌else◌}
 use mathlib.Core.Path.{◌≡◌, refl, sym, ◌∙◌, ap, ap₂}
 use mathlib.Core.Logic.{◌⊎◌, inl, inr, ⊎_elim}
 use mathlib.Core.Bool.{true, false, ◌||◌}
@@ -6,7 +7,6 @@ use Prim.Native.Nat.{ℕ, zero, suc, ◌+◌, ◌^◌, ◌≤◌, ◌<◌, max}
 use native.Mathlib.Omega.{arith}
 use lib.Dec.{eqb}
 use borrow.Author.Tests.{eqb-true, eq-eqb}
-use Rattle.rules.specs.Numbers.Choice.{when◌then◌else◌}
 use Rattle.rules.specs.Numbers.Row.{newest, under, pushed, has, priority, saves}
 use Rattle.rules.proofs.Numbers.Choice.{by_test, untrue, or_true}
 
@@ -54,28 +54,28 @@ places_under row k b = omega arith
 -- among the k newest of the row
 unfoldable pub copies : ℕ → ℕ → ℕ → ℕ
 copies row zero l = 0
-copies row (suc k) l = (when eqb (newest row) l then 1 else 0) + copies (under row) k l
+copies row (suc k) l = (if eqb (newest row) l then 1 else 0) + copies (under row) k l
 
 pub copies_none : (row l : ℕ) → copies row 0 l ≡ 0
 unfolding copies
 copies_none row l = refl
 
-pub copies_suc : (row k l : ℕ) → copies row (suc k) l ≡ (when eqb (newest row) l then 1 else 0) + copies (under row) k l
+pub copies_suc : (row k l : ℕ) → copies row (suc k) l ≡ (if eqb (newest row) l then 1 else 0) + copies (under row) k l
 unfolding copies
 copies_suc row k l = refl
 
-pub copies_pushed : (row k x l : ℕ) → x < 256 → copies (pushed row x) (suc k) l ≡ (when eqb x l then 1 else 0) + copies row k l
+pub copies_pushed : (row k x l : ℕ) → x < 256 → copies (pushed row x) (suc k) l ≡ (if eqb x l then 1 else 0) + copies row k l
 copies_pushed row k x l h =
-    copies_suc (pushed row x) k l ∙ ap₂ (λ a b. (when eqb a l then 1 else 0) + copies b k l) (newest_pushed row x h) (under_pushed row x h)
+    copies_suc (pushed row x) k l ∙ ap₂ (λ a b. (if eqb a l then 1 else 0) + copies b k l) (newest_pushed row x h) (under_pushed row x h)
 
 -- a lock is among them exactly where it stands there at least once
 pub has_copies : (row k l : ℕ) → has row k l ≡ true → 0 < copies row k l
-unfolding copies has when◌then◌else◌
+unfolding copies has
 has_copies row zero l h = untrue (sym h)
 has_copies row (suc k) l h = by_test (eqb (newest row) l) (λ e. rw e (omega arith)) (λ e. rw e (omega (arith, has_copies (under row) k l (rw e at h))))
 
 pub copies_has : (row k l : ℕ) → 0 < copies row k l → has row k l ≡ true
-unfolding copies has when◌then◌else◌
+unfolding copies has
 copies_has row zero l h = absurd (omega arith)
 copies_has row (suc k) l h = by_test (eqb (newest row) l) (λ e. rw e) (λ e. rw e (copies_has (under row) k l (omega (arith, rw e at h))))
 

@@ -1,4 +1,5 @@
 -- The four bytes of a row, and all others. Assumes nothing.
+use Rattle.std.specs.Prelude.{if◌then◌else◌}
 use mathlib.Core.Path.{◌≡◌, ◌∙◌}
 use mathlib.Core.Bool.{Bool}
 use mathlib.Core.List.{List}
@@ -6,7 +7,6 @@ use Prim.Native.Nat.{ℕ, ◌+◌, ◌*◌, ◌≤◌, ◌<◌}
 use native.Mathlib.Omega.{arith}
 use lib.ListN.{length, set, length-set}
 use lib.Seq.{lt-length-set, get_or-set_same, get_or-set_other}
-use Rattle.rules.specs.Numbers.Choice.{when◌then◌else◌}
 use Rattle.rules.specs.Numbers.Place.{at}
 use Rattle.rules.specs.Replays.Run.{with_row}
 use Rattle.rules.specs.declared.state.Head.{Head}
@@ -52,7 +52,7 @@ module _ (xs : List ℕ) (k : ℕ) (h : Head) (call : Bool) where
         get_or-set_other three (k * 4 + 3) (k * 4 + 2) _ 0 (λ e. omega arith)
         ∙ get_or-set_same two (k * 4 + 2) _ 0 (lt-length-set one (k * 4 + 1) _ (lt-length-set xs (k * 4) _ (omega arith)))
 
-    pub row_call : at (with_row xs k h call) (k * 4 + 3) ≡ (when call then 1 else 0)
+    pub row_call : at (with_row xs k h call) (k * 4 + 3) ≡ (if call then 1 else 0)
     unfolding with_row
     row_call = get_or-set_same three (k * 4 + 3) _ 0 (lt-length-set two (k * 4 + 2) _
         (lt-length-set one (k * 4 + 1) _ (lt-length-set xs (k * 4) _ (omega arith))))

@@ -1,5 +1,5 @@
 -- What the figures obey holds at a fresh start, and an accepted event keeps it, whichever released task runs. Assumes nothing.
-use Rattle.std.specs.Prelude.{Ok}
+use Rattle.std.specs.Prelude.{Ok, if◌then◌else◌}
 use mathlib.Core.Path.{◌≡◌, refl, sym, ◌∙◌, ap, ap₂, subst}
 use mathlib.Core.Logic.{◌≢◌, ◌⊎◌, inl, inr, ⊎_elim}
 use mathlib.Core.Bool.{true, false, not, ◌&&◌, ◌||◌}
@@ -13,7 +13,6 @@ use lib.ListN.{replicate, length-set, length-replicate}
 use lib.Seq.{get_or-set_same, get_or-set_other}
 use borrow.Author.Tests.{eqb-true, ltb-false, eq-eqb, ne_eqb}
 use Rattle.rules.specs.Numbers.Capacity.{max_tasks, max_locks, max_takes, max_accepted, max_delay, nobody}
-use Rattle.rules.specs.Numbers.Choice.{when◌then◌else◌}
 use Rattle.rules.specs.Numbers.Place.{at}
 use Rattle.rules.specs.Numbers.Row.{under, pushed, has, priority}
 use Rattle.rules.specs.Books.Plan.{Obeys}
@@ -114,7 +113,7 @@ same_priority p {f} {g} {x} s = ap₂ (priority (at p.ceiling) (at p.base x)) s.
 
 pub same_rank : (p : Plan) {f g : Figures} {x : ℕ} → Same f g x → rank_of p g x ≡ rank_of p f x
 unfolding rank_of
-same_rank p {f} {g} {x} s = ap₂ (λ a b. when ltb 0 a then b else 0) s.released (same_priority p s)
+same_rank p {f} {g} {x} s = ap₂ (λ a b. if ltb 0 a then b else 0) s.released (same_priority p s)
 
 pub same_holds : {f g : Figures} {x : ℕ} → Same f g x → (l : ℕ) → holds g x l ≡ holds f x l
 unfolding holds
@@ -327,7 +326,7 @@ module _ {p : Plan} {f : Figures} (A : Stage p f) where
 
       -- there is one take of it more
       pub take_copies : (v : ℕ) → copies (at (figures_after p f r (Acquire l)).takes r) (at (figures_after p f r (Acquire l)).depth r) v
-          ≡ (when eqb l v then 1 else 0) + copies (at f.takes r) (at f.depth r) v
+          ≡ (if eqb l v then 1 else 0) + copies (at f.takes r) (at f.depth r) v
       take_copies v = ap₂ (λ a b. copies a b v) take_row take_depth ∙ copies_pushed (at f.takes r) (at f.depth r) l v lock_byte
 
       -- nobody else has the lock open
@@ -411,10 +410,10 @@ module _ {p : Plan} {f : Figures} (A : Stage p f) where
 
       -- there is one take of it less
       pub give_copies : (v : ℕ) → copies (at f.takes r) (at f.depth r) v
-          ≡ (when eqb l v then 1 else 0) + copies (at (figures_after p f r (Unlock l)).takes r) (at (figures_after p f r (Unlock l)).depth r) v
+          ≡ (if eqb l v then 1 else 0) + copies (at (figures_after p f r (Unlock l)).takes r) (at (figures_after p f r (Unlock l)).depth r) v
       give_copies v =
           ap (λ k. copies (at f.takes r) k v) give_was ∙ copies_suc (at f.takes r) less v
-          ∙ ap₂ (λ a b. (when eqb a v then 1 else 0) + b) o.newest (sym (ap₂ (λ a b. copies a b v) give_row give_depth))
+          ∙ ap₂ (λ a b. (if eqb a v then 1 else 0) + b) o.newest (sym (ap₂ (λ a b. copies a b v) give_row give_depth))
 
       pub give_others : (x v : ℕ) → x ≢ r → holds (figures_after p f r (Unlock l)) x v ≡ holds f x v
       unfolding holds

@@ -8,7 +8,6 @@ use native.Mathlib.Omega.{arith}
 use lib.Dec.{eqb}
 use borrow.Author.Tests.{eqb-true, eqb-false, ltb-false, leb-false, not-false, lt-leb, le-ltb, ne_eqb, eq-eqb}
 use Rattle.rules.specs.Numbers.Capacity.{max_takes, max_accepted, nobody}
-use Rattle.rules.specs.Numbers.Choice.{when◌then◌else◌}
 use Rattle.rules.specs.Numbers.Place.{at}
 use Rattle.rules.specs.Numbers.Refusal.{number_of, first_true, test_for}
 use Rattle.rules.specs.Numbers.Row.{newest}
@@ -61,11 +60,11 @@ Allowed p f r Tick = Unit {0}
 module _ (p : Plan) (f : Figures) (r : ℕ) where
   -- an event is accepted exactly where there is room for it and it passes its tests
   pub passed_room : (e : Event) → refusal_of p f r e ≡ Ok tt → f.accepted < max_accepted
-  unfolding refusal_of test_for number_of when◌then◌else◌
+  unfolding refusal_of test_for number_of
   passed_room e z = leb-false max_accepted f.accepted (none_holds (all_tests p f r e) z Exhausted)
 
   pub allowed : (e : Event) → refusal_of p f r e ≡ Ok tt → Allowed p f r e
-  unfolding refusal_of tests_of release_order acquire_order unlock_order work_order finish_order not_newest test_for number_of when◌then◌else◌
+  unfolding refusal_of tests_of release_order acquire_order unlock_order work_order finish_order not_newest test_for number_of
   allowed (Release t) z =
       let clean = none_holds (all_tests p f r (Release t)) z in
       record { known = leb-false p.tasks t (clean Unknown); resting = omega (arith, ltb-false 0 (at f.released t) (clean AlreadyReleased)) }
@@ -96,7 +95,7 @@ module _ (p : Plan) (f : Figures) (r : ℕ) where
   allowed Tick z = tt
 
   pub accepts : (e : Event) → f.accepted < max_accepted → Allowed p f r e → refusal_of p f r e ≡ Ok tt
-  unfolding refusal_of tests_of release_order acquire_order unlock_order work_order finish_order not_newest first_true when◌then◌else◌
+  unfolding refusal_of tests_of release_order acquire_order unlock_order work_order finish_order not_newest first_true
   accepts (Release t) h o = rw (lt-leb max_accepted f.accepted h, lt-leb p.tasks t o.known, le-ltb 0 (at f.released t) (omega (arith, o.resting)))
   accepts (Acquire l) h o =
       rw (

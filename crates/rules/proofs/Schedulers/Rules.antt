@@ -1,4 +1,5 @@
 -- One law for each small rule that the proofs rest on: a wrong rule is refused here, at the fact that it breaks. Assumes nothing.
+use Rattle.std.specs.Prelude.{if◌then◌else◌}
 use mathlib.Core.Path.{◌≡◌, refl, sym, ◌∙◌, ap}
 use mathlib.Core.Logic.{◌≢◌, ◌⊎◌, inl, inr, ⊎_elim}
 use mathlib.Core.Bool.{Bool, true, false, ◌&&◌}
@@ -8,7 +9,6 @@ use native.Mathlib.Omega.{arith}
 use lib.Dec.{eqb, leb, ltb}
 use borrow.Author.Tests.{eq-eqb, ne_eqb, lt-ltb, le-ltb, le-leb, ltb-true, ltb-false, leb-true}
 use Rattle.rules.specs.Numbers.Capacity.{max_delay, nobody}
-use Rattle.rules.specs.Numbers.Choice.{when◌then◌else◌}
 use Rattle.rules.specs.Numbers.Place.{at}
 use Rattle.rules.specs.Numbers.Row.{priority}
 use Rattle.rules.specs.Books.Plan.{declares}
@@ -31,20 +31,20 @@ use Rattle.rules.proofs.Numbers.Row.{priority_none, priority_base}
 module _ (released : ℕ → ℕ) where
   pub earlier_nobody : (b : ℕ) → earlier released nobody b ≡ b
   unfolding earlier
-  earlier_nobody b = if_true (eqb nobody nobody) b _ refl
+  earlier_nobody b = refl
 
   pub earlier_later : (a b : ℕ) → a ≢ nobody → released b < released a → earlier released a b ≡ b
   unfolding earlier
   earlier_later a b n l = if_false (eqb a nobody) b _ (ne_eqb a nobody n) ∙ either_way (ltb (released b) (released a)) (lt-ltb (released b) (released a) l)
     where
-      either_way : (t : Bool) → t ≡ true → (when t then b else a) ≡ b
+      either_way : (t : Bool) → t ≡ true → (if t then b else a) ≡ b
       either_way t e = if_true t b a e
 
   pub earlier_sooner : (a b : ℕ) → a ≢ nobody → released a ≤ released b → earlier released a b ≡ a
   unfolding earlier
   earlier_sooner a b n l = if_false (eqb a nobody) b _ (ne_eqb a nobody n) ∙ either_way (ltb (released b) (released a)) (le-ltb (released b) (released a) l)
     where
-      either_way : (t : Bool) → t ≡ false → (when t then b else a) ≡ a
+      either_way : (t : Bool) → t ≡ false → (if t then b else a) ≡ a
       either_way t e = if_false t b a e
 
 -- ---- RULES 7.3: a released task's priority

@@ -1,4 +1,5 @@
 -- An accepted event keeps the words what the rules give, whichever released task runs; so a sound state stays sound. Assumes nothing.
+use Rattle.std.specs.Prelude.{if◌then◌else◌}
 use mathlib.Core.Path.{◌≡◌, refl, sym, ◌∙◌, ap, ap₂, subst}
 use mathlib.Core.Logic.{◌≢◌, ⊎_elim}
 use mathlib.Core.Bool.{true, false, ◌||◌}
@@ -13,7 +14,6 @@ use lib.ListN.{length, set, length-set}
 use lib.Seq.{get_or-set_same, get_or-set_other}
 use borrow.Author.Tests.{ltb-false, eq-eqb, ne_eqb}
 use Rattle.rules.specs.Numbers.Capacity.{max_tasks, nobody}
-use Rattle.rules.specs.Numbers.Choice.{when◌then◌else◌}
 use Rattle.rules.specs.Numbers.Place.{at, greatest}
 use Rattle.rules.specs.Numbers.Row.{newest, under, pushed, priority, saves}
 use Rattle.rules.specs.Books.Plan.{Obeys}
@@ -60,7 +60,7 @@ module _ (f g : Figures) (l : ℕ) where
   owner_same : (n : ℕ) → ((x : ℕ) → x < n → holds g x l ≡ holds f x l) → owner_of g n l ≡ owner_of f n l
   unfolding owner_of
   owner_same zero h = refl
-  owner_same (suc k) h = ap₂ (λ a b. when a then suc k else b) (h k (omega arith)) (owner_same k (λ x q. h x (omega arith)))
+  owner_same (suc k) h = ap₂ (λ a b. if a then suc k else b) (h k (omega arith)) (owner_same k (λ x q. h x (omega arith)))
 
 module _ (f : Figures) (l : ℕ) where
   pub owner_none : (n : ℕ) → ((x : ℕ) → x < n → holds f x l ≡ false) → owner_of f n l ≡ 0

@@ -1,6 +1,6 @@
 -- A fresh start is sound, and every accepted step keeps a state sound: so a run from a fresh start never needs the test, and 10 never occurs there. Assumes
 -- nothing.
-use Rattle.std.specs.Prelude.{Ok, Err}
+use Rattle.std.specs.Prelude.{ltb, Ok, Err}
 use Rattle.rules.specs.Numbers.Verdict.{Tested}
 use mathlib.Core.Path.{◌≡◌, refl, sym, ◌∙◌}
 use mathlib.Core.Bool.{Bool}
@@ -70,7 +70,7 @@ unfolding words_after after_release stays after_acquire after_unlock
 words_sized_lem pr p f released w (Release t) Y =
     let k : length (set w.kept t (at p.base t)) ≡ max_tasks = set_length w.kept t (at p.base t) max_tasks Y.kept in
     let v : Words = entering p.maximum w in
-    either WordsSized _ _ _
+    either WordsSized (ltb v.user (at p.base t)) _ _
     (switched_sized pr p.tasks released (set (set w.kept t (at p.base t)) v.running v.user) v (entering_sized p.maximum w Y)
     (set_length (set w.kept t (at p.base t)) v.running v.user max_tasks k))
     (record { kept = k; saved = (entering_sized p.maximum w Y).saved; owner = (entering_sized p.maximum w Y).owner })

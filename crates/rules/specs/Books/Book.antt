@@ -1,8 +1,7 @@
 -- RULES 4 and 5.2 to 5.8: the bytes of a book, its contents and its bodies, and refusals 1 to 7, 24, 8 and 9 in order. Assumes nothing.
-use Rattle.std.specs.Prelude.{Bool, not, ◌||◌, List, [], ◌∷◌, ◌++◌, ℕ, zero, suc, ◌+◌, ◌*◌, ◌/◌, eqb, ltb, length, drop, Result, Ok, Err}
+use Rattle.std.specs.Prelude.{Bool, not, ◌||◌, List, [], ◌∷◌, ◌++◌, ℕ, zero, suc, ◌+◌, ◌*◌, ◌/◌, eqb, ltb, length, drop, Result, Ok, Err, if◌then◌else◌}
 use Rattle.rules.specs.Numbers.Verdict.{Verdict, refused_at}
 use Rattle.rules.specs.Numbers.Capacity.{max_tasks, max_locks, max_uses, max_events}
-use Rattle.rules.specs.Numbers.Choice.{when◌then◌else◌}
 use Rattle.rules.specs.Numbers.Place.{at, tabulate}
 use Rattle.rules.specs.Numbers.Refusal.{Check, first_fault}
 use Rattle.rules.specs.Books.Event.{event_fault, event_of}
@@ -38,7 +37,7 @@ offset_at b e = long b (e * 8 + 4)
 
 -- a task takes 2 bytes, a lock 4, a use 2, an event 4
 unfoldable pub size_of : ℕ → ℕ
-size_of e = when eqb e 0 then 2 else when eqb e 1 then 4 else when eqb e 2 then 2 else 4
+size_of e = if eqb e 0 then 2 else if eqb e 1 then 4 else if eqb e 2 then 2 else 4
 
 -- RULES 4.3: where the body of entry e starts, by the counts of the entries before it; of entry 4 it is where the last body ends
 unfoldable pub body_at : List ℕ → ℕ → ℕ
@@ -52,7 +51,7 @@ largest_book = contents + max_tasks * 2 + max_locks * 4 + max_uses * 2 + max_eve
 -- 3: an entry has another kind or another offset than it should; for 4, the last body ends elsewhere than the book
 unfoldable pub layout_fault : List ℕ → ℕ → Bool
 layout_fault b e =
-    when ltb e 4 then not (eqb (kind_at b e) (e + 1)) || not (eqb (offset_at b e) (body_at b e))
+    if ltb e 4 then not (eqb (kind_at b e) (e + 1)) || not (eqb (offset_at b e) (body_at b e))
     else not (eqb (body_at b 4) (length b))
 
 -- the records of an entry, one number for a record of two or of four bytes
@@ -91,7 +90,7 @@ events_of b = tabulate (count_at b 3) (record_event (event_body b))
 -- RULES 4.8: what a reader finds at record k of an event body
 unfoldable pub found_at : List ℕ → ℕ → Found
 found_at body k =
-    when ltb k (length body / 4) then (when record_fault body k then Found.Refused WrongEvent k else Found.Got (record_event body k) (k + 1))
+    if ltb k (length body / 4) then (if record_fault body k then Found.Refused WrongEvent k else Found.Got (record_event body k) (k + 1))
     else Found.End
 
 abbrev pub plan_in : List ℕ → Plan

@@ -1,6 +1,5 @@
 -- RULES 4.7: the six events, the kind, id and amount of each in a book, refusal 8, and the event of a record. Assumes nothing.
-use Rattle.std.specs.Prelude.{Bool, true, not, ℕ, ◌+◌, ◌*◌, ◌/◌, ◌%◌, eqb, leb}
-use Rattle.rules.specs.Numbers.Choice.{when◌then◌else◌}
+use Rattle.std.specs.Prelude.{Bool, true, not, ℕ, ◌+◌, ◌*◌, ◌/◌, ◌%◌, eqb, leb, if◌then◌else◌}
 use Rattle.rules.specs.declared.event.Event.{Event}
 use Rattle.rules.specs.declared.event.Event.TheVariants.{Release, Acquire, Unlock, Work, Finish, Tick}
 
@@ -33,20 +32,20 @@ amount_of Tick = 0
 -- 8: no event's kind, something in a field without use, or work of no units
 unfoldable pub event_fault : ℕ → ℕ → ℕ → Bool
 event_fault kind id amount =
-    when eqb kind 0 then true
-    else when leb kind 3 then not (eqb amount 0)
-    else when eqb kind 4 then (when eqb id 0 then eqb amount 0 else true)
-    else when leb kind 6 then (when eqb id 0 then not (eqb amount 0) else true)
+    if eqb kind 0 then true
+    else if leb kind 3 then not (eqb amount 0)
+    else if eqb kind 4 then (if eqb id 0 then eqb amount 0 else true)
+    else if leb kind 6 then (if eqb id 0 then not (eqb amount 0) else true)
     else true
 
 -- the event of a record that is not refused
 unfoldable pub event_of : ℕ → ℕ → ℕ → Event
 event_of kind id amount =
-    when eqb kind 1 then Release id
-    else when eqb kind 2 then Acquire id
-    else when eqb kind 3 then Unlock id
-    else when eqb kind 4 then Work amount
-    else when eqb kind 5 then Finish
+    if eqb kind 1 then Release id
+    else if eqb kind 2 then Acquire id
+    else if eqb kind 3 then Unlock id
+    else if eqb kind 4 then Work amount
+    else if eqb kind 5 then Finish
     else Tick
 
 -- ---- a record as one number, low byte first

@@ -1,9 +1,8 @@
 -- RULES 6.1, 6.2: a plan from its records, one number for a record, low byte first: refusals 2, 4 to 7 and 24 with their places, or the plan.
 -- Assumes nothing.
-use Rattle.std.specs.Prelude.{Bool, ◌&&◌, ◌||◌, List, [], ◌∷◌, ◌++◌, ℕ, zero, suc, ◌+◌, ◌*◌, ◌-◌, ◌/◌, ◌%◌, eqb, leb, ltb, length, set, replicate, Result, Ok, Err}
+use Rattle.std.specs.Prelude.{Bool, ◌&&◌, ◌||◌, List, [], ◌∷◌, ◌++◌, ℕ, zero, suc, ◌+◌, ◌*◌, ◌-◌, ◌/◌, ◌%◌, eqb, leb, ltb, length, set, replicate, Result, Ok, Err, if◌then◌else◌}
 use Rattle.rules.specs.Numbers.Verdict.{Verdict, refused_at}
 use Rattle.rules.specs.Numbers.Capacity.{max_tasks, max_locks}
-use Rattle.rules.specs.Numbers.Choice.{when◌then◌else◌}
 use Rattle.rules.specs.Numbers.Place.{at, tabulate}
 use Rattle.rules.specs.Numbers.Refusal.{Check, first_fault}
 use Rattle.rules.specs.Numbers.Mask.{with_bit}
@@ -87,7 +86,7 @@ blank_plan =
 
 -- 2, of an entry: its count of records, n tasks, m locks or u uses, is out of range
 unfoldable pub count_fault_of : ℕ → ℕ → ℕ → ℕ → Bool
-count_fault_of n m u e = count_fault e (when eqb e 0 then n else when eqb e 1 then m else u)
+count_fault_of n m u e = count_fault e (if eqb e 0 then n else if eqb e 1 then m else u)
 
 -- the records: 2 (the entry, 1 to 3), 4, 5, 6
 unfoldable pub record_checks : List ℕ → List ℕ → List ℕ → List Check

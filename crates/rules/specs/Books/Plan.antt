@@ -1,14 +1,13 @@
 -- RULES 3: what a plan must obey, and the faults that 2, 4 to 7 and 24 refuse. Assumes nothing.
-use Rattle.std.specs.Prelude.{◌≡◌, Bool, true, false, not, ◌&&◌, ◌||◌, ℕ, ◌≤◌, ◌<◌, ◌^◌, eqb, ltb}
+use Rattle.std.specs.Prelude.{◌≡◌, Bool, true, false, not, ◌&&◌, ◌||◌, ℕ, ◌≤◌, ◌<◌, ◌^◌, eqb, ltb, if◌then◌else◌}
 use Rattle.rules.specs.Numbers.Capacity.{max_tasks, max_locks, max_uses, max_events}
-use Rattle.rules.specs.Numbers.Choice.{when◌then◌else◌}
 use Rattle.rules.specs.Numbers.Place.{at, any, count, greatest}
 use Rattle.rules.specs.Numbers.Mask.{has_bit}
 use Rattle.rules.specs.declared.plan.Plan.{Plan}
 
 -- the most records that an entry may have; the entries are 0 tasks, 1 locks, 2 uses, 3 events
 unfoldable pub most : ℕ → ℕ
-most e = when eqb e 0 then max_tasks else when eqb e 1 then max_locks else when eqb e 2 then max_uses else max_events
+most e = if eqb e 0 then max_tasks else if eqb e 1 then max_locks else if eqb e 2 then max_uses else max_events
 
 -- 2: more records than there may be, or no task
 unfoldable pub count_fault : ℕ → ℕ → Bool
@@ -40,7 +39,7 @@ unfoldable pub users : Plan → ℕ → ℕ
 users p l = count (λ x. declares p x l) p.tasks
 
 unfoldable pub users_base : Plan → ℕ → ℕ
-users_base p l = greatest (λ x. when declares p x l then at p.base x else 0) p.tasks
+users_base p l = greatest (λ x. if declares p x l then at p.base x else 0) p.tasks
 
 -- 7: fewer than two users, or a ceiling that is not the highest base of its users
 unfoldable pub users_fault : ℕ → ℕ → ℕ → Bool

@@ -1,7 +1,6 @@
 -- RULES 6.5, 6.6: a book that is written from its records into a lent buffer: 2, 4 to 7, 24, 8 and 23 in order, or the book's bytes. Assumes nothing.
-use Rattle.std.specs.Prelude.{List, [], ◌∷◌, ◌++◌, ℕ, eqb, ltb, length, drop, Result, Ok, Err}
+use Rattle.std.specs.Prelude.{List, [], ◌∷◌, ◌++◌, ℕ, eqb, ltb, length, drop, Result, Ok, Err, if◌then◌else◌}
 use Rattle.rules.specs.Numbers.Verdict.{Verdict}
-use Rattle.rules.specs.Numbers.Choice.{when◌then◌else◌}
 use Rattle.rules.specs.Numbers.Place.{at}
 use Rattle.rules.specs.Numbers.Refusal.{Check, first_fault}
 use Rattle.rules.specs.Books.Event.{number_fault}
@@ -13,7 +12,7 @@ use Rattle.rules.specs.declared.refusal.Refusal.TheVariants.{ShortBuffer}
 
 -- how many records entry e has, of n tasks, m locks, u uses and k events
 abbrev pub count_of : (n m u k : ℕ) → ℕ → ℕ
-count_of n m u k e = when eqb e 0 then n else when eqb e 1 then m else when eqb e 2 then u else k
+count_of n m u k e = if eqb e 0 then n else if eqb e 1 then m else if eqb e 2 then u else k
 
 abbrev pub counts_of : (tasks locks uses events : List ℕ) → ℕ → ℕ
 counts_of tasks locks uses events e = count_of (length tasks) (length locks) (length uses) (length events) e

@@ -1,6 +1,5 @@
 -- RULES 13.4: the bound on a task's delay, by the plan alone. Assumes nothing.
-use Rattle.std.specs.Prelude.{Bool, ◌&&◌, ℕ, leb, ltb}
-use Rattle.rules.specs.Numbers.Choice.{when◌then◌else◌}
+use Rattle.std.specs.Prelude.{Bool, ◌&&◌, ℕ, leb, ltb, if◌then◌else◌}
 use Rattle.rules.specs.Numbers.Place.{at, any, greatest}
 use Rattle.rules.specs.Books.Plan.{declares}
 use Rattle.rules.specs.declared.plan.Plan.{Plan}
@@ -18,7 +17,7 @@ may_block p b l = leb b (at p.ceiling l) && lower_user p b l
 
 -- the limit of such a lock, and the greatest of these; 0 without one
 unfoldable pub limit_if : Plan → ℕ → ℕ → ℕ
-limit_if p b l = when may_block p b l then at p.limit l else 0
+limit_if p b l = if may_block p b l then at p.limit l else 0
 
 unfoldable pub longest_limit : Plan → ℕ → ℕ
 longest_limit p b = greatest (limit_if p b) p.locks

@@ -1,8 +1,8 @@
 -- RULES 18.1, 18.2, 18.6 to 18.8 and 18.10 to 18.12: the crane plan and its runs P1 to P12, one for the calls, those with takes of an open lock, by both
 -- protocols, the plan with other users and other maxima, and the kernel's cut, as one table under one claim. Assumes nothing.
-use Rattle.std.specs.Prelude.{Bool, true, false, ◌&&◌, List, [], ◌∷◌, ◌++◌, ℕ, suc, T, eqb, length, replicate, take, drop, Ok, Err}
+use Rattle.std.specs.Prelude.{Bool, true, false, ◌&&◌, List, [], ◌∷◌, ◌++◌, ℕ, suc, T, eqb, length, replicate, take, drop, Ok, Err, if◌then◌else◌}
 use Rattle.rules.specs.Numbers.Verdict.{Verdict, Answer}
-use Rattle.rules.specs.Numbers.Choice.{when◌then◌else◌, all_true}
+use Rattle.rules.specs.Numbers.Choice.{all_true}
 use Rattle.rules.specs.Numbers.Place.{every, any, count, greatest, first_from, from, tabulate, renewed, zeros}
 use Rattle.rules.specs.Numbers.Refusal.{number_of, first_true, found, first_fault}
 use Rattle.rules.specs.Numbers.Answer.{answer_number, verdict_number, verdict_place}
@@ -109,7 +109,7 @@ row_by Second row = take 4 row
 row_by First row = take 2 row ++ drop 4 row
 
 row_of : Answer → State → (State → List (List ℕ)) → List (List ℕ)
-row_of (Ok call) s rest = (s.head.running ∷ s.head.user.0 ∷ s.head.next.0 ∷ (when call then 1 else 0) ∷ []) ∷ rest s
+row_of (Ok call) s rest = (s.head.running ∷ s.head.user.0 ∷ s.head.next.0 ∷ (if call then 1 else 0) ∷ []) ∷ rest s
 row_of (Err why) s rest = (number_of why ∷ []) ∷ []
 
 rows_of : Protocol → Plan → State → List Event → List (List ℕ)
@@ -343,7 +343,7 @@ cases =
 table : T (all cases)
 unfolding task_numbers lock_numbers use_numbers event_numbers crane paper book end_of row_by row_of rows_of same sames agree ran_right given book_right words_with one_take
     words_right right all cases
-    when◌then◌else◌ all_true every any count greatest first_from from renewed zeros number_of first_true found first_fault answer_number verdict_number verdict_place
+ all_true every any count greatest first_from from renewed zeros number_of first_true found first_fault answer_number verdict_number verdict_place
     event_fault event_of number_fault has_bit with_bit
     most count_fault task_fault lock_fault declares users users_base users_fault ceiling_fault maximum_fault above_fault task_fault_at lock_fault_at count_fault_of
     use_fault use_above masks_of plan_of

@@ -1,7 +1,6 @@
 -- RULES 14.3 and 14.9, over the history of the eager scheduler: what delays a job, how long, that sections are those of the state and count the work done
 -- in them, and that the bound is reached. Assumes nothing.
-use Rattle.std.specs.Prelude.{◌≡◌, ◌↔◌, true, ◌&&◌, List, [], ◌∷◌, ℕ, ◌≤◌, ◌<◌, eqb, length}
-use Rattle.rules.specs.Numbers.Choice.{when◌then◌else◌}
+use Rattle.std.specs.Prelude.{◌≡◌, ◌↔◌, true, ◌&&◌, List, [], ◌∷◌, ℕ, ◌≤◌, ◌<◌, eqb, length, if◌then◌else◌}
 use Rattle.rules.specs.Numbers.Place.{at, first_from}
 use Rattle.rules.specs.Demands.Bound.{lower_at, may_block, bound_of}
 use Rattle.rules.specs.Schedulers.Figures.{holds}
@@ -64,7 +63,7 @@ first_lower p t l = first_from (lower_at p (at p.base t) l) 0 p.tasks
 -- release the lower user, acquire the lock, release the task, work the limit; or the release alone for a bound of zero
 unfoldable pub worst_case : Plan → ℕ → List Event
 worst_case p t =
-    when eqb (bound_of p t) 0 then Release t ∷ []
+    if eqb (bound_of p t) 0 then Release t ∷ []
     else Release (first_lower p t (longest_lock p t)) ∷ Acquire (longest_lock p t) ∷ Release t ∷ Work (bound_of p t) ∷ []
 
 -- every event of that list is accepted, t's job goes on at its end, and the delay is then the bound

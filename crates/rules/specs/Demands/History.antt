@@ -1,7 +1,6 @@
 -- What RULES 14 speaks of: the history of a list of events from a fresh start. A place is an event's number in the list, from 0; a refused event
 -- changes nothing. Assumes nothing.
-use Rattle.std.specs.Prelude.{Bool, not, ◌&&◌, List, ℕ, zero, suc, ◌+◌, eqb, ltb, get_or}
-use Rattle.rules.specs.Numbers.Choice.{when◌then◌else◌}
+use Rattle.std.specs.Prelude.{Bool, not, ◌&&◌, List, ℕ, zero, suc, ◌+◌, eqb, ltb, get_or, if◌then◌else◌}
 use Rattle.rules.specs.Numbers.Place.{at, any, sum}
 use Rattle.rules.specs.Schedulers.State.{fresh_of}
 use Rattle.rules.specs.Schedulers.Figures.{Figures, fresh_figures, priority_of, rank_of}
@@ -59,7 +58,7 @@ call_rule First p f word l = ltb (restored_of p f l) word
 unfoldable pub calls_due : Protocol → Plan → Figures → (word : ℕ) → Event → ℕ
 calls_due pr p f word (Release t) = 0
 calls_due pr p f word (Acquire l) = 0
-calls_due pr p f word (Unlock l) = when call_rule pr p f word l then 1 else 0
+calls_due pr p f word (Unlock l) = if call_rule pr p f word l then 1 else 0
 calls_due pr p f word (Work a) = 0
 calls_due pr p f word Finish = 0
 calls_due pr p f word Tick = 0
@@ -68,7 +67,7 @@ calls_due pr p f word Tick = 0
 unfoldable pub kernel_at : Plan → List Event → ℕ → ℕ
 kernel_at p es zero = 0
 kernel_at p es (suc k) =
-    when accepted_at p es k && enters (eqb (calls_due First p (eager_at p es k) (kernel_at p es k) (event_at es k)) 1) (event_at es k)
+    if accepted_at p es k && enters (eqb (calls_due First p (eager_at p es k) (kernel_at p es k) (event_at es k)) 1) (event_at es k)
     then rank_of p (eager_at p es (suc k)) (runner_at p es (suc k)) else kernel_at p es k
 
 -- the lazy calls that the rule asks for at place k
@@ -77,24 +76,24 @@ calls_at pr p es k = calls_due pr p (eager_at p es k) (kernel_at p es k) (event_
 
 -- both counts, over the accepted events before place k; the eager calls of an event go by the priorities before it and after it
 unfoldable pub lazy_count : Protocol → Plan → List Event → ℕ → ℕ
-lazy_count pr p es k = sum (λ j. when accepted_at p es j then calls_at pr p es j else 0) k
+lazy_count pr p es k = sum (λ j. if accepted_at p es j then calls_at pr p es j else 0) k
 
 unfoldable pub eager_count : Plan → List Event → ℕ → ℕ
 eager_count p es k =
-    sum (λ j. when accepted_at p es j then eager_calls p (eager_at p es j) (eager_at p es (suc j)) (runner_at p es j) (event_at es j) else 0) k
+    sum (λ j. if accepted_at p es j then eager_calls p (eager_at p es j) (eager_at p es (suc j)) (runner_at p es j) (event_at es j) else 0) k
 
 -- ---- delay
 
 -- what the accepted event e, in a state of figures f, makes of the count c of units worked by tasks of lower base since t's latest release
 unfoldable pub delay_next : Plan → Figures → Event → ℕ → ℕ → ℕ
-delay_next p f (Release x) t c = when eqb x t then 0 else c
+delay_next p f (Release x) t c = if eqb x t then 0 else c
 delay_next p f (Acquire l) t c = c
 delay_next p f (Unlock l) t c = c
-delay_next p f (Work a) t c = when ltb 0 (at f.released t) && ltb (at p.base (running_of p f)) (at p.base t) then c + a else c
+delay_next p f (Work a) t c = if ltb 0 (at f.released t) && ltb (at p.base (running_of p f)) (at p.base t) then c + a else c
 delay_next p f Finish t c = c
 delay_next p f Tick t c = c
 
 -- that count over the events before place k
 unfoldable pub delay_count : Plan → List Event → ℕ → ℕ → ℕ
 delay_count p es t zero = 0
-delay_count p es t (suc k) = when accepted_at p es k then delay_next p (eager_at p es k) (event_at es k) t (delay_count p es t k) else delay_count p es t k
+delay_count p es t (suc k) = if accepted_at p es k then delay_next p (eager_at p es k) (event_at es k) t (delay_count p es t k) else delay_count p es t k

@@ -1,6 +1,5 @@
 -- RULES 1.6, 1.7: jobs, sections and the work of lower tasks, by places in the history of the eager scheduler. Assumes nothing.
-use Rattle.std.specs.Prelude.{◌≡◌, Bool, true, false, ◌&&◌, List, ℕ, ◌≤◌, ◌<◌, eqb, ltb}
-use Rattle.rules.specs.Numbers.Choice.{when◌then◌else◌}
+use Rattle.std.specs.Prelude.{◌≡◌, Bool, true, false, ◌&&◌, List, ℕ, ◌≤◌, ◌<◌, eqb, ltb, if◌then◌else◌}
 use Rattle.rules.specs.Numbers.Place.{at, count, sum_after}
 use Rattle.rules.specs.Books.Event.{amount_of}
 use Rattle.rules.specs.Demands.History.{event_at, runner_at, accepted_at}
@@ -59,7 +58,7 @@ pub record Section (p : Plan) (es : List Event) (x l a k : ℕ) : Type 0 where
 
 -- the units that task x works at place k, and at all places after a and before k
 unfoldable pub own_units : Plan → List Event → (x k : ℕ) → ℕ
-own_units p es x k = when acts_at p es x k then amount_of (event_at es k) else 0
+own_units p es x k = if acts_at p es x k then amount_of (event_at es k) else 0
 
 unfoldable pub own_total : Plan → List Event → (x a k : ℕ) → ℕ
 own_total p es x a k = sum_after a (own_units p es x) k
@@ -78,7 +77,7 @@ pub record LowerWork (p : Plan) (es : List Event) (t i k x u : ℕ) : Type 0 whe
 
 -- the units that tasks of lower base than t work at place k, and at all places after i and before k
 unfoldable pub lower_units : Plan → List Event → ℕ → ℕ → ℕ
-lower_units p es t k = when accepted_at p es k && ltb (at p.base (runner_at p es k)) (at p.base t) then amount_of (event_at es k) else 0
+lower_units p es t k = if accepted_at p es k && ltb (at p.base (runner_at p es k)) (at p.base t) then amount_of (event_at es k) else 0
 
 unfoldable pub lower_total : Plan → List Event → ℕ → ℕ → ℕ → ℕ
 lower_total p es t i k = sum_after i (lower_units p es t) k

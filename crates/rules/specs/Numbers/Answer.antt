@@ -1,7 +1,6 @@
 -- RULES 5, 10.1: each answer as its number, its place and its calls, and whether it refuses. Assumes nothing.
-use Rattle.std.specs.Prelude.{Bool, true, false, ℕ, Ok, Err}
+use Rattle.std.specs.Prelude.{Bool, true, false, ℕ, Ok, Err, if◌then◌else◌}
 use Rattle.rules.specs.Numbers.Verdict.{Verdict, Answer, Tested}
-use Rattle.rules.specs.Numbers.Choice.{when◌then◌else◌}
 use Rattle.rules.specs.Numbers.Refusal.{number_of}
 use Rattle.rules.specs.declared.answer.Found.{Found}
 use Rattle.rules.specs.declared.event.Event.{Event}
@@ -23,7 +22,7 @@ answer_number (Err why) = number_of why
 
 -- the lazy calls of a step: 1 where it called the kernel
 unfoldable pub answer_calls : Answer → ℕ
-answer_calls (Ok call) = when call then 1 else 0
+answer_calls (Ok call) = if call then 1 else 0
 answer_calls (Err why) = 0
 
 -- the refusal's number and its place; both 0 where nothing is refused

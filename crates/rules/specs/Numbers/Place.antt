@@ -1,6 +1,5 @@
 -- Lists read by place, and what is asked of the places below n. Assumes nothing.
-use Rattle.std.specs.Prelude.{Bool, true, false, ◌&&◌, ◌||◌, List, [], ◌∷◌, ℕ, zero, suc, ◌+◌, max, eqb, ltb, get_or, set}
-use Rattle.rules.specs.Numbers.Choice.{when◌then◌else◌}
+use Rattle.std.specs.Prelude.{Bool, true, false, ◌&&◌, ◌||◌, List, [], ◌∷◌, ℕ, zero, suc, ◌+◌, max, eqb, ltb, get_or, set, if◌then◌else◌}
 
 -- what stands at place i, and 0 past the end
 abbrev pub at : List ℕ → ℕ → ℕ
@@ -19,7 +18,7 @@ any f (suc k) = any f k || f k
 -- at how many places below n f holds
 unfoldable pub count : (ℕ → Bool) → ℕ → ℕ
 count f zero = 0
-count f (suc k) = when f k then count f k + 1 else count f k
+count f (suc k) = if f k then count f k + 1 else count f k
 
 -- f 0 + f 1 + .. + f (n - 1)
 unfoldable pub sum : (ℕ → ℕ) → ℕ → ℕ
@@ -28,7 +27,7 @@ sum f (suc k) = sum f k + f k
 
 -- f (i + 1) + f (i + 2) + .. + f (n - 1)
 unfoldable pub sum_after : ℕ → (ℕ → ℕ) → ℕ → ℕ
-sum_after i f n = sum (λ k. when ltb i k then f k else 0) n
+sum_after i f n = sum (λ k. if ltb i k then f k else 0) n
 
 -- the greatest of f 0, f 1, .., f (n - 1), and 0 without any
 unfoldable pub greatest : (ℕ → ℕ) → ℕ → ℕ
@@ -38,7 +37,7 @@ greatest f (suc k) = max (greatest f k) (f k)
 -- the first of `left` places from place i on at which f holds, or the place after them all
 unfoldable pub first_from : (ℕ → Bool) → ℕ → ℕ → ℕ
 first_from f i zero = i
-first_from f i (suc left) = when f i then i else first_from f (suc i) left
+first_from f i (suc left) = if f i then i else first_from f (suc i) left
 
 -- f i, f (i + 1), .., n of them
 unfoldable pub from : {X : Type 0} → (ℕ → X) → ℕ → ℕ → List X

@@ -1,7 +1,6 @@
 -- RULES 5.1: the refusal numbers, all in this place, and how a list of tests in order gives one. Assumes nothing.
-use Rattle.std.specs.Prelude.{◌≡◌, Bool, true, false, List, [], ◌∷◌, ℕ, ◌+◌, ◌-◌, ◌<◌, eqb, ltb, Ok, Err}
+use Rattle.std.specs.Prelude.{◌≡◌, Bool, true, false, List, [], ◌∷◌, ℕ, ◌+◌, ◌-◌, ◌<◌, eqb, ltb, Ok, Err, if◌then◌else◌}
 use Rattle.rules.specs.Numbers.Verdict.{Verdict, Tested, refused_at}
-use Rattle.rules.specs.Numbers.Choice.{when◌then◌else◌}
 use Rattle.rules.specs.Numbers.Place.{first_from}
 use Rattle.rules.specs.declared.refusal.Refusal.{Refusal}
 
@@ -60,12 +59,12 @@ number_of Refusal.ShortSpace = 26
 
 -- a refusal's place in the order of the numbers, from 1: they follow each other, but for 16
 unfoldable pub place_of : Refusal → ℕ
-place_of why = when ltb (number_of why) 16 then number_of why else number_of why - 1
+place_of why = if ltb (number_of why) 16 then number_of why else number_of why - 1
 
 -- tests in order, each with its refusal: the first that holds refuses
 unfoldable pub first_true : List (Bool × Refusal) → Tested
 first_true [] = Ok tt
-first_true (t ∷ ts) = when t.0 then Err t.1 else first_true ts
+first_true (t ∷ ts) = if t.0 then Err t.1 else first_true ts
 
 -- a refusal is known by its number
 abbrev pub same_number : Refusal → Refusal → Bool
@@ -74,12 +73,12 @@ same_number a b = eqb (number_of a) (number_of b)
 -- of tests in order the one that gives this refusal, by whether it holds; false where none gives it
 unfoldable pub test_for : Refusal → List (Bool × Refusal) → Bool
 test_for why [] = false
-test_for why (t ∷ ts) = when same_number t.1 why then t.0 else test_for why ts
+test_for why (t ∷ ts) = if same_number t.1 why then t.0 else test_for why ts
 
 -- the tests before it
 unfoldable pub tests_before : Refusal → List (Bool × Refusal) → List (Bool × Refusal)
 tests_before why [] = []
-tests_before why (t ∷ ts) = when same_number t.1 why then [] else t ∷ tests_before why ts
+tests_before why (t ∷ ts) = if same_number t.1 why then [] else t ∷ tests_before why ts
 
 -- what tests come to is this refusal
 pub record Given (why : Refusal) (tested : Tested) : Type 0 where
@@ -96,7 +95,7 @@ pub record Check : Type 0 where
 
 -- where the record i after the first offends, that is the place of the refusal; `rest` stands for the checks after this one
 unfoldable pub found : Check → ℕ → Verdict → Verdict
-found c i rest = when ltb i c.count then refused_at c.refusal (c.first + i) else rest
+found c i rest = if ltb i c.count then refused_at c.refusal (c.first + i) else rest
 
 -- checks in order: the first that finds an offender refuses, at the first place where it does
 unfoldable pub first_fault : List Check → Verdict
@@ -106,12 +105,12 @@ first_fault (c ∷ cs) = found c (first_from c.fault 0 c.count) (first_fault cs)
 -- of checks in order the one that gives this refusal; one of no records where none gives it
 unfoldable pub check_for : Refusal → List Check → Check
 check_for why [] = record { refusal = why; first = 0; count = 0; fault = λ _. false }
-check_for why (c ∷ cs) = when same_number c.refusal why then c else check_for why cs
+check_for why (c ∷ cs) = if same_number c.refusal why then c else check_for why cs
 
 -- the checks before it
 unfoldable pub checks_before : Refusal → List Check → List Check
 checks_before why [] = []
-checks_before why (c ∷ cs) = when same_number c.refusal why then [] else c ∷ checks_before why cs
+checks_before why (c ∷ cs) = if same_number c.refusal why then [] else c ∷ checks_before why cs
 
 -- what checks come to is this refusal, at this place
 pub record GivenAt (why : Refusal) (place : ℕ) (verdict : Verdict) : Type 0 where

@@ -1,7 +1,6 @@
 -- RULES 12.3 to 12.5: the run of a list of events up to its first refusal, with a row for each event before that. Assumes nothing.
-use Rattle.std.specs.Prelude.{Bool, List, [], ◌∷◌, ℕ, suc, ◌+◌, ◌*◌, set, Ok, Err}
+use Rattle.std.specs.Prelude.{Bool, List, [], ◌∷◌, ℕ, suc, ◌+◌, ◌*◌, set, Ok, Err, if◌then◌else◌}
 use Rattle.rules.specs.Numbers.Verdict.{Verdict, Answer, refused_at}
-use Rattle.rules.specs.Numbers.Choice.{when◌then◌else◌}
 use Rattle.rules.specs.Replays.Step.{step_of}
 use Rattle.rules.specs.declared.plan.Plan.{Plan}
 use Rattle.rules.specs.declared.protocol.Protocol.{Protocol}
@@ -12,7 +11,7 @@ use Rattle.rules.specs.declared.event.Event.{Event}
 -- RULES 12.4: the row bytes, with the four of the event at place k; h is the head after it
 unfoldable pub with_row : List ℕ → ℕ → Head → Bool → List ℕ
 with_row rows k h call =
-    set (set (set (set rows (k * 4) h.running) (k * 4 + 1) h.user.0) (k * 4 + 2) h.next.0) (k * 4 + 3) (when call then 1 else 0)
+    set (set (set (set rows (k * 4) h.running) (k * 4 + 1) h.user.0) (k * 4 + 2) h.next.0) (k * 4 + 3) (if call then 1 else 0)
 
 -- where a run has come to: what was refused, the state, and the row bytes
 pub record Ran : Type 0 where

@@ -1,7 +1,6 @@
 -- RULES 12.1: a single step, whatever plan, state and event are handed in. Assumes nothing.
-use Rattle.std.specs.Prelude.{Bool, Ok, Err}
+use Rattle.std.specs.Prelude.{Bool, Ok, Err, if◌then◌else◌}
 use Rattle.rules.specs.Numbers.Verdict.{Tested}
-use Rattle.rules.specs.Numbers.Choice.{when◌then◌else◌}
 use Rattle.rules.specs.Schedulers.Figures.{figures_of}
 use Rattle.rules.specs.Schedulers.EventRefusals.{refusal_of}
 use Rattle.rules.specs.Schedulers.FiguresAfter.{figures_after}
@@ -35,4 +34,4 @@ act_of pr p s e = answered (refusal_of p (figures_of s) s.head.running e) s (aft
 
 -- 10 comes first
 unfoldable pub step_of : Protocol → Plan → State → Event → Stepped
-step_of pr p s e = when sound_test pr p s then act_of pr p s e else refused_with s Unsound
+step_of pr p s e = if sound_test pr p s then act_of pr p s e else refused_with s Unsound

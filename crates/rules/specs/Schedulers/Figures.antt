@@ -1,7 +1,6 @@
 -- RULES 7.1, 7.3: the figures that both schedulers keep, and a task's priority by them. Assumes nothing.
-use Rattle.std.specs.Prelude.{◌≡◌, Bool, List, ℕ, ltb, length, replicate}
+use Rattle.std.specs.Prelude.{◌≡◌, Bool, List, ℕ, ltb, length, replicate, if◌then◌else◌}
 use Rattle.rules.specs.Numbers.Capacity.{max_tasks, max_locks}
-use Rattle.rules.specs.Numbers.Choice.{when◌then◌else◌}
 use Rattle.rules.specs.Numbers.Place.{at}
 use Rattle.rules.specs.Numbers.Row.{has, priority}
 use Rattle.rules.specs.declared.plan.Plan.{Plan}
@@ -61,4 +60,4 @@ priority_of p f x = priority (at p.ceiling) (at p.base x) (at f.takes x) (at f.d
 
 -- a released task's priority, and 0 for any other
 unfoldable pub rank_of : Plan → Figures → ℕ → ℕ
-rank_of p f x = when ltb 0 (at f.released x) then priority_of p f x else 0
+rank_of p f x = if ltb 0 (at f.released x) then priority_of p f x else 0

@@ -1,8 +1,7 @@
 -- RULES 9.4 to 9.9 and 10.2: what an accepted event makes of the figures, its eager calls among them, with task r running. Both schedulers use it.
 -- Assumes nothing.
-use Rattle.std.specs.Prelude.{Bool, ◌&&◌, ℕ, ◌+◌, ◌-◌, min, eqb, ltb, set}
+use Rattle.std.specs.Prelude.{Bool, ◌&&◌, ℕ, ◌+◌, ◌-◌, min, eqb, ltb, set, if◌then◌else◌}
 use Rattle.rules.specs.Numbers.Capacity.{max_delay}
-use Rattle.rules.specs.Numbers.Choice.{when◌then◌else◌}
 use Rattle.rules.specs.Numbers.Place.{at, renewed}
 use Rattle.rules.specs.Numbers.Row.{under, pushed, has}
 use Rattle.rules.specs.Schedulers.Figures.{Figures, holds, priority_of}
@@ -12,7 +11,7 @@ use Rattle.rules.specs.declared.event.Event.TheVariants.{Release, Acquire, Unloc
 
 -- RULES 10.2: one call where the priority before differs from the one after
 unfoldable pub differs : ℕ → ℕ → ℕ
-differs before after = when eqb before after then 0 else 1
+differs before after = if eqb before after then 0 else 1
 
 -- the eager calls of an event: one for an acquire or an unlock after which the priority of task r, which acts, differs from before. f are the figures
 -- before the event, and g after it
@@ -43,15 +42,15 @@ stays_open f r l = has (under (at f.takes r)) (at f.depth r - 1) l
 
 -- what the units of a section, or the owner of its lock, are after an unlock: as they were where the lock stays open, else 0
 unfoldable pub left_of : (stays : Bool) → ℕ → ℕ
-left_of stays v = when stays then v else 0
+left_of stays v = if stays then v else 0
 
 -- RULES 9.7: the units of lock l after a units by task r, which count once for each lock that it has open
 unfoldable pub charged : Figures → ℕ → ℕ → ℕ → ℕ
-charged f r a l = when holds f r l then at f.units l + a else at f.units l
+charged f r a l = if holds f r l then at f.units l + a else at f.units l
 
 -- the delay of task t after a units by task r: they count where t is released and of strictly greater base
 unfoldable pub delayed : Plan → Figures → ℕ → ℕ → ℕ → ℕ
-delayed p f r a t = when ltb 0 (at f.released t) && ltb (at p.base r) (at p.base t) then min max_delay (at f.delay t + a) else at f.delay t
+delayed p f r a t = if ltb 0 (at f.released t) && ltb (at p.base r) (at p.base t) then min max_delay (at f.delay t + a) else at f.delay t
 
 unfoldable pub figures_after : Plan → Figures → ℕ → Event → Figures
 -- the newcomer's release number is the new count of accepted events, and its delay starts anew

@@ -1,8 +1,7 @@
 -- RULES 9.4 to 9.11 and 10.1: the words of the lazy scheduler, its kept and saved priorities, its switch, its calls and its cut. The protocols differ in what
 -- an entry to the kernel leaves in the second word (`second_word`), and in nothing else. Assumes nothing.
-use Rattle.std.specs.Prelude.{◌≡◌, Bool, true, false, List, ℕ, ◌+◌, max, ltb, length, set}
+use Rattle.std.specs.Prelude.{◌≡◌, Bool, true, false, List, ℕ, ◌+◌, max, ltb, length, set, if◌then◌else◌}
 use Rattle.rules.specs.Numbers.Capacity.{max_tasks, max_locks}
-use Rattle.rules.specs.Numbers.Choice.{when◌then◌else◌}
 use Rattle.rules.specs.Numbers.Place.{at, greatest}
 use Rattle.rules.specs.Numbers.Row.{newest, under, pushed}
 use Rattle.rules.specs.Schedulers.Figures.{Figures}
@@ -71,7 +70,7 @@ calls_for back next = ltb back next
 
 -- RULES 9.11: what the kernel makes of a user word, by the maximum of the task that runs: a word above it is cut back to it
 unfoldable pub cut_to : (maximum user : ℕ) → ℕ
-cut_to maximum user = when ltb maximum user then maximum else user
+cut_to maximum user = if ltb maximum user then maximum else user
 
 -- an entry to the kernel starts so, before anything else
 unfoldable pub entering : (maximum : List ℕ) → Words → Words
@@ -122,7 +121,7 @@ stays pr n kept w =
 
 -- RULES 9.4: after the release of a task of base b, which is kept already; the kernel switches for a base strictly above the user word only
 unfoldable pub after_release : Protocol → ℕ → List ℕ → List ℕ → ℕ → Words → Words
-after_release pr n released kept b w = when ltb w.user b then switched pr n released (set kept w.running w.user) w else stays pr n kept w
+after_release pr n released kept b w = if ltb w.user b then switched pr n released (set kept w.running w.user) w else stays pr n kept w
 
 -- RULES 9.5: lock l of this ceiling is taken; the user word is saved, at every take, and raised to the ceiling where it is below it
 unfoldable pub after_acquire : ℕ → ℕ → Words → Words
@@ -162,7 +161,7 @@ leaves pr n released w = switched pr n released (set w.kept w.running w.user) w
 -- and finds the word that is put back
 unfoldable pub after_unlock : Protocol → ℕ → (maximum released : List ℕ) → (stays : Bool) → ℕ → Words → Words
 after_unlock pr n maximum released stays l w =
-    when calls_for (back_of w) w.next then leaves pr n released (entering maximum (restored stays l 1 w)) else restored stays l 0 w
+    if calls_for (back_of w) w.next then leaves pr n released (entering maximum (restored stays l 1 w)) else restored stays l 0 w
 
 -- the words after an accepted event; f are the figures before it, and `released` the release numbers after it. A release, a finish and a tick are entries
 unfoldable pub words_after : Protocol → Plan → Figures → (released : List ℕ) → Words → Event → Words

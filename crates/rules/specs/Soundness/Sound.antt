@@ -1,7 +1,6 @@
 -- RULES 8: the conditions of soundness, each by name. Assumes nothing.
-use Rattle.std.specs.Prelude.{◌≡◌, ◌≢◌, true, false, ℕ, zero, suc, ◌≤◌, ◌<◌, ◌^◌, eqb}
+use Rattle.std.specs.Prelude.{◌≡◌, ◌≢◌, true, false, ℕ, zero, suc, ◌≤◌, ◌<◌, ◌^◌, eqb, if◌then◌else◌}
 use Rattle.rules.specs.Numbers.Capacity.{max_takes, max_accepted, max_delay, nobody}
-use Rattle.rules.specs.Numbers.Choice.{when◌then◌else◌}
 use Rattle.rules.specs.Numbers.Place.{at, greatest}
 use Rattle.rules.specs.Numbers.Row.{saves}
 use Rattle.rules.specs.Books.Plan.{Obeys, declares}
@@ -37,7 +36,7 @@ pub record SoundFigures (p : Plan) (f : Figures) : Type 0 where
 
 -- the kept priority of task x where r runs: the running task's is 0, and so is an unreleased one's
 unfoldable pub kept_of : Plan → Figures → ℕ → ℕ → ℕ
-kept_of p f r x = when eqb x r then 0 else rank_of p f x
+kept_of p f r x = if eqb x r then 0 else rank_of p f x
 
 -- the saved priorities of task x
 unfoldable pub saved_of : Plan → Figures → ℕ → ℕ
@@ -46,7 +45,7 @@ saved_of p f x = saves (at p.ceiling) (at p.base x) (at f.takes x) (at f.depth x
 -- of the first n tasks the one that has lock l open, plus one; 0 without one
 unfoldable pub owner_of : Figures → ℕ → ℕ → ℕ
 owner_of f zero l = 0
-owner_of f (suc k) l = when holds f k l then suc k else owner_of f k l
+owner_of f (suc k) l = if holds f k l then suc k else owner_of f k l
 
 -- RULES 8.10: what the second word obeys beside the user word and the greatest kept priority: the next word is that priority, and the kernel word is at
 -- most the user word

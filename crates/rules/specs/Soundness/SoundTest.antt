@@ -1,8 +1,8 @@
 -- RULES 8: the conditions of Sound.antt as one test. That it holds exactly where they all do is proved in proofs/Soundness/SoundTest.antt.
 -- Assumes nothing.
-use Rattle.std.specs.Prelude.{Bool, true, not, List, [], ◌∷◌, ℕ, zero, suc, ◌+◌, ◌^◌, eqb, leb, ltb, drop}
+use Rattle.std.specs.Prelude.{Bool, true, not, List, [], ◌∷◌, ℕ, zero, suc, ◌+◌, ◌^◌, eqb, leb, ltb, drop, if◌then◌else◌}
 use Rattle.rules.specs.Numbers.Capacity.{max_takes, max_accepted, max_delay, nobody}
-use Rattle.rules.specs.Numbers.Choice.{when◌then◌else◌, all_true}
+use Rattle.rules.specs.Numbers.Choice.{all_true}
 use Rattle.rules.specs.Numbers.Place.{at, every, greatest, zeros}
 use Rattle.rules.specs.Numbers.Row.{newest, under}
 use Rattle.rules.specs.Numbers.Mask.{has_bit}
@@ -77,7 +77,7 @@ number_new released y x = every (λ z. not (eqb (at released z) y)) x
 -- a task is not released and has no takes, or its release number is in range and no earlier task's
 unfoldable pub number_test : ℕ → List ℕ → ℕ → ℕ → Bool
 number_test accepted released depth x =
-    when eqb (at released x) 0 then eqb depth 0
+    if eqb (at released x) 0 then eqb depth 0
     else all_true (leb (at released x) accepted ∷ number_new released (at released x) x ∷ [])
 
 unfoldable pub task_test : Plan → Figures → Words → ℕ → Bool
@@ -99,7 +99,7 @@ lock_test p f w l =
     all_true
     (eqb (at w.owner l) (owner_of f p.tasks l)
     ∷ leb (at f.units l) (at p.limit l)
-    ∷ (when eqb (at w.owner l) 0 then eqb (at f.units l) 0 else true)
+    ∷ (if eqb (at w.owner l) 0 then eqb (at f.units l) 0 else true)
     ∷ [])
 
 -- ---- the rest
@@ -107,7 +107,7 @@ lock_test p f w l =
 -- nobody runs and none is released, or a released task runs
 unfoldable pub runs_test : List ℕ → ℕ → ℕ → Bool
 runs_test released n r =
-    when eqb r nobody then every (λ x. eqb (at released x) 0) n
+    if eqb r nobody then every (λ x. eqb (at released x) 0) n
     else all_true (ltb r n ∷ ltb 0 (at released r) ∷ [])
 
 -- the second word is the greatest kept priority, or at most the user word

@@ -75,7 +75,7 @@ fn one(input: &mut [u8], rows: &mut [u8]) -> bool {
         return false;
     }
     let command = read32(&head, 0);
-    let protocol = named(read8(&head, 4));
+    let protocol = Protocol::from(read8(&head, 4));
     let size = read32(&head, 8) as usize;
     let room = read32(&head, 12) as usize;
     if input.len() < size {

@@ -4,7 +4,7 @@
 use crate::each_figure::give16;
 use crate::wire::{put_place, put8, put16, put32, write_front};
 use plan::bound;
-use rules::answer::{Verdict, verdict_number, verdict_place};
+use rules::answer::{Fault, verdict_number, verdict_place};
 use rules::capacity::MAX_TASKS;
 use rules::plan::Plan;
 use rules::protocol::Protocol;
@@ -40,7 +40,7 @@ fn put_bounds(out: &mut [u8], at: usize, plan: Plan) -> usize {
     place
 }
 
-fn write_reply(v: Verdict, plan: Plan, state: State) {
+fn write_reply(v: Result<(), Fault>, plan: Plan, state: State) {
     let mut out = [0u8; REPLY];
     let i = put8(&mut out, 0, verdict_number(v));
     let i = put_place(&mut out, i, verdict_place(v));

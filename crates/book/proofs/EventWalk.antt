@@ -1,4 +1,5 @@
 -- RULES 4.8: the reader walks the event body where it lies, one record at a time, through every book that passes 1 to 9 and 24. Assumes nothing.
+use Rattle.std.specs.Prelude.{Ok}
 use mathlib.Core.Path.{◌≡◌, sym, ◌∙◌, ap}
 use mathlib.Core.Logic.{⊎_elim}
 use mathlib.Core.List.{List}
@@ -11,7 +12,6 @@ use Rattle.rules.specs.Numbers.Answer.{found_some, found_event, found_next, foun
 use Rattle.rules.specs.Books.Book.{count_at, event_body, record_fault, record_event, events_of, found_at, check_of}
 use Rattle.rules.specs.Demands.History.{event_at}
 use Rattle.rules.specs.declared.answer.Found.{Found}
-use Rattle.rules.specs.declared.answer.Verdict.{Verdict}
 use Rattle.rules.specs.declared.event.Event.TheVariants.{Tick}
 use Rattle.rules.specs.declared.refusal.Refusal.TheVariants.{WrongEvent}
 use Rattle.rules.proofs.Numbers.Choice.{if_true, if_false, lt_or_le}
@@ -19,7 +19,7 @@ use Rattle.rules.proofs.Numbers.Place.{get_d_tabulate, length_from}
 use Rattle.book.specs.Reader.{ReadAt}
 use Rattle.book.proofs.Accepted.{records, no_fault}
 
-module _ (b : List ℕ) (room : ℕ) (passed : check_of b room ≡ Verdict.Passed) where
+module _ (b : List ℕ) (room : ℕ) (passed : check_of b room ≡ Ok tt) where
   walks_event : (k : ℕ) → k < count_at b 3 → found_at (event_body b) k ≡ Found.Got (event_at (events_of b) k) (k + 1)
   unfolding found_at
   walks_event k h =

@@ -1,4 +1,6 @@
 -- The last two tests of a book, 8 and then one of room, as reader and writer go along them. Assumes nothing.
+use Rattle.std.specs.Prelude.{Ok}
+use Rattle.rules.specs.Numbers.Verdict.{refused_at}
 use mathlib.Core.Path.{◌≡◌, sym, ◌∙◌, ap}
 use mathlib.Core.Bool.{Bool, true, false}
 use mathlib.Core.List.{[], ◌∷◌}
@@ -9,7 +11,6 @@ use borrow.Author.Tests.{lt-ltb, le-ltb}
 use Rattle.rules.specs.Numbers.Place.{any, first_from}
 use Rattle.rules.specs.Numbers.Refusal.{Check, first_fault}
 use Rattle.rules.specs.Books.Book.{event_check}
-use Rattle.rules.specs.declared.answer.Verdict.{Verdict}
 use Rattle.rules.specs.declared.refusal.Refusal.{Refusal}
 use Rattle.rules.specs.declared.refusal.Refusal.TheVariants.{WrongEvent}
 use Rattle.rules.proofs.Numbers.Place.{any_some, any_false, first_some}
@@ -20,18 +21,18 @@ module _ (n : ℕ) (f : ℕ → Bool) (why : Refusal) (size room : ℕ) (r : Boo
   abbrev one : Check
   one = record { refusal = why; first = 0; count = 1; fault = λ _. ltb room size }
 
-  pub wrong_one : (k : ℕ) → r ≡ true → k ≡ first_from f 0 n → Verdict.Refused WrongEvent k ≡ first_fault (event_check n f ∷ one ∷ [])
+  pub wrong_one : (k : ℕ) → r ≡ true → k ≡ first_from f 0 n → refused_at WrongEvent k ≡ first_fault (event_check n f ∷ one ∷ [])
   wrong_one k e first =
       let (x, l, h) = any_some f n (sym said ∙ e) in
       let within : k < n = rw first (first_some f n x l h).0 in
-      sym (check_finds (event_check n f) (one ∷ []) k first within ∙ ap (Verdict.Refused WrongEvent) (omega arith))
+      sym (check_finds (event_check n f) (one ∷ []) k first within ∙ ap (refused_at WrongEvent) (omega arith))
 
   module _ (e : r ≡ false) where
     none_wrong : first_fault (event_check n f ∷ one ∷ []) ≡ first_fault (one ∷ [])
     none_wrong = clean_passes (event_check n f) (one ∷ []) (any_false f n (sym said ∙ e))
 
-    pub no_room : room < size → Verdict.Refused why 0 ≡ first_fault (event_check n f ∷ one ∷ [])
+    pub no_room : room < size → refused_at why 0 ≡ first_fault (event_check n f ∷ one ∷ [])
     no_room l = sym (none_wrong ∙ check_finds one [] 0 (one_finds (ltb room size) (lt-ltb room size l)) (omega arith))
 
-    pub both_pass : size ≤ room → Verdict.Passed ≡ first_fault (event_check n f ∷ one ∷ [])
+    pub both_pass : size ≤ room → Ok tt ≡ first_fault (event_check n f ∷ one ∷ [])
     both_pass l = sym (none_wrong ∙ check_passes one [] 1 (one_passes (ltb room size) (le-ltb room size l)) (omega arith) ∙ check_none)

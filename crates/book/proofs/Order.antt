@@ -1,4 +1,6 @@
 -- The order of 1 to 7, 24, 8 and 9: each check is asked where those before it found no offender. Assumes nothing.
+use Rattle.std.specs.Prelude.{Ok, if◌then◌else◌}
+use Rattle.rules.specs.Numbers.Verdict.{Verdict, refused_at}
 use mathlib.Core.Path.{◌≡◌, sym, ◌∙◌, ap, ap₂}
 use mathlib.Core.Bool.{Bool, true, false}
 use mathlib.Core.List.{List, ◌++◌}
@@ -9,7 +11,6 @@ use lib.ListN.{length, take, drop, length-drop}
 use lib.Seq.{take_all}
 use borrow.Author.Tests.{lt-ltb, le-ltb, ltb-false, eqb-true, not-false}
 use Rattle.rules.specs.Numbers.Capacity.{max_tasks, max_locks, max_uses}
-use Rattle.rules.specs.Numbers.Choice.{when◌then◌else◌}
 use Rattle.rules.specs.Numbers.Place.{any, first_from}
 use Rattle.rules.specs.Numbers.Refusal.{number_of, first_fault, check_for}
 use Rattle.rules.specs.Books.Plan.{most, count_fault}
@@ -17,9 +18,8 @@ use Rattle.rules.specs.Books.Load.{load_of, load_checks}
 use Rattle.rules.specs.Books.Book.{contents, count_at, body_at, layout_fault, tasks_of, locks_of, uses_of, plan_in, event_body, record_fault}
 use Rattle.rules.specs.Books.Book.{contents_checks, event_checks, check_of, passed_check, refused_check, checked_as, checked_of}
 use Rattle.rules.specs.declared.plan.Plan.{Plan}
-use Rattle.rules.specs.declared.answer.Verdict.{Verdict}
-use Rattle.rules.specs.declared.answer.Loaded.{Loaded}
-use Rattle.rules.specs.declared.answer.Checked.{Checked}
+use Rattle.rules.specs.Books.Load.{Loaded}
+use Rattle.rules.specs.Books.Book.{Checked}
 use Rattle.rules.specs.declared.refusal.Refusal.{Refusal}
 use Rattle.rules.specs.declared.refusal.Refusal.TheVariants.{ShortBook, WrongCount, WrongLayout, WrongEvent, ShortRows}
 use Rattle.rules.proofs.Numbers.Choice.{or_false}
@@ -32,7 +32,7 @@ use Rattle.book.proofs.LastTests.{wrong_one, no_room, both_pass}
 -- ---- 1 to 3
 
 module _ (b : List ℕ) where
-  pub short_book : length b < contents → Verdict.Refused ShortBook 0 ≡ first_fault (contents_checks b)
+  pub short_book : length b < contents → refused_at ShortBook 0 ≡ first_fault (contents_checks b)
   unfolding contents_checks
   short_book h = sym (check_finds _ _ 0 (one_finds (ltb (length b) contents) (lt-ltb (length b) contents h)) (omega arith))
 
@@ -41,22 +41,22 @@ module _ (b : List ℕ) where
     one : 1 ≡ first_from (λ _. ltb (length b) contents) 0 1
     one = one_passes (ltb (length b) contents) (le-ltb (length b) contents whole)
 
-    pub wrong_count : e < 4 → Verdict.Refused WrongCount (e + 1) ≡ first_fault (contents_checks b)
+    pub wrong_count : e < 4 → refused_at WrongCount (e + 1) ≡ first_fault (contents_checks b)
     unfolding contents_checks
-    wrong_count h = sym (check_passes _ _ 1 one (omega arith) ∙ check_finds _ _ e count h ∙ ap (Verdict.Refused WrongCount) (omega arith))
+    wrong_count h = sym (check_passes _ _ 1 one (omega arith) ∙ check_finds _ _ e count h ∙ ap (refused_at WrongCount) (omega arith))
 
     module _ (counts : 4 ≤ e) (l : ℕ) (layout : l ≡ first_from (layout_fault b) 0 5) where
-      pub wrong_layout : l < 5 → Verdict.Refused WrongLayout (l + 1) ≡ first_fault (contents_checks b)
+      pub wrong_layout : l < 5 → refused_at WrongLayout (l + 1) ≡ first_fault (contents_checks b)
       unfolding contents_checks
       wrong_layout h = sym (check_passes _ _ 1 one (omega arith) ∙ check_passes _ _ e count counts ∙ check_finds _ _ l layout h
-          ∙ ap (Verdict.Refused WrongLayout) (omega arith))
+          ∙ ap (refused_at WrongLayout) (omega arith))
 
-      pub no_wrong : 5 ≤ l → Verdict.Passed ≡ first_fault (contents_checks b)
+      pub no_wrong : 5 ≤ l → Ok tt ≡ first_fault (contents_checks b)
       unfolding contents_checks
       no_wrong h = sym (check_passes _ _ 1 one (omega arith) ∙ check_passes _ _ e count counts ∙ check_passes _ _ l layout h ∙ check_none)
 
-  pub laid_out : (v : Verdict) → v ≡ first_fault (contents_checks b) → v ≡ Verdict.Passed → Laid b
-  unfolding contents_checks check_for number_of count_fault most layout_fault when◌then◌else◌
+  pub laid_out : (v : Verdict) → v ≡ first_fault (contents_checks b) → v ≡ Ok tt → Laid b
+  unfolding contents_checks check_for number_of count_fault most layout_fault
   laid_out v said passed =
       let clean = clean_for (contents_checks b) (sym said ∙ passed) in
       record {
@@ -69,11 +69,11 @@ module _ (b : List ℕ) where
 
   -- a verdict of the contents is the book's, and where they pass the rest decides
   module _ (room : ℕ) (v : Verdict) (said : v ≡ first_fault (contents_checks b)) where
-    pub refused_contents : (why : Refusal) (place : ℕ) (r : Checked) → v ≡ Verdict.Refused why place → r ≡ refused_check why place → r ≡ checked_of b room
+    pub refused_contents : (why : Refusal) (place : ℕ) (r : Checked) → v ≡ refused_at why place → r ≡ refused_check why place → r ≡ checked_of b room
     unfolding check_of checked_as
     refused_contents why place r e h = h ∙ ap (λ w. checked_as w b) (sym (check_left (contents_checks b) _ why place (sym said ∙ e)))
 
-    pub passed_contents : (r : Checked) → v ≡ Verdict.Passed
+    pub passed_contents : (r : Checked) → v ≡ Ok tt
         → r ≡ checked_as (first_fault (load_checks (tasks_of b) (locks_of b) (uses_of b) ++ event_checks b room)) b → r ≡ checked_of b room
     unfolding check_of
     passed_contents r e h = h ∙ ap (λ w. checked_as w b) (sym (check_right (contents_checks b) _ (sym said ∙ e)))
@@ -84,7 +84,7 @@ module _ (b : List ℕ) where
     abbrev rest : Verdict
     rest = first_fault (load_checks (tasks_of b) (locks_of b) (uses_of b) ++ event_checks b room)
 
-    pub refused_plan : (why : Refusal) (place : ℕ) (r : Checked) → l.verdict ≡ Verdict.Refused why place → r ≡ refused_check why place → r ≡ checked_as rest b
+    pub refused_plan : (why : Refusal) (place : ℕ) (r : Checked) → l.verdict ≡ refused_at why place → r ≡ refused_check why place → r ≡ checked_as rest b
     unfolding checked_as
     refused_plan why place r e h =
         h
@@ -92,14 +92,14 @@ module _ (b : List ℕ) where
         (sym (check_left (load_checks (tasks_of b) (locks_of b) (uses_of b)) (event_checks b room) why place
         (load_refused (tasks_of b) (locks_of b) (uses_of b) why place (ap (λ v. v.verdict) (sym loaded) ∙ e))))
 
-    pub passed_plan : (r : Checked) → l.verdict ≡ Verdict.Passed → r ≡ checked_as (first_fault (event_checks b room)) b → r ≡ checked_as rest b
+    pub passed_plan : (r : Checked) → l.verdict ≡ Ok tt → r ≡ checked_as (first_fault (event_checks b room)) b → r ≡ checked_as rest b
     passed_plan r e h =
         h
         ∙ ap (λ w. checked_as w b)
         (sym (check_right (load_checks (tasks_of b) (locks_of b) (uses_of b)) (event_checks b room)
         (load_passed (tasks_of b) (locks_of b) (uses_of b) (ap (λ v. v.verdict) (sym loaded) ∙ e))))
 
-    pub plan_read : l.verdict ≡ Verdict.Passed → l.plan ≡ plan_in b
+    pub plan_read : l.verdict ≡ Ok tt → l.plan ≡ plan_in b
     plan_read e = ap (λ v. v.plan) loaded ∙ load_plan (tasks_of b) (locks_of b) (uses_of b) (ap (λ v. v.verdict) (sym loaded) ∙ e)
 
   -- ---- 8 and 9

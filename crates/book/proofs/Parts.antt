@@ -1,10 +1,10 @@
 -- The bodies of a book that is laid out right: each lies within it, and gives its records. Assumes nothing.
+use Rattle.std.specs.Prelude.{if◌then◌else◌}
 use mathlib.Core.Path.{◌≡◌, refl, sym, ◌∙◌}
 use mathlib.Core.List.{List}
 use Prim.Native.Nat.{ℕ, ◌+◌, ◌*◌, ◌≤◌}
 use native.Mathlib.Omega.{arith}
 use lib.ListN.{length, take, drop, length-drop}
-use Rattle.rules.specs.Numbers.Choice.{when◌then◌else◌}
 use Rattle.rules.specs.Numbers.Place.{renewed}
 use Rattle.rules.specs.Books.Book.{word, long, count_at, size_of, body_at, words_at, longs_at}
 use Rattle.rules.proofs.Numbers.Place.{renewed_front}
@@ -14,7 +14,7 @@ module _ (b : List ℕ) (laid : Laid b) where
   -- each body ends where the next one starts, and the last at the end
   spans : (body_at b 1 ≡ body_at b 0 + count_at b 0 * 2) × (body_at b 2 ≡ body_at b 1 + count_at b 1 * 4) × (body_at b 3 ≡ body_at b 2 + count_at b 2 * 2)
       × (length b ≡ body_at b 3 + count_at b 3 * 4)
-  unfolding body_at size_of when◌then◌else◌
+  unfolding body_at size_of
   spans = (refl, refl, refl, sym laid.ends)
 
   pub task_body : body_at b 0 + count_at b 0 * 2 ≤ length b

@@ -1,4 +1,5 @@
 -- The ways through the code over one record of the event body. Assumes nothing.
+use Rattle.std.specs.Prelude.{if◌then◌else◌}
 use mathlib.Core.Path.{◌≡◌, refl, sym, ◌∙◌, ap}
 use mathlib.Core.Bool.{Bool, true, false, not, ◌&&◌, ◌||◌, beq}
 use mathlib.Core.List.{List}
@@ -7,7 +8,6 @@ use native.Mathlib.Omega.{arith}
 use lib.Dec.{eqb, leb, ltb}
 use lib.ListN.{length}
 use borrow.Author.Tests.{lt-ltb, le-ltb, lt-leb, ne_eqb}
-use Rattle.rules.specs.Numbers.Choice.{when◌then◌else◌}
 use Rattle.rules.specs.Numbers.Place.{at}
 use Rattle.rules.specs.Books.Event.{event_fault, event_of}
 use Rattle.rules.specs.Books.Book.{word, record_fault, record_event, found_at}
@@ -22,10 +22,10 @@ use Rattle.rules.proofs.Numbers.Choice.{if_true, if_false}
 Asked : ℕ → Bool → Bool → Type 0
 Asked kind none unnamed =
     ((beq (eqb kind 4) none || (eqb kind 0 || ltb 6 kind)) || (ltb 3 kind && not unnamed))
-    ≡ (when eqb kind 0 then true
-    else when leb kind 3 then not none
-    else when eqb kind 4 then (when unnamed then none else true)
-    else when leb kind 6 then (when unnamed then not none else true)
+    ≡ (if eqb kind 0 then true
+    else if leb kind 3 then not none
+    else if eqb kind 4 then (if unnamed then none else true)
+    else if leb kind 6 then (if unnamed then not none else true)
     else true)
 
 all_four : (kind : ℕ) → Asked kind true true → Asked kind true false → Asked kind false true → Asked kind false false → (a b : Bool) → Asked kind a b
@@ -36,7 +36,7 @@ all_four kind p q r s false false = s
 
 -- a kind above them all
 none_above : (kind : ℕ) → 6 < kind → (none unnamed : Bool) → Asked kind none unnamed
-unfolding Asked when◌then◌else◌
+unfolding Asked
 none_above kind h none unnamed = rw (
   ne_eqb kind 0 (λ e. omega (arith, h, e)),
   ne_eqb kind 4 (λ e. omega (arith, h, e)),
@@ -50,7 +50,7 @@ none_above kind h none unnamed = rw (
     either_way false = refl
 
 asked : (kind : ℕ) (none unnamed : Bool) → Asked kind none unnamed
-unfolding Asked when◌then◌else◌
+unfolding Asked
 asked zero = all_four 0 refl refl refl refl
 asked (suc zero) = all_four 1 refl refl refl refl
 asked (suc (suc zero)) = all_four 2 refl refl refl refl
@@ -70,12 +70,12 @@ all_asked kind id amount = asked kind (eqb amount 0) (eqb id 0)
 module _ (body : List ℕ) (k : ℕ) where
   pub found_end : length body / 4 ≤ k → Found.End ≡ found_at body k
   unfolding found_at
-  found_end h = sym (if_false (ltb k (length body / 4)) (when record_fault body k then Found.Refused WrongEvent k else Found.Got (record_event body k) (k + 1))
+  found_end h = sym (if_false (ltb k (length body / 4)) (if record_fault body k then Found.Refused WrongEvent k else Found.Got (record_event body k) (k + 1))
       Found.End (le-ltb k (length body / 4) h))
 
-  found_in : k < length body / 4 → found_at body k ≡ (when record_fault body k then Found.Refused WrongEvent k else Found.Got (record_event body k) (k + 1))
+  found_in : k < length body / 4 → found_at body k ≡ (if record_fault body k then Found.Refused WrongEvent k else Found.Got (record_event body k) (k + 1))
   unfolding found_at
-  found_in h = if_true (ltb k (length body / 4)) (when record_fault body k then Found.Refused WrongEvent k else Found.Got (record_event body k) (k + 1)) Found.End
+  found_in h = if_true (ltb k (length body / 4)) (if record_fault body k then Found.Refused WrongEvent k else Found.Got (record_event body k) (k + 1)) Found.End
       (lt-ltb k (length body / 4) h)
 
   -- the amount as the code has it, and what the test said

@@ -1,4 +1,5 @@
 -- A body where it lies in a book. Assumes nothing.
+use Rattle.std.specs.Prelude.{if◌then◌else◌}
 use mathlib.Core.Path.{◌≡◌, refl, ◌∙◌, ap}
 use mathlib.Core.List.{List}
 use Prim.Native.Nat.{ℕ, ◌-◌, ◌≤◌}
@@ -6,7 +7,6 @@ use native.Mathlib.Omega.{arith}
 use lib.ListN.{length, take, drop, length-drop, drop_of_length-le}
 use lib.Seq.{take_all}
 use borrow.Author.Tests.{le-ltb}
-use Rattle.rules.specs.Numbers.Choice.{when◌then◌else◌}
 use Rattle.rules.specs.Books.Book.{found_at}
 use Rattle.rules.specs.declared.answer.Found.{Found}
 
@@ -17,5 +17,5 @@ module _ (b : List ℕ) (from k : ℕ) where
 
   -- nothing lies past the end
   pub found_past : length b ≤ from → Found.End ≡ found_at (drop from b) k
-  unfolding found_at when◌then◌else◌
+  unfolding found_at
   found_past h = rw (drop_of_length-le b h, le-ltb k 0 (omega arith)) refl

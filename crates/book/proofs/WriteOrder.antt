@@ -1,4 +1,6 @@
 -- The ways through the writer's tests, and through the writer. Assumes nothing.
+use Rattle.std.specs.Prelude.{Ok, if◌then◌else◌}
+use Rattle.rules.specs.Numbers.Verdict.{Verdict, refused_at}
 use mathlib.Core.Path.{◌≡◌, sym, ◌∙◌, ap, ap₂}
 use mathlib.Core.Bool.{Bool, true, false}
 use mathlib.Core.List.{List, [], ◌∷◌, ◌++◌, append_assoc}
@@ -8,7 +10,6 @@ use lib.Dec.{eqb}
 use lib.ListN.{length, drop}
 use borrow.Author.Tests.{ltb-false}
 use Rattle.rules.specs.Numbers.Capacity.{max_tasks, max_locks, max_uses, max_events}
-use Rattle.rules.specs.Numbers.Choice.{when◌then◌else◌}
 use Rattle.rules.specs.Numbers.Place.{at, any, first_from}
 use Rattle.rules.specs.Numbers.Refusal.{number_of, first_fault, check_for}
 use Rattle.rules.specs.Books.Event.{event_fault, record_kind, record_id, record_amount, number_fault, event_of, number_event}
@@ -17,8 +18,7 @@ use Rattle.rules.specs.Books.Load.{load_checks, load_of}
 use Rattle.rules.specs.Books.Book.{contents}
 use Rattle.rules.specs.Books.Bytes.{book_of}
 use Rattle.rules.specs.Books.Write.{count_of, counts_of, whole_checks, write_checks, wrote_as, write_of, wrote_with}
-use Rattle.rules.specs.declared.answer.Verdict.{Verdict}
-use Rattle.rules.specs.declared.answer.Loaded.{Loaded}
+use Rattle.rules.specs.Books.Load.{Loaded}
 use Rattle.rules.specs.declared.refusal.Refusal.{Refusal}
 use Rattle.rules.specs.declared.refusal.Refusal.TheVariants.{WrongCount, WrongEvent, ShortBuffer}
 use Rattle.rules.proofs.Numbers.Choice.{or_false}
@@ -50,13 +50,13 @@ count_told n m u k e c r g h = rw (← g) h
 -- r says whether 8 refuses one of the events
 module _ (events : List ℕ) (size room : ℕ) (r : Bool) (said : r ≡ any (λ i. number_fault (at events i)) (length events)) where
   pub event_refused : (k : ℕ) → r ≡ true → k ≡ first_from (λ i. number_fault (at events i)) 0 (length events)
-      → Verdict.Refused WrongEvent k ≡ first_fault (last_checks events size room)
+      → refused_at WrongEvent k ≡ first_fault (last_checks events size room)
   event_refused = wrong_one (length events) (λ i. number_fault (at events i)) ShortBuffer size room r said
 
-  pub buffer_short : r ≡ false → room < size → Verdict.Refused ShortBuffer 0 ≡ first_fault (last_checks events size room)
+  pub buffer_short : r ≡ false → room < size → refused_at ShortBuffer 0 ≡ first_fault (last_checks events size room)
   buffer_short = no_room (length events) (λ i. number_fault (at events i)) ShortBuffer size room r said
 
-  pub last_passes : r ≡ false → size ≤ room → Verdict.Passed ≡ first_fault (last_checks events size room)
+  pub last_passes : r ≡ false → size ≤ room → Ok tt ≡ first_fault (last_checks events size room)
   last_passes = both_pass (length events) (λ i. number_fault (at events i)) ShortBuffer size room r said
 
 -- ---- all of them
@@ -64,7 +64,7 @@ module _ (events : List ℕ) (size room : ℕ) (r : Bool) (said : r ≡ any (λ 
 -- counts that pass 2
 few_counts : (tasks locks uses events : List ℕ) → ((i : ℕ) → i < 4 → count_fault i (counts_of tasks locks uses events i) ≡ false)
     → Few (length tasks) (length locks) (length uses) (length events)
-unfolding count_fault most when◌then◌else◌
+unfolding count_fault most
 few_counts tasks locks uses events clean = record {
   tasks = ltb-false max_tasks (length tasks) (or_false (eqb (length tasks) 0) _ (clean 0 (omega arith))).1;
   locks = ltb-false max_locks (length locks) (clean 1 (omega arith));
@@ -81,9 +81,9 @@ module _ (tasks locks uses events : List ℕ) (room e : ℕ) (counted : e ≡ fi
   abbrev b : List ℕ
   b = book_of tasks locks uses events
 
-  pub count_refused : e < 4 → Verdict.Refused WrongCount (e + 1) ≡ first_fault (write_checks tasks locks uses events room)
+  pub count_refused : e < 4 → refused_at WrongCount (e + 1) ≡ first_fault (write_checks tasks locks uses events room)
   unfolding write_checks whole_checks
-  count_refused h = sym (check_finds _ _ e counted h ∙ ap (Verdict.Refused WrongCount) (omega arith))
+  count_refused h = sym (check_finds _ _ e counted h ∙ ap (refused_at WrongCount) (omega arith))
 
   module _ (right : 4 ≤ e) where
     -- the counts pass, and the rest is in two parts
@@ -92,12 +92,12 @@ module _ (tasks locks uses events : List ℕ) (room e : ℕ) (counted : e ≡ fi
     rest = check_passes _ _ e counted right ∙ ap first_fault (append_assoc (load_checks tasks locks uses) _ _)
 
     module _ (l : Loaded) (loaded : l ≡ load_of tasks locks uses) where
-      pub plan_refused : (why : Refusal) (place : ℕ) → l.verdict ≡ Verdict.Refused why place
-          → Verdict.Refused why place ≡ first_fault (write_checks tasks locks uses events room)
+      pub plan_refused : (why : Refusal) (place : ℕ) → l.verdict ≡ refused_at why place
+          → refused_at why place ≡ first_fault (write_checks tasks locks uses events room)
       plan_refused why place v = sym (rest ∙ check_left (load_checks tasks locks uses) _ why place
           (load_refused tasks locks uses why place (ap (λ x. x.verdict) (sym loaded) ∙ v)))
 
-      pub plan_passed : (size : ℕ) (r : Verdict) → l.verdict ≡ Verdict.Passed
+      pub plan_passed : (size : ℕ) (r : Verdict) → l.verdict ≡ Ok tt
           → size ≡ contents + length tasks * 2 + length locks * 4 + length uses * 2 + length events * 4
           → r ≡ first_fault (last_checks events size room) → r ≡ first_fault (write_checks tasks locks uses events room)
       plan_passed size r v s h =
@@ -108,17 +108,17 @@ module _ (tasks locks uses events : List ℕ) (room e : ℕ) (counted : e ≡ fi
 -- ---- the writer
 
 module _ (tasks locks uses events out : List ℕ) (v : Verdict) (said : v ≡ first_fault (write_checks tasks locks uses events (length out))) where
-  pub write_refused : (why : Refusal) (place : ℕ) → v ≡ Verdict.Refused why place
-      → wrote_with (record { verdict = Verdict.Refused why place; length = 0 }) out ≡ write_of tasks locks uses events out
+  pub write_refused : (why : Refusal) (place : ℕ) → v ≡ refused_at why place
+      → wrote_with (record { verdict = refused_at why place; length = 0 }) out ≡ write_of tasks locks uses events out
   unfolding write_of wrote_as
   write_refused why place e = ap (λ x. wrote_as x (book_of tasks locks uses events) out) (sym e ∙ said)
 
-  module _ (e : v ≡ Verdict.Passed) where
-    passed : first_fault (write_checks tasks locks uses events (length out)) ≡ Verdict.Passed
+  module _ (e : v ≡ Ok tt) where
+    passed : first_fault (write_checks tasks locks uses events (length out)) ≡ Ok tt
     passed = sym said ∙ e
 
     pub room_for : Room tasks locks uses events out
-    unfolding write_checks whole_checks check_for number_of when◌then◌else◌
+    unfolding write_checks whole_checks check_for number_of
     room_for = record {
       few = few_counts tasks locks uses events (clean_for (write_checks tasks locks uses events (length out)) passed WrongCount);
       fits = ltb-false (length out) (length (book_of tasks locks uses events))
@@ -126,8 +126,8 @@ module _ (tasks locks uses events out : List ℕ) (v : Verdict) (said : v ≡ fi
     }
 
     pub write_passed : (n : ℕ) (next : List ℕ) → n ≡ length (book_of tasks locks uses events) → next ≡ book_of tasks locks uses events ++ drop n out
-        → wrote_with (record { verdict = Verdict.Passed; length = n }) next ≡ write_of tasks locks uses events out
+        → wrote_with (record { verdict = Ok tt; length = n }) next ≡ write_of tasks locks uses events out
     unfolding write_of wrote_as
     write_passed n next q h =
-        ap₂ (λ k bytes. wrote_with (record { verdict = Verdict.Passed; length = k }) bytes) q (h ∙ ap (λ k. book_of tasks locks uses events ++ drop k out) q)
+        ap₂ (λ k bytes. wrote_with (record { verdict = Ok tt; length = k }) bytes) q (h ∙ ap (λ k. book_of tasks locks uses events ++ drop k out) q)
         ∙ ap (λ x. wrote_as x (book_of tasks locks uses events) out) (sym passed)

@@ -1,7 +1,6 @@
 -- What stands in a book, whatever its bytes are: an entry of its contents, and record k of each part as one number, 0 where the book is too short to
 -- have it. Assumes nothing.
-use Rattle.std.specs.Prelude.{List, ℕ, ◌+◌, ◌*◌, leb, ltb, length}
-use Rattle.rules.specs.Numbers.Choice.{when◌then◌else◌}
+use Rattle.std.specs.Prelude.{List, ℕ, ◌+◌, ◌*◌, leb, ltb, length, if◌then◌else◌}
 use Rattle.rules.specs.Books.Book.{contents, word, long, kind_at, count_at, offset_at, body_at}
 use Rattle.book.specs.declared.look.Entry.{Entry}
 
@@ -10,20 +9,20 @@ no_entry = record { kind = 0; count = 0; offset = 0 }
 
 unfoldable pub entry_in : List ℕ → ℕ → Entry
 entry_in b e =
-    when ltb (length b) contents then no_entry
-    else when ltb 3 e then no_entry
+    if ltb (length b) contents then no_entry
+    else if ltb 3 e then no_entry
     else record { kind = kind_at b e; count = count_at b e; offset = offset_at b e }
 
 -- where the body of an entry starts; the book's end where it has no contents, or no such entry
 unfoldable pub body_in : List ℕ → ℕ → ℕ
-body_in b e = when ltb (length b) contents then length b else when ltb 3 e then length b else body_at b e
+body_in b e = if ltb (length b) contents then length b else if ltb 3 e then length b else body_at b e
 
 -- number k of two bytes from a place on, and of four
 unfoldable pub word_in : List ℕ → (from k : ℕ) → ℕ
-word_in b from k = when leb (from + k * 2 + 2) (length b) then word b (from + k * 2) else 0
+word_in b from k = if leb (from + k * 2 + 2) (length b) then word b (from + k * 2) else 0
 
 unfoldable pub long_in : List ℕ → (from k : ℕ) → ℕ
-long_in b from k = when leb (from + k * 4 + 4) (length b) then long b (from + k * 4) else 0
+long_in b from k = if leb (from + k * 4 + 4) (length b) then long b (from + k * 4) else 0
 
 -- record k of each part
 unfoldable pub task_in : List ℕ → ℕ → ℕ

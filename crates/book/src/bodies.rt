@@ -9,7 +9,7 @@ ghost use Rattle.book.specs.Laid.{Laid};
 use crate::entry::{body_at, count_at};
 use crate::events;
 use crate::number::{long_at, word_at};
-use rules::answer::{Checked, Loaded, Verdict};
+use rules::answer::{Checked, Fault, Loaded};
 use rules::capacity::{MAX_LOCKS, MAX_TASKS, MAX_USES};
 
 // The n numbers of two bytes from a place on.
@@ -91,7 +91,7 @@ pub fn check(b: &[u8], room: usize) -> Checked
     let verdict = loaded.verdict;
     let plan = loaded.plan;
     match verdict {
-        Verdict::Refused(why, place) => events::refused(why, place),
-        Verdict::Passed => events::check(b, room, plan),
+        Err(Fault { why, place }) => events::refused(why, place),
+        Ok(()) => events::check(b, room, plan),
     }
 }

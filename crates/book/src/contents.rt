@@ -7,7 +7,7 @@ ghost use Rattle.rules.specs.Books.Book.{contents, count_at, layout_fault, conte
 
 use crate::entry::{CONTENTS, body_at, count_at, kind_at, offset_at};
 use plan::count::count_fault;
-use rules::answer::Verdict;
+use rules::answer::Fault;
 use rules::refusal::Refusal;
 
 // The first entry whose count is out of range; 4 where there is none.
@@ -57,19 +57,19 @@ fn first_layout(b: &[u8]) -> usize
 }
 
 // 1 (place 0), 2 (the entry, 1 to 4), 3 (the entry, or 5 for the end), in this order.
-pub fn first_fault(b: &[u8]) -> Verdict
+pub fn first_fault(b: &[u8]) -> Result<(), Fault>
     ensures { result ≡ first_fault (contents_checks b.now) }
 {
     if b.len() < CONTENTS {
-        return Verdict::Refused(Refusal::ShortBook, 0);
+        return Err(Fault { why: Refusal::ShortBook, place: 0 });
     }
     let c = first_count(b);
     if c < 4 {
-        return Verdict::Refused(Refusal::WrongCount, c + 1);
+        return Err(Fault { why: Refusal::WrongCount, place: c + 1 });
     }
     let l = first_layout(b);
     if l < 5 {
-        return Verdict::Refused(Refusal::WrongLayout, l + 1);
+        return Err(Fault { why: Refusal::WrongLayout, place: l + 1 });
     }
-    Verdict::Passed
+    Ok(())
 }

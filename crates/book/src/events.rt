@@ -8,7 +8,7 @@ ghost use Rattle.book.specs.Laid.{Laid};
 use crate::entry::body_at;
 use crate::number::word_at;
 use crate::record::event_fault;
-use rules::answer::{Checked, Verdict};
+use rules::answer::{Checked, Fault};
 use rules::plan::{Plan, blank};
 use rules::refusal::Refusal;
 
@@ -17,7 +17,7 @@ pub fn refused(why: Refusal, place: usize) -> Checked
 {
     let plan = blank();
     Checked {
-        verdict: Verdict::Refused(why, place),
+        verdict: Err(Fault { why, place }),
         plan: plan,
         events: 0,
     }
@@ -78,7 +78,7 @@ pub fn check(b: &[u8], room: usize, plan: Plan) -> Checked
         return refused(Refusal::ShortRows, 0);
     }
     Checked {
-        verdict: Verdict::Passed,
+        verdict: Ok(()),
         plan: plan,
         events: events,
     }

@@ -17,7 +17,7 @@ pub mod writer;
 ghost use Rattle.std.specs.Prelude.{◌≡◌};
 ghost use Rattle.rules.specs.Books.Book.{checked_of};
 
-use rules::answer::{Checked, Verdict};
+use rules::answer::{Checked, Fault};
 
 // The book's plan and the place of its event body, or the first offender of 1 to 9 and 24. Each event
 // needs four bytes of room for its row.
@@ -26,7 +26,7 @@ pub fn check(b: &[u8], room: usize) -> Checked
 {
     let laid = contents::first_fault(b);
     match laid {
-        Verdict::Refused(why, place) => events::refused(why, place),
-        Verdict::Passed => bodies::check(b, room),
+        Err(Fault { why, place }) => events::refused(why, place),
+        Ok(()) => bodies::check(b, room),
     }
 }

@@ -13,7 +13,7 @@ use crate::entry::CONTENTS;
 use crate::lay::lay;
 use crate::record::number_fault;
 use plan::count::count_fault;
-use rules::answer::{Verdict, Written};
+use rules::answer::{Fault, Written};
 use rules::refusal::Refusal;
 
 // How many records entry e has.
@@ -85,33 +85,33 @@ fn book_size(n: usize, m: usize, u: usize, k: usize) -> usize
 }
 
 // 8 and 23, for a book of this size and a buffer with so much room.
-fn first_last(events: &[u32], size: usize, room: usize) -> Verdict
+fn first_last(events: &[u32], size: usize, room: usize) -> Result<(), Fault>
     ensures { result ≡ first_fault (last_checks events.now size room) }
 {
     let wrong = any_event(events);
     if wrong {
         let k = first_event(events);
-        return Verdict::Refused(Refusal::WrongEvent, k);
+        return Err(Fault { why: Refusal::WrongEvent, place: k });
     }
     if room < size {
-        return Verdict::Refused(Refusal::ShortBuffer, 0);
+        return Err(Fault { why: Refusal::ShortBuffer, place: 0 });
     }
-    Verdict::Passed
+    Ok(())
 }
 
 // 2, 4 to 7, 24, 8 and 23, in this order, each at its first offender.
-fn first_fault(tasks: &[u16], locks: &[u32], uses: &[u16], events: &[u32], room: usize) -> Verdict
+fn first_fault(tasks: &[u16], locks: &[u32], uses: &[u16], events: &[u32], room: usize) -> Result<(), Fault>
     ensures { result ≡ first_fault (write_checks tasks.now locks.now uses.now events.now room) }
 {
     let e = first_count(tasks.len(), locks.len(), uses.len(), events.len());
     if e < 4 {
-        return Verdict::Refused(Refusal::WrongCount, e + 1);
+        return Err(Fault { why: Refusal::WrongCount, place: e + 1 });
     }
     let loaded = plan::load(tasks, locks, uses);
     let verdict = loaded.verdict;
     match verdict {
-        Verdict::Refused(why, place) => Verdict::Refused(why, place),
-        Verdict::Passed => {
+        Err(Fault { why, place }) => Err(Fault { why, place }),
+        Ok(()) => {
             let size = book_size(tasks.len(), locks.len(), uses.len(), events.len());
             first_last(events, size, room)
         }
@@ -127,14 +127,14 @@ pub fn write(tasks: &[u16], locks: &[u32], uses: &[u16], events: &[u32], out: &m
 {
     let verdict = first_fault(tasks, locks, uses, events, out.len());
     match verdict {
-        Verdict::Refused(why, place) => Written {
-            verdict: Verdict::Refused(why, place),
+        Err(Fault { why, place }) => Written {
+            verdict: Err(Fault { why, place }),
             length: 0,
         },
-        Verdict::Passed => {
+        Ok(()) => {
             let n = lay(tasks, locks, uses, events, out);
             Written {
-                verdict: Verdict::Passed,
+                verdict: Ok(()),
                 length: n,
             }
         }

@@ -1,11 +1,11 @@
 -- Every table has a book with its records: what it answers is what the table gives. Assumes nothing.
+use Rattle.std.specs.Prelude.{if◌then◌else◌}
 use mathlib.Core.Path.{◌≡◌, refl, sym, ◌∙◌, ap, ap₂}
 use mathlib.Core.List.{List, [], ◌∷◌}
 use Prim.Native.Nat.{ℕ, zero, suc, ◌*◌, ◌^◌, ◌<◌}
 use native.Mathlib.Omega.{arith}
 use lib.ListN.{length, get_or, length-map}
 use borrow.Author.Tests.{le-ltb}
-use Rattle.rules.specs.Numbers.Choice.{when◌then◌else◌}
 use Rattle.rules.specs.Numbers.Place.{at}
 use Rattle.rules.specs.Books.Plan.{most, count_fault}
 use Rattle.rules.specs.Books.Load.{load_of}
@@ -29,7 +29,7 @@ module _ (ts : List TaskRecord) (locks uses : List ℕ) where
 
   -- nothing but the plan can be refused in it
   only_plan : OnlyPlan b 0
-  unfolding count_fault most event_checks when◌then◌else◌
+  unfolding count_fault most event_checks
   only_plan = record {
     whole = omega (arith, book_size (numbers_of ts) locks uses []);
     layout = layout_right (numbers_of ts) locks uses [];

@@ -1,4 +1,5 @@
 -- What is kept of a table of records, record by record, and that the plan check sees the same in it as in all the numbers. Assumes nothing.
+use Rattle.std.specs.Prelude.{if◌then◌else◌}
 use mathlib.Core.Path.{◌≡◌, refl, sym, ◌∙◌, ap, ap₂, subst}
 use mathlib.Core.Logic.{⊎_elim}
 use mathlib.Core.Bool.{Bool, true, false, ◌||◌}
@@ -12,10 +13,9 @@ use lib.ListN.{length, get_or, set, take, drop, replicate, length-map, length-se
 use lib.Seq.{sets, sets-eq, drop-cons, take_at, length-take-le}
 use borrow.Author.Tests.{lt-ltb, le-ltb}
 use Rattle.rules.specs.Numbers.Capacity.{max_tasks}
-use Rattle.rules.specs.Numbers.Choice.{when◌then◌else◌}
 use Rattle.rules.specs.Books.Plan.{most, count_fault}
 use Rattle.rules.specs.Books.Load.{plan_of, count_fault_of, record_checks, load_checks, refused_load, loaded_as, load_of}
-use Rattle.rules.specs.declared.answer.Loaded.{Loaded}
+use Rattle.rules.specs.Books.Load.{Loaded}
 use Rattle.rules.specs.declared.refusal.Refusal.TheVariants.{WrongCount}
 use Rattle.rules.proofs.Numbers.Choice.{if_true, if_false, lt_or_le}
 use Rattle.rules.proofs.Numbers.Place.{first_stop}
@@ -92,7 +92,7 @@ full (t ∷ ts) n a w b = ⊎_elim
 
 -- more tasks than a plan may have are refused, whatever they are
 pub too_many : (tasks locks uses : List ℕ) → max_tasks < length tasks → load_of tasks locks uses ≡ refused_load WrongCount 1
-unfolding load_of load_checks record_checks loaded_as count_fault_of count_fault most when◌then◌else◌
+unfolding load_of load_checks record_checks loaded_as count_fault_of count_fault most
 too_many tasks locks uses h =
     ap (λ v. loaded_as v (plan_of tasks locks uses)) (check_finds _ _ 0 (sym
     (first_stop (count_fault_of (length tasks) (length locks) (length uses)) 0 2

@@ -1,4 +1,6 @@
 -- RULES 6.4: a book and the table of its task records give the same plan or the same refusal. Assumes nothing.
+use Rattle.std.specs.Prelude.{Ok, Err, if◌then◌else◌}
+use Rattle.rules.specs.Numbers.Verdict.{Verdict}
 use mathlib.Core.Path.{◌≡◌, refl, sym, ◌∙◌, ap}
 use mathlib.Core.Logic.{◌⊎◌, inl, inr, ⊎_elim}
 use mathlib.Core.Bool.{Bool, false}
@@ -9,13 +11,11 @@ use lib.Dec.{ltb}
 use lib.ListN.{length, length-map}
 use borrow.Author.Tests.{le-ltb}
 use Rattle.rules.specs.Numbers.Capacity.{max_tasks}
-use Rattle.rules.specs.Numbers.Choice.{when◌then◌else◌}
 use Rattle.rules.specs.Numbers.Place.{from, first_from}
 use Rattle.rules.specs.Numbers.Refusal.{Check, first_fault}
 use Rattle.rules.specs.Books.Plan.{count_fault}
 use Rattle.rules.specs.Books.Load.{count_fault_of, record_checks, load_checks, refused_load, loaded_as, load_of}
 use Rattle.rules.specs.Books.Book.{contents, count_at, layout_fault, tasks_of, locks_of, uses_of, plan_in, contents_checks, event_checks, check_of, checked_as, checked_of}
-use Rattle.rules.specs.declared.answer.Verdict.{Verdict}
 use Rattle.rules.specs.declared.refusal.Refusal.TheVariants.{WrongCount}
 use Rattle.rules.proofs.Numbers.Choice.{by_test, untrue, lt_or_le}
 use Rattle.rules.proofs.Numbers.Place.{first_stop, first_on, first_hit, length_from}
@@ -80,7 +80,7 @@ module _ (b : List ℕ) where
     counts_here = count_fault_of (length (tasks_of b)) (length (locks_of b)) (length (uses_of b))
 
     same_counts : (e : ℕ) → 0 ≤ e → e < 0 + 3 → counts_there e ≡ counts_here e
-    unfolding count_fault_of when◌then◌else◌
+    unfolding count_fault_of
     same_counts zero _ h = ap (count_fault 0) (sym (length_from _ 0 (count_at b 0)))
     same_counts (suc zero) _ h = ap (count_fault 1) (sym (length_from _ 0 (count_at b 1)))
     same_counts (suc (suc zero)) _ h = ap (count_fault 2) (sym (length_from _ 0 (count_at b 2)))
@@ -88,8 +88,8 @@ module _ (b : List ℕ) where
 
     -- where the events pass, the plan decides
     decides : (v : Verdict) → first_fault loads ≡ v → first_fault (loads ++ event_checks b room) ≡ v
-    decides Verdict.Passed e = check_right loads (event_checks b room) e ∙ only.records
-    decides (Verdict.Refused why place) e = check_left loads (event_checks b room) why place e
+    decides (Ok _) e = check_right loads (event_checks b room) e ∙ only.records
+    decides (Err f) e = check_left loads (event_checks b room) f.why f.place e
 
     same_verdict : check_of b room ≡ first_fault loads
     unfolding check_of contents_checks load_checks record_checks
@@ -105,8 +105,8 @@ module _ (b : List ℕ) where
 
     answered : (v : Verdict) → answer_of (checked_as v b) ≡ loaded_as v (plan_in b)
     unfolding checked_as loaded_as
-    answered Verdict.Passed = refl
-    answered (Verdict.Refused why place) = refl
+    answered (Ok _) = refl
+    answered (Err f) = refl
 
     -- a book of which only the plan can be refused answers as `load_table` does for the table of its task records, with its locks and its uses
     pub same_as_book : answer_of (checked_of b room) ≡ load_of (numbers_of (records_of b)) (locks_of b) (uses_of b)

@@ -1,4 +1,5 @@
 -- What is spelled in numbers is what the definitions answer. Assumes nothing.
+use Rattle.std.specs.Prelude.{if◌then◌else◌}
 use mathlib.Core.Path.{◌≡◌, sym, ◌∙◌, ap, ap₂}
 use mathlib.Core.Bool.{Bool, true, false, not}
 use mathlib.Core.List.{List}
@@ -6,7 +7,6 @@ use Prim.Native.Nat.{ℕ}
 use lib.Dec.{eqb}
 use lib.ListN.{length}
 use borrow.Author.Tests.{ne_eqb}
-use Rattle.rules.specs.Numbers.Choice.{when◌then◌else◌}
 use Rattle.rules.specs.Numbers.Refusal.{number_of}
 use Rattle.rules.specs.Numbers.Answer.{verdict_number, verdict_place, answer_number, answer_calls}
 use Rattle.rules.specs.Books.Event.{event_fault, event_of}
@@ -21,8 +21,8 @@ use Rattle.rules.specs.declared.plan.Plan.{Plan}
 use Rattle.rules.specs.declared.protocol.Protocol.{Protocol}
 use Rattle.rules.specs.declared.state.State.{State}
 use Rattle.rules.specs.declared.event.Event.{Event}
-use Rattle.rules.specs.declared.answer.Checked.{Checked}
-use Rattle.rules.specs.declared.answer.Loaded.{Loaded}
+use Rattle.rules.specs.Books.Book.{Checked}
+use Rattle.rules.specs.Books.Load.{Loaded}
 use Rattle.rules.specs.declared.answer.Stepped.{Stepped}
 use Rattle.rules.specs.declared.answer.Replayed.{Replayed}
 use Rattle.rules.specs.declared.answer.Written.{Written}
@@ -107,8 +107,7 @@ bound_said b room c reads n t h = h ∙ ap (λ (k : Checked). bound_of k.plan t)
 
 module _ (kind id amount : ℕ) where
   pub work_handed : kind ≡ 4 → (z : Bool) → z ≡ not (eqb id 0) → z ≡ no_event kind id amount
-  unfolding when◌then◌else◌
-  work_handed e z h = h ∙ ap (λ (k : ℕ). when eqb k 4 then not (eqb id 0) else event_fault kind id amount) (sym e)
+  work_handed e z h = h ∙ ap (λ (k : ℕ). if eqb k 4 then not (eqb id 0) else event_fault kind id amount) (sym e)
 
   pub other_handed : ¬ (kind ≡ 4) → (z : Bool) → z ≡ event_fault kind id amount → z ≡ no_event kind id amount
   other_handed h z e = e ∙ sym (if_false (eqb kind 4) (not (eqb id 0)) (event_fault kind id amount) (ne_eqb kind 4 h))

@@ -1,13 +1,12 @@
 -- RULES 6.4: the task records of a book as a table, what a book answers of its plan, and the book of a table's records. Assumes nothing.
-use Rattle.std.specs.Prelude.{◌≡◌, false, List, [], ℕ, ◌+◌, ◌*◌, ◌≤◌, ◌<◌, length}
+use Rattle.std.specs.Prelude.{◌≡◌, false, List, [], ℕ, ◌+◌, ◌*◌, ◌≤◌, ◌<◌, length, Ok}
 use Rattle.rules.specs.Numbers.Place.{at, tabulate}
 use Rattle.rules.specs.Numbers.Refusal.{first_fault}
 use Rattle.rules.specs.Books.Plan.{count_fault}
 use Rattle.rules.specs.Books.Book.{contents, count_at, body_at, layout_fault, event_checks}
 use Rattle.rules.specs.Books.Bytes.{book_of}
-use Rattle.rules.specs.declared.answer.Verdict.{Verdict}
-use Rattle.rules.specs.declared.answer.Loaded.{Loaded}
-use Rattle.rules.specs.declared.answer.Checked.{Checked}
+use Rattle.rules.specs.Books.Load.{Loaded}
+use Rattle.rules.specs.Books.Book.{Checked}
 use Rattle.device.specs.Table.{numbers_of}
 use Rattle.device.specs.declared.table.TaskRecord.{TaskRecord}
 
@@ -29,7 +28,7 @@ pub record OnlyPlan (b : List ℕ) (room : ℕ) : Type 0 where
   pub whole : contents ≤ length b
   pub layout : (e : ℕ) → e < 5 → layout_fault b e ≡ false
   pub events : count_fault 3 (count_at b 3) ≡ false
-  pub records : first_fault (event_checks b room) ≡ Verdict.Passed
+  pub records : first_fault (event_checks b room) ≡ Ok tt
 
 -- the book of a table's records: as every book, by their numbers, and without events
 abbrev pub table_book : List TaskRecord → List ℕ → List ℕ → List ℕ

@@ -1,7 +1,6 @@
 -- RULES 6.3: the numbers of the task records of a lent table, and what is kept of them while they are read. Assumes nothing.
-use Rattle.std.specs.Prelude.{List, [], ◌∷◌, map, ℕ, ◌+◌, ◌*◌, min, ltb, set, take, replicate}
+use Rattle.std.specs.Prelude.{List, [], ◌∷◌, map, ℕ, ◌+◌, ◌*◌, min, ltb, set, take, replicate, if◌then◌else◌}
 use Rattle.rules.specs.Numbers.Capacity.{max_tasks}
-use Rattle.rules.specs.Numbers.Choice.{when◌then◌else◌}
 use Rattle.device.specs.declared.table.TaskRecord.{TaskRecord}
 use Rattle.device.specs.declared.numbers.Numbers.{Numbers}
 
@@ -22,7 +21,7 @@ no_numbers = record { words = replicate most_kept 0; count = 0 }
 
 unfoldable pub kept : Numbers → ℕ → ℕ → Numbers
 kept n base maximum =
-    when ltb n.count most_kept then (record { words = set n.words n.count (base + maximum * 256); count = n.count + 1 })
+    if ltb n.count most_kept then (record { words = set n.words n.count (base + maximum * 256); count = n.count + 1 })
     else n
 
 unfoldable pub kept_from : Numbers → List TaskRecord → Numbers

@@ -7,7 +7,7 @@ ghost use Rattle.device.specs.Device.{replay_spelled};
 
 use rules::answer::{verdict_number, verdict_place};
 use rules::plan::Plan;
-use rules::protocol::named;
+use rules::protocol::Protocol;
 use rules::state::State;
 
 // The refusal's number and place; the plan, and the state where the run stopped: the blank plan and a
@@ -31,7 +31,7 @@ pub extern "C" fn recorder_replay(protocol: u8, book: &[u8], rows: &mut [u8]) ->
         (replay_of (protocol_named protocol) book.now rows.old).state }
     ensures rows_after { rows.new ≡ (replay_of (protocol_named protocol) book.now rows.old).rows }
 {
-    let r = scheduler::replay(named(protocol), book, rows);
+    let r = scheduler::replay(Protocol::from(protocol), book, rows);
     let verdict = r.verdict;
     let plan = r.plan;
     let state = r.state;

@@ -6,8 +6,8 @@ ghost use Rattle.device.specs.Device.{no_event, step_from};
 use book::record::{event_fault, event_of};
 use rules::answer::{answer_calls, answer_number};
 use rules::plan::Plan;
-use rules::protocol::named;
-use rules::refusal::{Refusal, number};
+use rules::protocol::Protocol;
+use rules::refusal::Refusal;
 use rules::state::{State, fresh};
 
 // The refusal's number and the lazy calls; the state after the event, which is the given one where it
@@ -53,12 +53,12 @@ pub extern "C" fn recorder_step(
 {
     if no_event(kind, id, amount) {
         return DeviceStep {
-            number: number(Refusal::WrongEvent),
+            number: u8::from(Refusal::WrongEvent),
             calls: 0,
             state: state,
         };
     }
-    let s = scheduler::step(named(protocol), plan, state, event_of(kind, id, amount));
+    let s = scheduler::step(Protocol::from(protocol), plan, state, event_of(kind, id, amount));
     let answer = s.answer;
     let after = s.state;
     DeviceStep {

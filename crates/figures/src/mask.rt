@@ -1,7 +1,6 @@
 // A set of locks as a number: bit l says that lock l is in it.
-ghost use Rattle.std.specs.Prelude.{◌≡◌, ltb};
+ghost use Rattle.std.specs.Prelude.{◌≡◌, ltb, if◌then◌else◌};
 ghost use Rattle.rules.specs.Numbers.Capacity.{max_locks};
-ghost use Rattle.rules.specs.Numbers.Choice.{when◌then◌else◌};
 ghost use Rattle.rules.specs.Numbers.Mask.{has_bit, with_bit};
 
 use rules::capacity::MAX_LOCKS;
@@ -18,7 +17,7 @@ pub fn has_bit(mask: u32, l: u8) -> bool
 
 // The set with lock l in it. No set has a lock past the last one.
 pub fn with_bit(mask: u32, l: u8) -> u32
-    ensures { result ≡ (when ltb l max_locks then with_bit mask l else mask) }
+    ensures { result ≡ (if ltb l max_locks then with_bit mask l else mask) }
 {
     if MAX_LOCKS <= l as usize {
         return mask;

@@ -1,4 +1,6 @@
 -- The ways through the code that answers: the text is read into no space, and where nothing is refused into the space that is lent. Assumes nothing.
+use Rattle.std.specs.Prelude.{Ok}
+use Rattle.rules.specs.Numbers.Verdict.{Verdict, refused_at}
 use mathlib.Core.Path.{◌≡◌, refl, sym, ◌∙◌, ap}
 use mathlib.Core.Bool.{Bool, true, false}
 use mathlib.Core.List.{List, [], ◌++◌, map}
@@ -9,7 +11,6 @@ use lib.ListN.{length, drop, length-drop, length-map}
 use borrow.Author.Tests.{lt-ltb, le-ltb, ltb-true, ltb-false}
 use Rattle.rules.specs.Books.Bytes.{long_bytes}
 use Rattle.rules.specs.Books.Event.{event_number}
-use Rattle.rules.specs.declared.answer.Verdict.{Verdict}
 use Rattle.rules.specs.declared.event.Event.{Event}
 use Rattle.rules.specs.declared.refusal.Refusal.{Refusal}
 use Rattle.rules.specs.declared.refusal.Refusal.TheVariants.{WrongJob, ShortSpace}
@@ -41,54 +42,54 @@ told_done (read es) p q e = (es, refl, cc)
 pub records_size : (es : List Event) → length (records_of es) ≡ length es * 4
 records_size es = long_size (map event_number es) ∙ ap (λ n. n * 4) (length-map es event_number)
 
-answer_read : (text : List ℕ) (room : ℕ) (es : List Event) → read_job text ≡ read es → length es * 4 ≤ room → job_answer text room ≡ record { verdict = Verdict.Passed; events = length es }
+answer_read : (text : List ℕ) (room : ℕ) (es : List Event) → read_job text ≡ read es → length es * 4 ≤ room → job_answer text room ≡ record { verdict = Ok tt; events = length es }
 unfolding job_answer job_events job_verdict verdict_of given_by
 answer_read text room es h l =
-    let v : verdict_of (read es) text room ≡ Verdict.Passed = if_false (ltb room (length es * 4)) _ _ (le-ltb room (length es * 4) l) in
+    let v : verdict_of (read es) text room ≡ Ok tt = if_false (ltb room (length es * 4)) _ _ (le-ltb room (length es * 4) l) in
     rw (h, v)
 
-pub verdict_small : (text : List ℕ) (room : ℕ) (es : List Event) → read_job text ≡ read es → room < length es * 4 → job_verdict text room ≡ Verdict.Refused ShortSpace 0
+pub verdict_small : (text : List ℕ) (room : ℕ) (es : List Event) → read_job text ≡ read es → room < length es * 4 → job_verdict text room ≡ refused_at ShortSpace 0
 unfolding job_verdict verdict_of
 verdict_small text room es h l = rw h (if_true (ltb room (length es * 4)) _ _ (lt-ltb room (length es * 4) l))
 
-pub verdict_stopped : (text rest : List ℕ) (room : ℕ) → read_job text ≡ refused rest → job_verdict text room ≡ Verdict.Refused WrongJob (length text - length rest)
+pub verdict_stopped : (text rest : List ℕ) (room : ℕ) → read_job text ≡ refused rest → job_verdict text room ≡ refused_at WrongJob (length text - length rest)
 unfolding job_verdict verdict_of
 verdict_stopped text rest room h = rw h
 
-pub verdict_enough : (text : List ℕ) (room : ℕ) (es : List Event) → read_job text ≡ read es → length es * 4 ≤ room → job_verdict text room ≡ Verdict.Passed
+pub verdict_enough : (text : List ℕ) (room : ℕ) (es : List Event) → read_job text ≡ read es → length es * 4 ≤ room → job_verdict text room ≡ Ok tt
 unfolding job_verdict verdict_of
 verdict_enough text room es h l = rw h (if_false (ltb room (length es * 4)) _ _ (le-ltb room (length es * 4) l))
 
 -- a refusal answers no events, and leaves the space
-pub no_events : (text : List ℕ) (room : ℕ) (why : Refusal) (place : ℕ) → job_verdict text room ≡ Verdict.Refused why place → job_events text room ≡ []
+pub no_events : (text : List ℕ) (room : ℕ) (why : Refusal) (place : ℕ) → job_verdict text room ≡ refused_at why place → job_events text room ≡ []
 unfolding job_events given_by
 no_events text room why place h = ap (λ v. given_by v (read_job text)) h
 
 pub events_read : (text : List ℕ) (room : ℕ) (es : List Event) → read_job text ≡ read es → length es * 4 ≤ room → job_events text room ≡ es
 unfolding job_events given_by
-events_read text room es h l = ap (λ v. given_by v (read_job text)) (verdict_enough text room es h l) ∙ ap (given_by Verdict.Passed) h
+events_read text room es h l = ap (λ v. given_by v (read_job text)) (verdict_enough text room es h l) ∙ ap (given_by (Ok tt)) h
 
-answer_refused : (text : List ℕ) (room : ℕ) (why : Refusal) (place : ℕ) → job_verdict text room ≡ Verdict.Refused why place
-    → job_answer text room ≡ record { verdict = Verdict.Refused why place; events = 0 }
+answer_refused : (text : List ℕ) (room : ℕ) (why : Refusal) (place : ℕ) → job_verdict text room ≡ refused_at why place
+    → job_answer text room ≡ record { verdict = refused_at why place; events = 0 }
 unfolding job_answer
 answer_refused text room why place h = rw (no_events text room why place h, h)
 
-pub job_refused : (text space : List ℕ) (why : Refusal) (place : ℕ) → job_verdict text (length space) ≡ Verdict.Refused why place
-    → job_of text space ≡ read_with (record { verdict = Verdict.Refused why place; events = 0 }) space
+pub job_refused : (text space : List ℕ) (why : Refusal) (place : ℕ) → job_verdict text (length space) ≡ refused_at why place
+    → job_of text space ≡ read_with (record { verdict = refused_at why place; events = 0 }) space
 unfolding job_of long_bytes
 job_refused text space why place h =
     ap (λ a. read_with a (with_events (job_events text (length space)) space)) (answer_refused text (length space) why place h)
-    ∙ ap (λ es. read_with (record { verdict = Verdict.Refused why place; events = 0 }) (with_events es space)) (no_events text (length space) why place h)
+    ∙ ap (λ es. read_with (record { verdict = refused_at why place; events = 0 }) (with_events es space)) (no_events text (length space) why place h)
 
 pub job_read : (text space : List ℕ) (es : List Event) → read_job text ≡ read es → length es * 4 ≤ length space
-    → job_of text space ≡ read_with (record { verdict = Verdict.Passed; events = length es }) (with_events es space)
+    → job_of text space ≡ read_with (record { verdict = Ok tt; events = length es }) (with_events es space)
 unfolding job_of
 job_read text space es h l =
     ap (λ a. read_with a (with_events (job_events text (length space)) space)) (answer_read text (length space) es h l)
-    ∙ ap (λ x. read_with (record { verdict = Verdict.Passed; events = length es }) (with_events x space)) (events_read text (length space) es h l)
+    ∙ ap (λ x. read_with (record { verdict = Ok tt; events = length es }) (with_events x space)) (events_read text (length space) es h l)
 
 -- a refusal is no pass
-pub never : {P : Type 0} {why : Refusal} {place : ℕ} → Verdict.Refused why place ≡ Verdict.Passed → P
+pub never : {P : Type 0} {why : Refusal} {place : ℕ} → refused_at why place ≡ Ok tt → P
 never {why = why} {place} e = let z : ◌≡◌ {A = ℕ} 0 1 = cc in absurd (omega arith)
 
 -- ---- as `check_job` goes
@@ -100,19 +101,19 @@ module _ (text : List ℕ) (room place n : ℕ) (ok : Bool) (t t' : List ℕ) (h
       let (es, r, g) = told_done (read_job text) (sheet t 0) (sheet t' n) (h ∙ ap (λ x. whole x text place (sheet t' n)) o) in
       (es, r, sym (ap (λ q. q.count) g) ∙ lay_count es (sheet t 0) ∙ omega arith)
 
-  pub check_stopped : ok ≡ false → place ≤ length text → record { verdict = Verdict.Refused WrongJob place; events = 0 } ≡ job_answer text room
+  pub check_stopped : ok ≡ false → place ≤ length text → record { verdict = refused_at WrongJob place; events = 0 } ≡ job_answer text room
   unfolding whole
   check_stopped o l =
       let r : read_job text ≡ refused (drop place text) = told_halted (read_job text) (sheet t 0) (drop place text) (h ∙ ap (λ x. whole x text place (sheet t' n)) o) in
       let e : length text - length (drop place text) ≡ place = omega (arith, length-drop place text) in
-      sym (answer_refused text room WrongJob place (verdict_stopped text (drop place text) room r ∙ ap (Verdict.Refused WrongJob) e))
+      sym (answer_refused text room WrongJob place (verdict_stopped text (drop place text) room r ∙ ap (refused_at WrongJob) e))
 
-  pub check_small : ok ≡ true → room / 4 < n → record { verdict = Verdict.Refused ShortSpace 0; events = 0 } ≡ job_answer text room
+  pub check_small : ok ≡ true → room / 4 < n → record { verdict = refused_at ShortSpace 0; events = 0 } ≡ job_answer text room
   check_small o l =
       let (es, r, e) = counted o in
       sym (answer_refused text room ShortSpace 0 (verdict_small text room es r (omega arith)))
 
-  pub check_passed : ok ≡ true → n ≤ room / 4 → record { verdict = Verdict.Passed; events = n } ≡ job_answer text room
+  pub check_passed : ok ≡ true → n ≤ room / 4 → record { verdict = Ok tt; events = n } ≡ job_answer text room
   check_passed o l =
       let (es, r, e) = counted o in
       rw e (sym (answer_read text room es r (omega arith)))
@@ -124,7 +125,7 @@ module _ (text s : List ℕ) (job : Job) (h : job ≡ job_answer text (length s)
   unfolding job_answer
   told = ap (λ j. j.verdict) h
 
-  pub read_refused : (why : Refusal) (place : ℕ) (v : Verdict) → v ≡ job.verdict → v ≡ Verdict.Refused why place → read_with job s ≡ job_of text s
+  pub read_refused : (why : Refusal) (place : ℕ) (v : Verdict) → v ≡ job.verdict → v ≡ refused_at why place → read_with job s ≡ job_of text s
   unfolding job_of long_bytes
   read_refused why place v e f =
       ap (λ a. read_with a s) h
@@ -140,15 +141,15 @@ module _ (text s : List ℕ) (job : Job) (h : job ≡ job_answer text (length s)
       ∙ ap (λ k. records_of es ++ drop k s) (records_size es)
 
   by_answer : (s' : List ℕ) (place n : ℕ) (ok : Bool) → tell (sheet s 0) (read_job text) ≡ whole ok text place (sheet s' n) → (r : Answer) → read_job text ≡ r
-      → job_verdict text (length s) ≡ Verdict.Passed → s' ≡ with_events (job_events text (length s)) s
+      → job_verdict text (length s) ≡ Ok tt → s' ≡ with_events (job_events text (length s)) s
   by_answer s' place n ok g (refused rest) e v =
-      let z : Verdict.Refused WrongJob (length text - length rest) ≡ Verdict.Passed = sym (verdict_stopped text rest (length s) e) ∙ v in never z
+      let z : refused_at WrongJob (length text - length rest) ≡ Ok tt = sym (verdict_stopped text rest (length s) e) ∙ v in never z
   by_answer s' place n ok g (read es) e v = by_test (ltb (length s) (length es * 4))
       (λ y. never (sym (verdict_small text (length s) es e (ltb-true (length s) (length es * 4) y)) ∙ v))
       (λ y. let l : length es * 4 ≤ length s = ltb-false (length s) (length es * 4) y in
       laid_so s' place n es ok (ap (tell (sheet s 0)) (sym e) ∙ g) l ∙ ap (λ x. with_events x s) (sym (events_read text (length s) es e l)))
 
-  pub read_passed : (s' : List ℕ) (place n : ℕ) (ok : Bool) (v : Verdict) → tell (sheet s 0) (read_job text) ≡ whole ok text place (sheet s' n) → v ≡ job.verdict → v ≡ Verdict.Passed
+  pub read_passed : (s' : List ℕ) (place n : ℕ) (ok : Bool) (v : Verdict) → tell (sheet s 0) (read_job text) ≡ whole ok text place (sheet s' n) → v ≡ job.verdict → v ≡ Ok tt
       → read_with job s' ≡ job_of text s
   unfolding job_of
   read_passed s' place n ok v g e f =

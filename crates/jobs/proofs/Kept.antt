@@ -1,4 +1,6 @@
 -- RULES 20.4 to 20.6: the promises of the reading of a job are kept. Assumes nothing.
+use Rattle.std.specs.Prelude.{Ok}
+use Rattle.rules.specs.Numbers.Verdict.{refused_at}
 use mathlib.Core.Path.{◌≡◌, refl, sym, ◌∙◌, ap}
 use mathlib.Core.List.{List, [], ◌∷◌, ◌++◌}
 use Prim.Native.Nat.{ℕ, ◌+◌, ◌*◌, ◌-◌, ◌≤◌, ◌<◌}
@@ -6,7 +8,6 @@ use native.Mathlib.Omega.{arith}
 use lib.Dec.{ltb}
 use lib.ListN.{length, length-append, length-drop}
 use borrow.Author.Tests.{ltb-true, ltb-false}
-use Rattle.rules.specs.declared.answer.Verdict.{Verdict}
 use Rattle.rules.specs.declared.event.Event.{Event}
 use Rattle.rules.specs.declared.event.Event.TheVariants.{Finish, Unlock}
 use Rattle.rules.specs.declared.refusal.Refusal.TheVariants.{WrongJob, ShortSpace}
@@ -35,28 +36,28 @@ by_reading P text room f g h = go (read_job text) refl
     go (refused rest) e = f rest e
     go (read es) e = by_test (ltb room (length es * 4)) (λ y. g es e (ltb-true room (length es * 4) y)) (λ y. h es e (ltb-false room (length es * 4) y))
 
-accepted : (text : List ℕ) (room : ℕ) → job_verdict text room ≡ Verdict.Passed → (b : Body) × Good 8 b × (text_of b ≡ text) × (job_events text room ≡ events_of b)
+accepted : (text : List ℕ) (room : ℕ) → job_verdict text room ≡ Ok tt → (b : Body) × Good 8 b × (text_of b ≡ text) × (job_events text room ≡ events_of b)
 accepted text room h = by_reading _ text room
     (λ rest e. never (sym (verdict_stopped text rest room e) ∙ h))
     (λ es e l. never (sym (verdict_small text room es e l) ∙ h))
     (λ es e l. let (b, g, t, f) = events_of_read text es e in (b, g, t, events_read text room es e l ∙ f))
 
 unfit : (text space : List ℕ) → ((b : Body) → Good 8 b → text_of b ≡ text → ⊥)
-    → (n : ℕ) × Place text n × (job_of text space ≡ read_with (record { verdict = Verdict.Refused WrongJob n; events = 0 }) space)
+    → (n : ℕ) × Place text n × (job_of text space ≡ read_with (record { verdict = refused_at WrongJob n; events = 0 }) space)
 unfit text space f = go (read_job text) refl
   where
-    go : (r : Answer) → read_job text ≡ r → (n : ℕ) × Place text n × (job_of text space ≡ read_with (record { verdict = Verdict.Refused WrongJob n; events = 0 }) space)
+    go : (r : Answer) → read_job text ≡ r → (n : ℕ) × Place text n × (job_of text space ≡ read_with (record { verdict = refused_at WrongJob n; events = 0 }) space)
     go (refused rest) e = (length text - length rest, refused_place text rest e, job_refused text space WrongJob (length text - length rest) (verdict_stopped text rest (length space) e))
     go (read es) e = let (b, g, h) = text_of_read text es e in absurd (f b g h)
 
 -- two refusals that are the same
-same_place : {m n : ℕ} → Verdict.Refused WrongJob m ≡ Verdict.Refused WrongJob n → m ≡ n
+same_place : {m n : ℕ} → refused_at WrongJob m ≡ refused_at WrongJob n → m ≡ n
 same_place {m} {n} e = cc
 
-other_refusal : {P : Type 0} {m n : ℕ} → Verdict.Refused ShortSpace m ≡ Verdict.Refused WrongJob n → P
+other_refusal : {P : Type 0} {m n : ℕ} → refused_at ShortSpace m ≡ refused_at WrongJob n → P
 other_refusal {m = m} {n} e = let z : ◌≡◌ {A = ℕ} 0 1 = cc in absurd (omega arith)
 
-placed : (text : List ℕ) (room n : ℕ) → job_verdict text room ≡ Verdict.Refused WrongJob n → Place text n
+placed : (text : List ℕ) (room n : ℕ) → job_verdict text room ≡ refused_at WrongJob n → Place text n
 placed text room n h = by_reading _ text room
     (λ rest e. let k : length text - length rest ≡ n = same_place (sym (verdict_stopped text rest room e) ∙ h) in rw (sym k) (refused_place text rest e))
     (λ es e l. other_refusal (sym (verdict_small text room es e l) ∙ h))
@@ -83,7 +84,7 @@ few : (b : Body) → length (events_of b) * 4 ≤ length (text_of b) * 2 + 6
 unfolding events_of text_of
 few b = omega (arith, events_few b, length-append (events_in b) (Finish ∷ []), length-drop 1 (tail_of b))
 
-enough : (text : List ℕ) (room : ℕ) → length text * 2 + 6 ≤ room → job_verdict text room ≡ Verdict.Refused ShortSpace 0 → ⊥
+enough : (text : List ℕ) (room : ℕ) → length text * 2 + 6 ≤ room → job_verdict text room ≡ refused_at ShortSpace 0 → ⊥
 enough text room l h = by_reading _ text room
     (λ rest e. other_refusal (sym h ∙ verdict_stopped text rest room e))
     (λ es e s. let (b, g, t, f) = events_of_read text es e in omega (arith, few b, ap length t, ap length f))

@@ -1,4 +1,5 @@
 -- The place of refusal 25 is that of the first byte where no text of the form could go on. Assumes nothing.
+use Rattle.std.specs.Prelude.{if◌then◌else◌}
 use mathlib.Core.Path.{◌≡◌, refl, sym, ◌∙◌, ap}
 use mathlib.Core.Logic.{⊎_elim}
 use mathlib.Core.List.{List, [], ◌∷◌, ◌++◌, append_assoc}
@@ -8,7 +9,6 @@ use lib.Dec.{eqb}
 use lib.ListN.{length, take, drop, length-append}
 use lib.Seq.{take_at, take-add}
 use borrow.Author.Tests.{eqb-true, eqb-false}
-use Rattle.rules.specs.Numbers.Choice.{when◌then◌else◌}
 use Rattle.rules.specs.declared.event.Event.{Event}
 use Rattle.jobs.specs.Grammar.{text_of}
 use Rattle.rules.specs.declared.event.Event.TheVariants.{Acquire, Unlock, Work, Finish}
@@ -49,7 +49,7 @@ closes (l ∷ ls) =
     (fs, read_right l (closed ls) ls ∙ g)
 
 turns_closed : (ls : List ℕ) → Turns (closed ls)
-unfolding closed Turns sign mark_of when◌then◌else◌
+unfolding closed Turns sign mark_of
 turns_closed [] = tt
 turns_closed (l ∷ ls) = (right, refl)
 

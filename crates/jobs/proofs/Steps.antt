@@ -1,4 +1,5 @@
 -- Laws of the reader, one byte at a time. Assumes nothing.
+use Rattle.std.specs.Prelude.{if◌then◌else◌}
 use mathlib.Core.Path.{◌≡◌, refl, sym, ◌∙◌, ap}
 use mathlib.Core.Logic.{⊎_elim}
 use mathlib.Core.List.{List, [], ◌∷◌, ◌++◌, append_assoc}
@@ -9,7 +10,6 @@ use lib.Dec.{eqb, ltb}
 use lib.ListN.{length, drop, drop_of_length-le, get_or-eq_default}
 use lib.Seq.{drop-cons}
 use borrow.Author.Tests.{lt-ltb, le-ltb, ne_eqb, eqb-true}
-use Rattle.rules.specs.Numbers.Choice.{when◌then◌else◌}
 use Rattle.rules.specs.Numbers.Place.{at}
 use Rattle.rules.specs.declared.event.Event.{Event}
 use Rattle.rules.specs.declared.event.Event.TheVariants.{Acquire, Unlock, Work}
@@ -47,7 +47,7 @@ Spells (mark gap) b = b ≡ 32
 Spells (mark other) b = Unit {0}
 
 spells_mark : (b : ℕ) → Spells (mark (mark_of b)) b
-unfolding Spells mark_of when◌then◌else◌
+unfolding Spells mark_of
 spells_mark b = by_test (eqb b 119)
     (λ e. rw e (eqb-true b 119 e))
     (λ e. rw e (by_test (eqb b 91)
@@ -161,7 +161,7 @@ mark_here text a d h l = mark_of_lem (sign (at text a)) (at text a) d (spells (a
 
 -- a digit stands within the text
 pub digit_inside : (text : List ℕ) (a d : ℕ) → d ≡ digit_of (sign_at text a) → d < 10 → a < length text
-unfolding sign_at digit_of sign mark_of when◌then◌else◌
+unfolding sign_at digit_of sign mark_of
 digit_inside text a d h l = inside text a (λ e. omega (arith, h ∙ ap (λ x. digit_of (sign x)) e))
 
 pub turns_here : (text : List ℕ) (a d : ℕ) → d ≡ digit_of (sign_at text a) → 10 ≤ d → Turns (drop a text)

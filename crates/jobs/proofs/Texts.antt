@@ -1,4 +1,5 @@
 -- The reader reads the text of every well-formed body, and gives that body back; so no text has two readings. Assumes nothing.
+use Rattle.std.specs.Prelude.{if◌then◌else◌}
 use mathlib.Core.Path.{◌≡◌, refl, sym, ◌∙◌, ap}
 use mathlib.Core.List.{List, [], ◌∷◌, ◌++◌, append_assoc, append-nil}
 use Prim.Native.Nat.{ℕ, zero, suc, ◌+◌, ◌<◌}
@@ -6,7 +7,6 @@ use native.Mathlib.Omega.{arith}
 use lib.Dec.{ltb}
 use lib.ListN.{length}
 use borrow.Author.Tests.{lt-ltb}
-use Rattle.rules.specs.Numbers.Choice.{when◌then◌else◌}
 use Rattle.rules.specs.declared.event.Event.{Event}
 use Rattle.page.specs.Decimal.{digits}
 use Rattle.jobs.specs.Grammar.{Body, Good, tail_of, text_of, events_in, events_of}
@@ -26,29 +26,29 @@ use Rattle.jobs.proofs.Decimals.{run_on, units_read, lock_read}
 -- ---- the bytes that are no digits
 
 pub read_gap : (t ls : List ℕ) → run (32 ∷ t) after ls ≡ run t fresh ls
-unfolding sign mark_of when◌then◌else◌ step behind_sign behind
+unfolding sign mark_of step behind_sign behind
 read_gap t ls = run_on 32 t after fresh (mark gap) ls ls refl refl
 
 pub read_letter : (t ls : List ℕ) → run (119 ∷ t) fresh ls ≡ run t (units 0) ls
-unfolding sign mark_of when◌then◌else◌ step begin
+unfolding sign mark_of step begin
 read_letter t ls = run_on 119 t fresh (units 0) (mark letter) ls ls refl refl
 
 pub read_left : (t ls : List ℕ) → length ls < 8 → run (91 ∷ t) fresh ls ≡ run t bracket ls
-unfolding sign mark_of when◌then◌else◌ step begin
+unfolding sign mark_of step begin
 read_left t ls l = run_on 91 t fresh bracket (mark left) ls ls refl (if_true (ltb (length ls) 8) _ _ (lt-ltb (length ls) 8 l))
 
 pub read_right : (l : ℕ) (t ls : List ℕ) → run (93 ∷ t) after (l ∷ ls) ≡ prepend (Unlock l ∷ []) (run t after ls)
-unfolding sign mark_of when◌then◌else◌ step behind_sign behind run onward
+unfolding sign mark_of step behind_sign behind run onward
 read_right l t ls = refl
 
 turns_tail : (b : Body) (t : List ℕ) → Turns t → Turns (tail_of b ++ t)
-unfolding tail_of Turns sign mark_of when◌then◌else◌
+unfolding tail_of Turns sign mark_of
 turns_tail empty t h = h
 turns_tail (work n rest) t h = (gap, refl)
 turns_tail (section l inner rest) t h = (gap, refl)
 
 turns_right : (t : List ℕ) → Turns (93 ∷ t)
-unfolding Turns sign mark_of when◌then◌else◌
+unfolding Turns sign mark_of
 turns_right t = (right, refl)
 
 -- ---- the items of a body, and what comes after them

@@ -1,4 +1,5 @@
 -- The ways through the code of each reader. Assumes nothing.
+use Rattle.std.specs.Prelude.{if◌then◌else◌}
 use mathlib.Core.Path.{◌≡◌, refl, sym, ◌∙◌, ap}
 use mathlib.Core.Bool.{Bool, true, false}
 use mathlib.Core.List.{List, [], ◌∷◌}
@@ -7,7 +8,6 @@ use native.Mathlib.Omega.{arith}
 use lib.Dec.{eqb, ltb}
 use lib.ListN.{length, drop, drop_of_length-le, get_or-eq_default}
 use borrow.Author.Tests.{lt-ltb, le-ltb, eq-eqb, ne_eqb, eqb-true, eqb-false}
-use Rattle.rules.specs.Numbers.Choice.{when◌then◌else◌}
 use Rattle.rules.specs.Numbers.Place.{at}
 use Rattle.rules.specs.Books.Event.{kind_of, id_of, amount_of, event_number}
 use Rattle.rules.specs.declared.event.Event.TheVariants.{Acquire, Unlock, Work, Finish}
@@ -105,7 +105,7 @@ digit_halts text a i v d x h e l f ls = h ls ∙ stops_at text i (units v) ls (d
 
 -- no digit, a zero, or one too many
 pub count_none : (text : List ℕ) (a d x : ℕ) → d ≡ digit_of (sign_at text a) → 10 ≤ d → Counted text a false a x
-unfolding ends_in in_units when◌then◌else◌
+unfolding ends_in in_units
 count_none text a d x e l = let (m, s) = mark_here text a d e l in units_halts text a a 0 x (start text a) (λ ls. refl) (λ ls. ap (λ u. in_units u 0 ls) s)
 
 pub count_zero : (text : List ℕ) (a d x : ℕ) → d ≡ digit_of (sign_at text a) → d < 10 → d ≡ 0 → Counted text a false a x
@@ -165,7 +165,7 @@ lock_third text a d e f x h l h' l' n s g m = lock_big text a (a + 1 + 1) (d * 1
 
 -- behind an item a space leads to the next one
 behind_gap : (b : ℕ) (ls : List ℕ) → b ≡ 32 → behind_sign (sign b) ls ≡ move fresh ls []
-unfolding behind_sign behind sign mark_of when◌then◌else◌
+unfolding behind_sign behind sign mark_of
 behind_gap b ls e = ap (λ x. behind_sign (sign x) ls) e
 
 next_item : (text : List ℕ) (b c : ℕ) (ls : List ℕ) → c ≡ at text b → c ≡ 32 → run (drop b text) after ls ≡ run (drop (b + 1) text) fresh ls
@@ -196,7 +196,7 @@ enter_stopped text a b v w ok p q h e ls = ap (tell p) (h ls ∙ ap (λ o. then_
 
 pub left_did : (text : List ℕ) (a c l n w : ℕ) (s s' : List ℕ) → c ≡ at text a → c ≡ 93 → s' ≡ with_record s n w → w ≡ event_number (Unlock l)
     → Left text a l (sheet s n) true (a + 1) (sheet s' (n + 1))
-unfolding Left then_on step sign_at behind_sign sign mark_of when◌then◌else◌ behind
+unfolding Left then_on step sign_at behind_sign sign mark_of behind
 left_did text a c l n w s s' e f q z g ls =
     let at_a : at text a ≡ 93 = sym e ∙ f in
     ap (tell (sheet s n)) (goes text a after after (l ∷ ls) ls (Unlock l ∷ []) (inside text a (λ z. omega arith)) (ap (λ b. behind_sign (sign b) (l ∷ ls)) at_a))
@@ -218,7 +218,7 @@ left_stopped text a c l p q e f g ls = ap (tell p) (halts text a after (l ∷ ls
 -- ---- an item
 
 pub item_work : (text : List ℕ) (k a c b : ℕ) (ok : Bool) (p q : Sheet) → c ≡ at text a → c ≡ 119 → Went text (a + 1) (units 0) p ok b q → Did text k a p ok b q
-unfolding Went Did step begin sign_at sign mark_of when◌then◌else◌
+unfolding Went Did step begin sign_at sign mark_of
 item_work text k a c b ok p q e f h ls d =
     let at_a : at text a ≡ 119 = sym e ∙ f in
     ap (tell p) (goes_on_lem text a fresh (units 0) ls ls (inside text a (λ z. omega arith)) (ap (λ x. begin (sign x) ls) at_a)) ∙ h ls
@@ -237,8 +237,8 @@ unfolding Did then_on step sign_at ends_in tell
 item_other text k a c p q e f g ls d =
     ap (tell p) (halts text a fresh ls refl (begin_stops (sign (at text a)) (at text a) ls (spells (at text a)) (λ z. f (e ∙ z)) (λ z. g (e ∙ z))))
 
-begin_left : (b : ℕ) (ls : List ℕ) → b ≡ 91 → begin (sign b) ls ≡ (when ltb (length ls) 8 then move bracket ls [] else stop)
-unfolding begin sign mark_of when◌then◌else◌
+begin_left : (b : ℕ) (ls : List ℕ) → b ≡ 91 → begin (sign b) ls ≡ (if ltb (length ls) 8 then move bracket ls [] else stop)
+unfolding begin sign mark_of
 begin_left b ls e = ap (λ x. begin (sign x) ls) e
 
 pub item_deep : (text : List ℕ) (k a c : ℕ) (p q : Sheet) → c ≡ at text a → c ≡ 91 → k ≡ 0 → Did text k a p false a q

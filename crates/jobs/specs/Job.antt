@@ -1,9 +1,8 @@
 -- RULES 20.3: what the reading of a job answers: 25, 26 or its events, and the event space after it. Assumes nothing.
-use Rattle.std.specs.Prelude.{List, [], ◌++◌, map, ℕ, ◌*◌, ◌-◌, ltb, length, drop}
-use Rattle.rules.specs.Numbers.Choice.{when◌then◌else◌}
+use Rattle.std.specs.Prelude.{List, [], ◌++◌, map, ℕ, ◌*◌, ◌-◌, ltb, length, drop, Ok, Err, if◌then◌else◌}
+use Rattle.rules.specs.Numbers.Verdict.{Verdict, refused_at}
 use Rattle.rules.specs.Books.Event.{event_number}
 use Rattle.rules.specs.Books.Bytes.{long_bytes}
-use Rattle.rules.specs.declared.answer.Verdict.{Verdict}
 use Rattle.rules.specs.declared.event.Event.{Event}
 use Rattle.rules.specs.declared.refusal.Refusal.TheVariants.{WrongJob, ShortSpace}
 use Rattle.jobs.specs.Reader.{Answer, read_job}
@@ -11,14 +10,14 @@ use Rattle.jobs.specs.declared.Job.{Job}
 
 -- 25 at the byte where the reader stops, then 26: so many bytes of space are under four an event
 unfoldable pub verdict_of : Answer → (text : List ℕ) → (room : ℕ) → Verdict
-verdict_of (Answer.refused rest) text room = Verdict.Refused WrongJob (length text - length rest)
-verdict_of (Answer.read es) text room = when ltb room (length es * 4) then Verdict.Refused ShortSpace 0 else Verdict.Passed
+verdict_of (Answer.refused rest) text room = refused_at WrongJob (length text - length rest)
+verdict_of (Answer.read es) text room = if ltb room (length es * 4) then refused_at ShortSpace 0 else Ok tt
 
 -- the events of what is not refused
 unfoldable pub given_by : Verdict → Answer → List Event
-given_by Verdict.Passed (Answer.read es) = es
-given_by Verdict.Passed (Answer.refused rest) = []
-given_by (Verdict.Refused why place) r = []
+given_by (Ok _) (Answer.read es) = es
+given_by (Ok _) (Answer.refused rest) = []
+given_by (Err f) r = []
 
 unfoldable pub job_verdict : (text : List ℕ) → (room : ℕ) → Verdict
 job_verdict text room = verdict_of (read_job text) text room

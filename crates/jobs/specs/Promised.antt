@@ -1,6 +1,6 @@
 -- RULES 20.4 to 20.6: what is promised of the reading of a job. Assumes nothing.
-use Rattle.std.specs.Prelude.{◌≡◌, List, ◌++◌, ℕ, ◌+◌, ◌*◌, ◌≤◌, ◌<◌, length, take}
-use Rattle.rules.specs.declared.answer.Verdict.{Verdict}
+use Rattle.std.specs.Prelude.{◌≡◌, List, ◌++◌, ℕ, ◌+◌, ◌*◌, ◌≤◌, ◌<◌, length, take, Ok}
+use Rattle.rules.specs.Numbers.Verdict.{refused_at}
 use Rattle.rules.specs.declared.refusal.Refusal.TheVariants.{WrongJob, ShortSpace}
 use Rattle.jobs.specs.Grammar.{Body, levels, Good, text_of, events_of}
 use Rattle.jobs.specs.Reader.{Answer, read_job}
@@ -30,17 +30,17 @@ pub record ReadsAsWritten : Type 0 where
 
 -- what is accepted is the grammar, and a refusal's place is the one that RULES 20.4 says
 pub record AcceptsTheGrammar : Type 0 where
-  pub accepted : (text : List ℕ) (room : ℕ) → job_verdict text room ≡ Verdict.Passed → (b : Body) × Good levels b × (text_of b ≡ text) × (job_events text room ≡ events_of b)
+  pub accepted : (text : List ℕ) (room : ℕ) → job_verdict text room ≡ Ok tt → (b : Body) × Good levels b × (text_of b ≡ text) × (job_events text room ≡ events_of b)
   pub written : (b : Body) (space : List ℕ) → Good levels b → length (events_of b) * 4 ≤ length space
-      → job_of (text_of b) space ≡ read_with (record { verdict = Verdict.Passed; events = length (events_of b) }) (with_events (events_of b) space)
+      → job_of (text_of b) space ≡ read_with (record { verdict = Ok tt; events = length (events_of b) }) (with_events (events_of b) space)
   pub no_space : (b : Body) (space : List ℕ) → Good levels b → length space < length (events_of b) * 4
-      → job_of (text_of b) space ≡ read_with (record { verdict = Verdict.Refused ShortSpace 0; events = 0 }) space
+      → job_of (text_of b) space ≡ read_with (record { verdict = refused_at ShortSpace 0; events = 0 }) space
   pub unfit : (text space : List ℕ) → ((b : Body) → Good levels b → text_of b ≡ text → ⊥)
-      → (n : ℕ) × Place text n × (job_of text space ≡ read_with (record { verdict = Verdict.Refused WrongJob n; events = 0 }) space)
-  pub placed : (text : List ℕ) (room n : ℕ) → job_verdict text room ≡ Verdict.Refused WrongJob n → Place text n
+      → (n : ℕ) × Place text n × (job_of text space ≡ read_with (record { verdict = refused_at WrongJob n; events = 0 }) space)
+  pub placed : (text : List ℕ) (room n : ℕ) → job_verdict text room ≡ refused_at WrongJob n → Place text n
   pub one_place : (text : List ℕ) (m n : ℕ) → Place text m → Place text n → m ≡ n
   -- so much space is always enough
-  pub enough : (text : List ℕ) (room : ℕ) → length text * 2 + 6 ≤ room → job_verdict text room ≡ Verdict.Refused ShortSpace 0 → ⊥
+  pub enough : (text : List ℕ) (room : ℕ) → length text * 2 + 6 ≤ room → job_verdict text room ≡ refused_at ShortSpace 0 → ⊥
 
 pub record JobPromises : Type 0 where
   pub reads : ReadsAsWritten

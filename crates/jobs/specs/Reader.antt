@@ -1,6 +1,5 @@
 -- RULES 20.3, 20.4: a job's text read byte by byte: its events, or what is left of it where no text of a body goes on so. Assumes nothing.
-use Rattle.std.specs.Prelude.{List, [], ◌∷◌, ◌++◌, ℕ, ◌+◌, ◌*◌, ◌-◌, eqb, ltb, length}
-use Rattle.rules.specs.Numbers.Choice.{when◌then◌else◌}
+use Rattle.std.specs.Prelude.{List, [], ◌∷◌, ◌++◌, ℕ, ◌+◌, ◌*◌, ◌-◌, eqb, ltb, length, if◌then◌else◌}
 use Rattle.rules.specs.declared.event.Event.{Event}
 use Rattle.rules.specs.declared.event.Event.TheVariants.{Acquire, Unlock, Work, Finish}
 use Rattle.jobs.specs.Grammar.{max_units, max_lock, levels, letter_byte, left_byte, right_byte, gap_byte}
@@ -19,14 +18,14 @@ pub data Sign : Type 0 where
 
 unfoldable pub mark_of : ℕ → Mark
 mark_of b =
-    when eqb b letter_byte then letter
-    else when eqb b left_byte then left
-    else when eqb b right_byte then right
-    else when eqb b gap_byte then gap
+    if eqb b letter_byte then letter
+    else if eqb b left_byte then left
+    else if eqb b right_byte then right
+    else if eqb b gap_byte then gap
     else other
 
 unfoldable pub sign : ℕ → Sign
-sign b = when ltb b 48 then mark (mark_of b) else when ltb 57 b then mark (mark_of b) else digit (b - 48)
+sign b = if ltb b 48 then mark (mark_of b) else if ltb 57 b then mark (mark_of b) else digit (b - 48)
 
 -- where the reader stands: before an item; in units, 0 before their first digit; behind `[`; in a lock's number; behind an item or a lock's number
 pub data Mode : Type 0 where
@@ -53,21 +52,21 @@ behind other ls es = stop
 unfoldable pub begin : Sign → List ℕ → Move
 begin (digit d) ls = stop
 begin (mark letter) ls = move (units 0) ls []
-begin (mark left) ls = when ltb (length ls) levels then move bracket ls [] else stop
+begin (mark left) ls = if ltb (length ls) levels then move bracket ls [] else stop
 begin (mark right) ls = stop
 begin (mark gap) ls = stop
 begin (mark other) ls = stop
 
 unfoldable pub in_units : Sign → ℕ → List ℕ → Move
-in_units (digit d) v ls = when eqb (v * 10 + d) 0 then stop else when ltb max_units (v * 10 + d) then stop else move (units (v * 10 + d)) ls []
-in_units (mark m) v ls = when eqb v 0 then stop else behind m ls (Work v ∷ [])
+in_units (digit d) v ls = if eqb (v * 10 + d) 0 then stop else if ltb max_units (v * 10 + d) then stop else move (units (v * 10 + d)) ls []
+in_units (mark m) v ls = if eqb v 0 then stop else behind m ls (Work v ∷ [])
 
 unfoldable pub in_bracket : Sign → List ℕ → Move
 in_bracket (digit d) ls = move (lock d) ls []
 in_bracket (mark m) ls = stop
 
 unfoldable pub in_lock : Sign → ℕ → List ℕ → Move
-in_lock (digit d) v ls = when eqb v 0 then stop else when ltb max_lock (v * 10 + d) then stop else move (lock (v * 10 + d)) ls []
+in_lock (digit d) v ls = if eqb v 0 then stop else if ltb max_lock (v * 10 + d) then stop else move (lock (v * 10 + d)) ls []
 in_lock (mark m) v ls = behind m (v ∷ ls) (Acquire v ∷ [])
 
 unfoldable pub behind_sign : Sign → List ℕ → Move
@@ -97,7 +96,7 @@ ends (l ∷ ls) = refused []
 
 unfoldable pub ends_in : Mode → List ℕ → Answer
 ends_in fresh ls = refused []
-ends_in (units v) ls = when eqb v 0 then refused [] else prepend (Work v ∷ []) (ends ls)
+ends_in (units v) ls = if eqb v 0 then refused [] else prepend (Work v ∷ []) (ends ls)
 ends_in bracket ls = refused []
 ends_in (lock v) ls = refused []
 ends_in after ls = ends ls

@@ -1,6 +1,5 @@
 -- Event records in lent space, as the code lays them one by one and reads them again. Assumes nothing.
-use Rattle.std.specs.Prelude.{List, [], ◌∷◌, ℕ, ◌+◌, ◌*◌, ◌/◌, ltb, length}
-use Rattle.rules.specs.Numbers.Choice.{when◌then◌else◌}
+use Rattle.std.specs.Prelude.{List, [], ◌∷◌, ℕ, ◌+◌, ◌*◌, ◌/◌, ltb, length, if◌then◌else◌}
 use Rattle.rules.specs.Numbers.Place.{stored}
 use Rattle.rules.specs.Books.Book.{long}
 use Rattle.rules.specs.Books.Bytes.{four}
@@ -10,10 +9,10 @@ use Rattle.jobs.specs.Reader.{Answer}
 
 -- the number w as record n, where it fits; and the number of record n, 0 where there is none
 unfoldable pub with_record : List ℕ → ℕ → ℕ → List ℕ
-with_record space n w = when ltb n (length space / 4) then stored space (n * 4) (four w) else space
+with_record space n w = if ltb n (length space / 4) then stored space (n * 4) (four w) else space
 
 unfoldable pub record_in : List ℕ → ℕ → ℕ
-record_in space n = when ltb n (length space / 4) then long space (n * 4) else 0
+record_in space n = if ltb n (length space / 4) then long space (n * 4) else 0
 
 -- space, and how many records have come: one that does not fit is counted and not written
 pub record Sheet : Type 0 where

@@ -1,7 +1,6 @@
 -- RULES 20.2, 20.4: the job of the request, the empty text and the places of 25, computed as one claim. Assumes nothing.
-use Rattle.std.specs.Prelude.{Bool, true, false, ◌&&◌, List, [], ◌∷◌, ℕ, T, eqb, replicate}
+use Rattle.std.specs.Prelude.{Bool, true, false, ◌&&◌, List, [], ◌∷◌, ℕ, T, eqb, replicate, if◌then◌else◌}
 use Prim.Native.String.{String}
-use Rattle.rules.specs.Numbers.Choice.{when◌then◌else◌}
 use Rattle.rules.specs.Numbers.Answer.{verdict_number, verdict_place}
 use Rattle.rules.specs.Numbers.Refusal.{number_of}
 use Rattle.rules.specs.Books.Bytes.{long_bytes}
@@ -55,5 +54,5 @@ shown : T (
     && refuses "w1 " 3
     && refuses "w1  w2" 3
     && refuses "x" 0)
-unfolding when◌then◌else◌ same is room reads refuses ascii verdict_number verdict_place number_of kind_of id_of amount_of long_bytes mark_of sign behind begin in_units in_bracket in_lock behind_sign step prepend ends ends_in onward run read_job verdict_of given_by job_verdict job_events job_answer job_of
+unfolding same is room reads refuses ascii verdict_number verdict_place number_of kind_of id_of amount_of long_bytes mark_of sign behind begin in_units in_bracket in_lock behind_sign step prepend ends ends_in onward run read_job verdict_of given_by job_verdict job_events job_answer job_of
 shown = tt

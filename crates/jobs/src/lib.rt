@@ -11,13 +11,13 @@ ghost use Rattle.std.specs.Prelude.{◌≡◌, ◌*◌, ◌≤◌};
 ghost use Rattle.jobs.specs.Job.{job_answer, read_with, job_of};
 
 use crate::read::scan;
-use rules::answer::Verdict;
+use rules::answer::Fault;
 use rules::refusal::Refusal;
 
 // What the reading of a job comes to: what was refused, and how many events there are, 0 beside a refusal.
 #[derive(Clone, Copy)]
 pub struct Job {
-    pub verdict: Verdict,
+    pub verdict: Result<(), Fault>,
     pub events: usize,
 }
 
@@ -31,17 +31,17 @@ pub fn check_job(text: &[u8], room: usize) -> Job
     if found.ok {
         if room / 4 < found.count {
             return Job {
-                verdict: Verdict::Refused(Refusal::ShortSpace, 0),
+                verdict: Err(Fault { why: Refusal::ShortSpace, place: 0 }),
                 events: 0,
             };
         }
         return Job {
-            verdict: Verdict::Passed,
+            verdict: Ok(()),
             events: found.count,
         };
     }
     Job {
-        verdict: Verdict::Refused(Refusal::WrongJob, found.place),
+        verdict: Err(Fault { why: Refusal::WrongJob, place: found.place }),
         events: 0,
     }
 }
@@ -54,10 +54,10 @@ pub fn read_job(text: &[u8], space: &mut [u8]) -> Job
     let job = check_job(text, space.len());
     let verdict = job.verdict;
     match verdict {
-        Verdict::Passed => {
+        Ok(()) => {
             scan(text, space);
         }
-        Verdict::Refused(_, _) => {}
+        Err(_) => {}
     }
     job
 }

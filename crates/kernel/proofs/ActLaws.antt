@@ -1,5 +1,7 @@
 -- The arms of the act: in a sound state each event's answer is the one of RULES 9. The parts that an event's code speaks of are put together here, and
 -- nowhere else. Assumes nothing.
+use Rattle.std.specs.Prelude.{Ok, Err, if◌then◌else◌}
+use Rattle.rules.specs.Numbers.Verdict.{Tested}
 use mathlib.Core.Path.{◌≡◌, refl, sym, ◌∙◌, ap, ap₂}
 use mathlib.Core.Bool.{Bool, false}
 use mathlib.Core.List.{List}
@@ -9,7 +11,6 @@ use lib.Dec.{leb}
 use lib.ListN.{length}
 use borrow.Author.Tests.{le-leb, lt-leb}
 use Rattle.rules.specs.Numbers.Capacity.{max_tasks, max_locks, max_accepted}
-use Rattle.rules.specs.Numbers.Choice.{when◌then◌else◌}
 use Rattle.rules.specs.Numbers.Place.{at, renewed}
 use Rattle.rules.specs.Numbers.Refusal.{first_true}
 use Rattle.rules.specs.Schedulers.Figures.{Figures, figures_of}
@@ -26,8 +27,6 @@ use Rattle.rules.specs.declared.state.Head.{Head}
 use Rattle.rules.specs.declared.state.State.{State}
 use Rattle.rules.specs.declared.event.Event.{Event}
 use Rattle.rules.specs.declared.event.Event.TheVariants.{Acquire, Unlock}
-use Rattle.rules.specs.declared.answer.Tested.{Tested}
-use Rattle.rules.specs.declared.answer.Answer.{Answer}
 use Rattle.rules.specs.declared.answer.Stepped.{Stepped}
 use Rattle.rules.specs.declared.refusal.Refusal.{Refusal}
 use Rattle.rules.specs.declared.refusal.Refusal.TheVariants.{Exhausted}
@@ -77,21 +76,21 @@ module _ (pr : Protocol) (n m : ℕ) (base maximum ceiling limit uses : List ℕ
 -- ---- the whole of its parts
 
 -- the figures and the words make the state
-whole : (out : Stepped) (f : Figures) (w : Words) (call : Bool) → out.answer ≡ Answer.Accepted call → figures_of out.state ≡ f → words_of out.state ≡ w
-    → out ≡ record { answer = Answer.Accepted call; state = state_of f w }
+whole : (out : Stepped) (f : Figures) (w : Words) (call : Bool) → out.answer ≡ Ok call → figures_of out.state ≡ f → words_of out.state ≡ w
+    → out ≡ record { answer = Ok call; state = state_of f w }
 whole out f w call a b c =
-    ap (λ v. record { answer = v; state = out.state }) a ∙ ap₂ (λ (g : Figures) (v : Words). record { answer = Answer.Accepted call; state = state_of g v }) b c
+    ap (λ v. record { answer = v; state = out.state }) a ∙ ap₂ (λ (g : Figures) (v : Words). record { answer = Ok call; state = state_of g v }) b c
 
 module _ (pr : Protocol) (p : Plan) (s : State) where
   -- what is said of a refusal and of an event that is done holds of the event by its tests
   outcome : (e : Event) (t : Tested) (r : Acted) (before after : List (List ℕ)) (Done : Type 0) (out : Stepped)
       → Outcome t s.head r before after Done
       → ((why : Refusal) → r ≡ refused_as s.head why → after ≡ before → out ≡ beside s (refused_as s.head why))
-      → (t ≡ Tested.Passed → Done → out ≡ accepted_as pr p s e)
+      → (t ≡ Ok tt → Done → out ≡ accepted_as pr p s e)
       → out ≡ answered_as t pr p s e
   unfolding Outcome answered
-  outcome e (Tested.Refused why) r before after Done out q a b = a why q.0 q.1
-  outcome e Tested.Passed r before after Done out q a b = b refl q
+  outcome e (Err why) r before after Done out q a b = a why q.0 q.1
+  outcome e (Ok _) r before after Done out q a b = b refl q
 
   -- 11 comes first
   pub exhausted : (e : Event) (r : Acted) → max_accepted ≤ s.head.accepted → r ≡ refused_as s.head Exhausted → (out : Stepped) → out ≡ beside s r
@@ -99,7 +98,7 @@ module _ (pr : Protocol) (p : Plan) (s : State) where
   unfolding act_of refusal_of first_true answered
   exhausted e r g q out o =
       o ∙ ap (beside s) q ∙ ap (λ t. answered t s (after_of pr p s e) (lazy_call (words_of s) e))
-      (sym (if_true (leb max_accepted s.head.accepted) (Tested.Refused Exhausted) (first_true (tests_of p (figures_of s) s.head.running e))
+      (sym (if_true (leb max_accepted s.head.accepted) (Err Exhausted) (first_true (tests_of p (figures_of s) s.head.running e))
       (le-leb max_accepted s.head.accepted g)))
 
   -- then the event's own tests
@@ -107,7 +106,7 @@ module _ (pr : Protocol) (p : Plan) (s : State) where
     own_tests : (e : Event) (t : Tested) → t ≡ first_true (tests_of p (figures_of s) s.head.running e) → t ≡ refusal_of p (figures_of s) s.head.running e
     unfolding refusal_of first_true
     own_tests e t g =
-        g ∙ sym (if_false (leb max_accepted s.head.accepted) (Tested.Refused Exhausted) (first_true (tests_of p (figures_of s) s.head.running e))
+        g ∙ sym (if_false (leb max_accepted s.head.accepted) (Err Exhausted) (first_true (tests_of p (figures_of s) s.head.running e))
         (lt-leb max_accepted s.head.accepted room))
 
     answers : (e d : Event) (t : Tested) → t ≡ first_true (tests_of p (figures_of s) s.head.running e) → d ≡ e → answered_as t pr p s e ≡ act_of pr p s d
@@ -115,24 +114,24 @@ module _ (pr : Protocol) (p : Plan) (s : State) where
     answers e d t g arm = ap (λ v. answered v s (after_of pr p s e) (lazy_call (words_of s) e)) (own_tests e t g) ∙ ap (act_of pr p s) (sym arm)
 
     -- what passes them may be accepted
-    may : (e : Event) (t : Tested) → t ≡ first_true (tests_of p (figures_of s) s.head.running e) → t ≡ Tested.Passed
+    may : (e : Event) (t : Tested) → t ≡ first_true (tests_of p (figures_of s) s.head.running e) → t ≡ Ok tt
         → Allowed p (figures_of s) s.head.running e
     may e t g passed = allowed p (figures_of s) s.head.running e (sym (own_tests e t g) ∙ passed)
 
     -- the eager calls of an act by the user words are those of the definition
-    taken : (l : ℕ) → acquire_tested s.head.running p.locks l p.uses s.depth s.owner ≡ Tested.Passed
+    taken : (l : ℕ) → acquire_tested s.head.running p.locks l p.uses s.depth s.owner ≡ Ok tt
         → (figures_after p (figures_of s) s.head.running (Acquire l)).eager
         ≡ s.head.eager + differs s.head.user.0 (max s.head.user.0 (at p.ceiling l))
     taken l passed = let o : Takeable p (figures_of s) s.head.running l = may (Acquire l) _ (acquire_same p s S l) passed in
         take_calls (scene S room) o.runs o
 
-    given : (l : ℕ) → unlock_tested s.head.running p.locks l s.depth s.takes ≡ Tested.Passed
+    given : (l : ℕ) → unlock_tested s.head.running p.locks l s.depth s.takes ≡ Ok tt
         → (figures_after p (figures_of s) s.head.running (Unlock l)).eager ≡ s.head.eager + differs s.head.user.0 (back_of (words_of s))
     given l passed = let o : Givable p (figures_of s) s.head.running l = may (Unlock l) _ (unlock_same p s S l) passed in
         give_calls (scene S room) o.runs o
 
     -- the sections along the row are those of the definition, where none would pass its limit
-    sections : (a : ℕ) → work_tested s.head.running a p.limit s.depth s.takes s.units ≡ Tested.Passed
+    sections : (a : ℕ) → work_tested s.head.running a p.limit s.depth s.takes s.units ≡ Ok tt
         → charged_row s.units a (at s.takes s.head.running) (at s.depth s.head.running)
         ≡ renewed s.units (charged (figures_of s) s.head.running a) p.locks
     sections a passed =
@@ -191,9 +190,9 @@ module _ (pr : Protocol) (p : Plan) (s : State) where
       pub tick_acts : (most : KernelPriority) → most.0 ≡ best_kept s.kept p.tasks
           → r ≡ accepted_with s.head (ticked_turn pr (entering_head p.maximum s.head) most.0) false 0
           → e ≡ Event.Tick → out ≡ beside s r → out ≡ act_of pr p s e
-      unfolding tests_of first_true answered after_of figures_after eager_calls words_after entering stays lazy_call when◌then◌else◌
+      unfolding tests_of first_true answered after_of figures_after eager_calls words_after entering stays lazy_call
       tick_acts most b q arm o =
           let after : ℕ → Turn = ticked_turn pr (entering_head p.maximum s.head) in
           o ∙ ap (beside s) (q ∙ ap (λ v. accepted_with s.head (after v) false 0) b)
           ∙ whole _ _ _ _ refl refl (ap (λ z. words_on (after (best_kept s.kept p.tasks)) z s.kept s.saved s.owner) (add-zero s.head.lazy))
-          ∙ answers Event.Tick e Tested.Passed refl arm
+          ∙ answers Event.Tick e (Ok tt) refl arm

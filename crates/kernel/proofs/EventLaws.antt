@@ -1,4 +1,5 @@
 -- Each accepted event from its parts: the figures that it moved, the words and the counts. Assumes nothing.
+use Rattle.std.specs.Prelude.{Ok, if◌then◌else◌}
 use mathlib.Core.Path.{◌≡◌, refl, sym, ◌∙◌, ap, ap₂}
 use mathlib.Core.Bool.{Bool, true, false}
 use mathlib.Core.List.{List, []}
@@ -6,14 +7,12 @@ use Prim.Native.Nat.{ℕ, ◌+◌, ◌-◌, ◌%◌, ◌^◌, ◌<◌, max}
 use native.Mathlib.Nat.{add-zero}
 use lib.ListN.{set}
 use lib.Seq.{set-get_or}
-use Rattle.rules.specs.Numbers.Choice.{when◌then◌else◌}
 use Rattle.rules.specs.Numbers.Place.{at, renewed}
 use Rattle.rules.specs.Numbers.Row.{under, pushed, has}
 use Rattle.rules.specs.Schedulers.FiguresAfter.{differs, left_of}
 use Rattle.rules.specs.Schedulers.Lazy.{Words, entering, switched, after_release, after_acquire}
 use Rattle.rules.specs.declared.protocol.Protocol.{Protocol}
 use Rattle.rules.specs.declared.state.Head.{Head}
-use Rattle.rules.specs.declared.answer.Answer.{Answer}
 use Rattle.rules.specs.declared.priority.KernelPriority.{KernelPriority}
 use Rattle.rules.specs.declared.priority.UserPriority.{UserPriority}
 use Rattle.rules.proofs.Schedulers.Rules.{left_same, left_none}
@@ -28,7 +27,6 @@ use Rattle.kernel.specs.declared.switch.Turn.{Turn}
 -- the head of an event without a lazy call: its words are those of the turn
 module _ (h : Head) (turn : Turn) where
   uncalled : (kept saved owner : List ℕ) → words_with (accepted_with h turn false 0).head kept saved owner ≡ words_on turn h.lazy kept saved owner
-  unfolding when◌then◌else◌
   uncalled kept saved owner = ap (λ z. words_on turn z kept saved owner) (add-zero h.lazy)
 
   -- without an eager call either
@@ -103,7 +101,7 @@ pub unlock_done : (pr : Protocol) (h : Head) (r : Acted) (n l row u k : ℕ) (mo
 unlock_done pr h r n l row u k more maximum released kept depth takes saved units owner kept₂ saved₂ units₂ owner₂ given read rest less told s o g q =
     rw q (record {
       counted = record {
-        answer = ap Answer.Accepted g.call;
+        answer = ap Ok g.call;
         number = refl;
         calls = ap (λ u. h.eager + differs h.user.0 u) g.back;
       };

@@ -1,4 +1,5 @@
 -- The ways through the words after each event. Assumes nothing.
+use Rattle.std.specs.Prelude.{if◌then◌else◌}
 use mathlib.Core.Path.{◌≡◌, sym, ◌∙◌, ap}
 use mathlib.Core.Bool.{Bool, true, false}
 use mathlib.Core.List.{List}
@@ -9,7 +10,6 @@ use lib.ListN.{set}
 use lib.Seq.{set-get_or}
 use borrow.Author.Tests.{ltb-true}
 use Rattle.rules.specs.Numbers.Capacity.{max_tasks}
-use Rattle.rules.specs.Numbers.Choice.{when◌then◌else◌}
 use Rattle.rules.specs.Numbers.Place.{at}
 use Rattle.rules.specs.Numbers.Row.{newest, under, pushed}
 use Rattle.rules.specs.Schedulers.Lazy.{Words, calls_for, cut_to, entering, best_kept, runs_on, switched, stays, after_release, after_acquire, restored, leaves}
@@ -124,7 +124,7 @@ module _ (pr : Protocol) (n row u : ℕ) (h : Head) (maximum released kept saved
   pub unlock_calls : r ≡ true → (found : UserPriority) (kept₂ : List ℕ) (after : Turn) → found.0 ≡ cut_to (at maximum h.running) back.0
       → ((w : Words) → turned after kept₂ w ≡ switched pr n released (set kept h.running found.0) w)
       → UnlockWords pr h n maximum released kept saved (record { turn = after; call = true; back = back }) kept₂ (set saved h.running u)
-  unfolding after_unlock leaves entering restored when◌then◌else◌
+  unfolding after_unlock leaves entering restored
   unlock_calls y found kept₂ after cut e = record {
     call = sym (calls true y);
     back = newest_back;
@@ -139,7 +139,7 @@ module _ (pr : Protocol) (n row u : ℕ) (h : Head) (maximum released kept saved
         call = false;
         back = back;
       }) kept (set saved h.running u)
-  unfolding after_unlock restored when◌then◌else◌
+  unfolding after_unlock restored
   unlock_stays y = record {
     call = sym (calls false y);
     back = newest_back;

@@ -1,4 +1,6 @@
 -- What passes the tests of an event has what its accepted code asks for; and a sound state has what the event asks for. Assumes nothing.
+use Rattle.std.specs.Prelude.{Ok, if◌then◌else◌}
+use Rattle.rules.specs.Numbers.Verdict.{Tested}
 use mathlib.Core.Path.{◌≡◌, sym, ◌∙◌, ap}
 use mathlib.Core.Bool.{Bool, true, false, not, ◌||◌}
 use mathlib.Core.List.{List}
@@ -11,7 +13,6 @@ use borrow.Author.Tests.{ltb-false, leb-false, eqb-false}
 use Rattle.rules.specs.Numbers.Capacity.{max_tasks, max_locks, max_takes, max_accepted}
 use Rattle.rules.specs.Numbers.Place.{at}
 use Rattle.rules.specs.Numbers.Row.{newest, has}
-use Rattle.rules.specs.Numbers.Choice.{when◌then◌else◌}
 use Rattle.rules.specs.Numbers.Refusal.{number_of, first_true, test_for}
 use Rattle.rules.specs.Schedulers.Figures.{Figures, figures_of, holds}
 use Rattle.rules.specs.Schedulers.Lazy.{cut_to, best_kept}
@@ -22,7 +23,6 @@ use Rattle.rules.specs.declared.protocol.Protocol.{Protocol}
 use Rattle.rules.specs.declared.priority.KernelPriority.{KernelPriority}
 use Rattle.rules.specs.declared.state.Head.{Head}
 use Rattle.rules.specs.declared.state.State.{State}
-use Rattle.rules.specs.declared.answer.Tested.{Tested}
 use Rattle.rules.specs.declared.refusal.Refusal.TheVariants.{NobodyRuns, Unknown, AlreadyReleased, RowFull, NotNewest, PastLimit}
 use Rattle.rules.proofs.Numbers.Choice.{or_false, untrue, not_so}
 use Rattle.rules.proofs.Soundness.Shortcuts.{kept_none, kept_running, idle_word, newcomer_other, waiting}
@@ -37,15 +37,15 @@ use Rattle.kernel.proofs.SameTests.{some_past}
 
 -- ---- the tests that were passed
 
-module _ (tested : Tested) (passed : tested ≡ Tested.Passed) where
+module _ (tested : Tested) (passed : tested ≡ Ok tt) where
   -- release
   module _ (n t y : ℕ) (said : tested ≡ first_true (release_order (leb n t) (ltb 0 y))) where
     release_known : t < n
-    unfolding release_order test_for number_of when◌then◌else◌
+    unfolding release_order test_for number_of
     release_known = leb-false n t (none_holds _ (sym said ∙ passed) Unknown)
 
     release_rests : y ≡ 0
-    unfolding release_order test_for number_of when◌then◌else◌
+    unfolding release_order test_for number_of
     release_rests = omega (arith, ltb-false 0 y (none_holds _ (sym said ∙ passed) AlreadyReleased))
 
   pub release_arrives : (h : Head) (n t : ℕ) (released kept : List ℕ) → tested ≡ first_true (release_order (leb n t) (ltb 0 (at released t)))
@@ -56,15 +56,15 @@ module _ (tested : Tested) (passed : tested ≡ Tested.Passed) where
   module _ (x m l k : ℕ) (undeclared other : Bool) (said : tested ≡ first_true
       (acquire_order (leb max_tasks x) (leb m l) undeclared other (leb max_takes k))) where
     pub acquire_runs : x < max_tasks
-    unfolding acquire_order test_for number_of when◌then◌else◌
+    unfolding acquire_order test_for number_of
     acquire_runs = leb-false max_tasks x (none_holds _ (sym said ∙ passed) NobodyRuns)
 
     pub acquire_known : m ≤ max_locks → l < max_locks
-    unfolding acquire_order test_for number_of when◌then◌else◌
+    unfolding acquire_order test_for number_of
     acquire_known h = let q : l < m = leb-false m l (none_holds _ (sym said ∙ passed) Unknown) in omega arith
 
     pub acquire_depth : k < max_takes
-    unfolding acquire_order test_for number_of when◌then◌else◌
+    unfolding acquire_order test_for number_of
     acquire_depth = leb-false max_takes k (none_holds _ (sym said ∙ passed) RowFull)
 
     -- a row of less than eight has room in a number of eight places
@@ -74,31 +74,31 @@ module _ (tested : Tested) (passed : tested ≡ Tested.Passed) where
   -- unlock
   module _ (x m l k row : ℕ) (said : tested ≡ first_true (unlock_order (leb max_tasks x) (leb m l) (eqb k 0 || not (eqb (newest row) l)))) where
     pub unlock_runs : x < max_tasks
-    unfolding unlock_order test_for number_of when◌then◌else◌
+    unfolding unlock_order test_for number_of
     unlock_runs = leb-false max_tasks x (none_holds _ (sym said ∙ passed) NobodyRuns)
 
     pub unlock_known : m ≤ max_locks → l < max_locks
-    unfolding unlock_order test_for number_of when◌then◌else◌
+    unfolding unlock_order test_for number_of
     unlock_known h = let q : l < m = leb-false m l (none_holds _ (sym said ∙ passed) Unknown) in omega arith
 
     pub unlock_some : 0 < k
-    unfolding unlock_order test_for number_of when◌then◌else◌
+    unfolding unlock_order test_for number_of
     unlock_some = omega (arith, eqb-false k 0 (or_false (eqb k 0) (not (eqb (newest row) l)) (none_holds _ (sym said ∙ passed) NotNewest)).0)
 
   -- work
   module _ (x a : ℕ) (past : Bool) (said : tested ≡ first_true (work_order (eqb a 0) (leb max_tasks x) past)) where
     pub work_runs : x < max_tasks
-    unfolding work_order test_for number_of when◌then◌else◌
+    unfolding work_order test_for number_of
     work_runs = leb-false max_tasks x (none_holds _ (sym said ∙ passed) NobodyRuns)
 
     pub work_within : past ≡ false
-    unfolding work_order test_for number_of when◌then◌else◌
+    unfolding work_order test_for number_of
     work_within = none_holds _ (sym said ∙ passed) PastLimit
 
   -- finish
   module _ (x : ℕ) (still : Bool) (said : tested ≡ first_true (finish_order (leb max_tasks x) still)) where
     pub finish_runs : x < max_tasks
-    unfolding finish_order test_for number_of when◌then◌else◌
+    unfolding finish_order test_for number_of
     finish_runs = leb-false max_tasks x (none_holds _ (sym said ∙ passed) NobodyRuns)
 
 -- ---- what an entry to the kernel asks for: that nobody's word is 0

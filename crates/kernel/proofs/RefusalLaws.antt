@@ -1,4 +1,6 @@
 -- The ways through the tests of an event: the first that holds refuses. Assumes nothing.
+use Rattle.std.specs.Prelude.{Ok, Err}
+use Rattle.rules.specs.Numbers.Verdict.{Tested}
 use mathlib.Core.Path.{◌≡◌, refl, sym, ◌∙◌, ap, ap₂}
 use mathlib.Core.Bool.{Bool, true, false, not, ◌&&◌, ◌||◌}
 use mathlib.Core.List.{List, [], ◌∷◌}
@@ -10,20 +12,19 @@ use borrow.Author.Tests.{eq-eqb, ne_eqb, lt-ltb, le-ltb}
 use Rattle.rules.specs.Numbers.Place.{at}
 use Rattle.rules.specs.Numbers.Row.{newest, under}
 use Rattle.rules.specs.Numbers.Refusal.{first_true}
-use Rattle.rules.specs.declared.answer.Tested.{Tested}
 use Rattle.rules.specs.declared.refusal.Refusal.{Refusal}
 use Rattle.rules.proofs.Numbers.Choice.{if_true, if_false, nots, flags}
 use Rattle.kernel.specs.Work.{past_row}
 
-pub true_here : (t : Bool) (why : Refusal) (ts : List (Bool × Refusal)) → t ≡ true → Tested.Refused why ≡ first_true ((t, why) ∷ ts)
+pub true_here : (t : Bool) (why : Refusal) (ts : List (Bool × Refusal)) → t ≡ true → Err why ≡ first_true ((t, why) ∷ ts)
 unfolding first_true
-true_here t why ts e = sym (if_true t (Tested.Refused why) (first_true ts) e)
+true_here t why ts e = sym (if_true t (Err why) (first_true ts) e)
 
 pub true_later : (t : Bool) (why : Refusal) (ts : List (Bool × Refusal)) (r : Tested) → t ≡ false → r ≡ first_true ts → r ≡ first_true ((t, why) ∷ ts)
 unfolding first_true
-true_later t why ts r e h = h ∙ sym (if_false t (Tested.Refused why) (first_true ts) e)
+true_later t why ts r e h = h ∙ sym (if_false t (Err why) (first_true ts) e)
 
-pub true_none : Tested.Passed ≡ first_true []
+pub true_none : Ok tt ≡ first_true []
 unfolding first_true
 true_none = refl
 

@@ -1,4 +1,5 @@
 -- The ways through an accepted work: the delays of the tasks, and the sections along the row. Assumes nothing.
+use Rattle.std.specs.Prelude.{if◌then◌else◌}
 use mathlib.Core.Path.{◌≡◌, refl, sym, ◌∙◌, ap, ap₂}
 use mathlib.Core.Logic.{◌≢◌, ⊎_elim}
 use mathlib.Core.Bool.{Bool, true, false, ◌&&◌, ◌||◌}
@@ -11,7 +12,6 @@ use lib.ListN.{length, set, length-set}
 use lib.Seq.{get_or-set_same, get_or-set_other, ext_get_or}
 use borrow.Author.Tests.{ne_eqb, lt-ltb, le-ltb, ltb-false}
 use Rattle.rules.specs.Numbers.Capacity.{max_locks, max_delay}
-use Rattle.rules.specs.Numbers.Choice.{when◌then◌else◌}
 use Rattle.rules.specs.Numbers.Place.{at, renewed}
 use Rattle.rules.specs.Numbers.Row.{newest, under, has}
 use Rattle.rules.specs.Schedulers.Figures.{Figures, holds}
@@ -141,16 +141,16 @@ module _ (m a : ℕ) where
 
   -- after that and the rest of the row
   with_rest : (units : List ℕ) (row k : ℕ) → m ≤ length units → Laden m units a row (suc k)
-      → (after : List ℕ) → ((l : ℕ) → at after l ≡ (when has (under row) k l then at (one units row k) l + a else at (one units row k) l))
-      → (l : ℕ) → at after l ≡ (when has row (suc k) l then at units l + a else at units l)
+      → (after : List ℕ) → ((l : ℕ) → at after l ≡ (if has (under row) k l then at (one units row k) l + a else at (one units row k) l))
+      → (l : ℕ) → at after l ≡ (if has row (suc k) l then at units l + a else at units l)
   with_rest units row k f L after next l = by_test (has (under row) k l)
       (λ e. next l ∙ if_true (has (under row) k l) _ _ e ∙ ap (λ u. u + a) (one_rest units row k l e)
       ∙ sym (if_true (has row (suc k) l) (at units l + a) (at units l) (has_under row k l e)))
       (λ e. next l ∙ if_false (has (under row) k l) _ _ e ∙ at_or (λ l. has (under row) k l ≡ false
-      → at (one units row k) l ≡ (when has row (suc k) l then at units l + a else at units l)) (newest row) here other l e)
+      → at (one units row k) l ≡ (if has row (suc k) l then at units l + a else at units l)) (newest row) here other l e)
     where
       here : has (under row) k (newest row) ≡ false
-          → at (one units row k) (newest row) ≡ (when has row (suc k) (newest row) then at units (newest row) + a else at units (newest row))
+          → at (one units row k) (newest row) ≡ (if has row (suc k) (newest row) then at units (newest row) + a else at units (newest row))
       here e =
           ap (λ us. at us (newest row)) (one_more units row k e)
           ∙ get_or-set_same units (newest row) (min max_delay (at units (newest row) + a)) 0 (omega (arith, L.known (newest row) (has_newest row k)))
@@ -158,14 +158,14 @@ module _ (m a : ℕ) where
           ∙ sym (if_true (has row (suc k) (newest row)) (at units (newest row) + a) (at units (newest row)) (has_newest row k))
 
       other : (l : ℕ) → l ≢ newest row → has (under row) k l ≡ false
-          → at (one units row k) l ≡ (when has row (suc k) l then at units l + a else at units l)
+          → at (one units row k) l ≡ (if has row (suc k) l then at units l + a else at units l)
       other l n e =
           one_other units row k l n
           ∙ sym (if_false (has row (suc k) l) (at units l + a) (at units l)
           (has_suc row k l ∙ ap₂ (λ s t. s || t) (ne_eqb (newest row) l (λ q. n (sym q))) e))
 
   charged_at : (units : List ℕ) (row k : ℕ) → m ≤ length units → Laden m units a row k → (l : ℕ)
-      → at (charged_row units a row k) l ≡ (when has row k l then at units l + a else at units l)
+      → at (charged_row units a row k) l ≡ (if has row k l then at units l + a else at units l)
   unfolding charged_row one
   charged_at units row zero f L l = sym (if_false (has row 0 l) (at units l + a) (at units l) (has_none row l))
   charged_at units row (suc k) f L l =

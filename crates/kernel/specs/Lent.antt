@@ -1,7 +1,7 @@
 -- RULES 7.1, 12.1: what the code answers beside the arrays that it is lent. Assumes nothing.
-use Rattle.std.specs.Prelude.{Bool, List, ℕ, ◌+◌}
+use Rattle.std.specs.Prelude.{Bool, List, ℕ, ◌+◌, Ok, Err, if◌then◌else◌}
+use Rattle.rules.specs.Numbers.Verdict.{Tested}
 use Rattle.rules.specs.Numbers.Capacity.{nobody}
-use Rattle.rules.specs.Numbers.Choice.{when◌then◌else◌}
 use Rattle.rules.specs.Schedulers.Whole.{state_with}
 use Rattle.rules.specs.Schedulers.Protocol.{second_word}
 use Rattle.rules.specs.Numbers.Place.{at}
@@ -14,8 +14,6 @@ use Rattle.rules.specs.declared.state.State.{State}
 use Rattle.rules.specs.declared.priority.UserPriority.{UserPriority}
 use Rattle.rules.specs.declared.event.Event.{Event}
 use Rattle.rules.specs.declared.refusal.Refusal.{Refusal}
-use Rattle.rules.specs.declared.answer.Tested.{Tested}
-use Rattle.rules.specs.declared.answer.Answer.{Answer}
 use Rattle.rules.specs.declared.answer.Stepped.{Stepped}
 use Rattle.kernel.specs.declared.acted.Acted.{Acted}
 use Rattle.kernel.specs.declared.switch.Turn.{Turn}
@@ -31,18 +29,18 @@ beside s r = stepped_as r s.released s.kept s.delay s.depth s.takes s.saved s.un
 
 -- the head after an event that is refused, and after one that is accepted, with a lazy call or not and so many eager calls
 abbrev pub refused_as : Head → Refusal → Acted
-refused_as h why = record { answer = Answer.Refused why; head = h }
+refused_as h why = record { answer = Err why; head = h }
 
 abbrev pub accepted_with : Head → Turn → Bool → ℕ → Acted
 accepted_with h t call eager =
     record {
-      answer = Answer.Accepted call;
+      answer = Ok call;
       head = record {
         accepted = h.accepted + 1;
         running = t.running;
         user = t.user;
         next = t.next;
-        lazy = h.lazy + (when call then 1 else 0);
+        lazy = h.lazy + (if call then 1 else 0);
         eager = h.eager + eager;
       };
     }
@@ -52,7 +50,7 @@ abbrev pub answered_as : Tested → Protocol → Plan → State → Event → St
 answered_as t pr p s e = answered t s (after_of pr p s e) (lazy_call (words_of s) e)
 
 abbrev pub accepted_as : Protocol → Plan → State → Event → Stepped
-accepted_as pr p s e = record { answer = Answer.Accepted (lazy_call (words_of s) e); state = after_of pr p s e }
+accepted_as pr p s e = record { answer = Ok (lazy_call (words_of s) e); state = after_of pr p s e }
 
 -- the head that an entry to the kernel goes on with
 abbrev pub entering_head : List ℕ → Head → Head

@@ -1,8 +1,8 @@
 -- RULES 9: what the code of each event does with what it is lent, and with nothing else: the tests as it makes them, the figures by name, the words by
 -- their definition. Assumes nothing.
-use Rattle.std.specs.Prelude.{◌≡◌, Bool, false, not, ◌&&◌, ◌||◌, List, [], ◌∷◌, ℕ, ◌+◌, ◌-◌, max, eqb, leb, ltb, set}
+use Rattle.std.specs.Prelude.{◌≡◌, Bool, false, not, ◌&&◌, ◌||◌, List, [], ◌∷◌, ℕ, ◌+◌, ◌-◌, max, eqb, leb, ltb, set, Ok, Err, if◌then◌else◌}
+use Rattle.rules.specs.Numbers.Verdict.{Tested}
 use Rattle.rules.specs.Numbers.Capacity.{max_tasks, max_takes}
-use Rattle.rules.specs.Numbers.Choice.{when◌then◌else◌}
 use Rattle.rules.specs.Numbers.Place.{at, renewed}
 use Rattle.rules.specs.Numbers.Mask.{has_bit}
 use Rattle.rules.specs.Numbers.Row.{newest, under, pushed, has}
@@ -12,8 +12,6 @@ use Rattle.rules.specs.Schedulers.FiguresAfter.{differs, left_of}
 use Rattle.rules.specs.Schedulers.Lazy.{calls_for, entering, back_of, switched, after_release, after_acquire, after_unlock}
 use Rattle.rules.specs.declared.protocol.Protocol.{Protocol}
 use Rattle.rules.specs.declared.state.Head.{Head}
-use Rattle.rules.specs.declared.answer.Tested.{Tested}
-use Rattle.rules.specs.declared.answer.Answer.{Answer}
 use Rattle.kernel.specs.Lent.{refused_as, turn_of, words_on, words_with}
 use Rattle.kernel.specs.Work.{past_row, charged_row, waited}
 use Rattle.kernel.specs.declared.acted.Acted.{Acted}
@@ -21,12 +19,12 @@ use Rattle.kernel.specs.declared.lazy.Unlocked.{Unlocked}
 
 -- by what the tests say: the event is refused and each lent array is as it was, or it is done
 unfoldable pub Outcome : Tested → Head → Acted → List (List ℕ) → List (List ℕ) → Type 0 → Type 0
-Outcome (Tested.Refused why) h r before after Done = (r ≡ refused_as h why) × (after ≡ before)
-Outcome Tested.Passed h r before after Done = Done
+Outcome (Err why) h r before after Done = (r ≡ refused_as h why) × (after ≡ before)
+Outcome (Ok _) h r before after Done = Done
 
 -- an accepted event counts: with a lazy call or not, and so many eager calls
 pub record Counted (h : Head) (r : Acted) (call : Bool) (eager : ℕ) : Type 0 where
-  pub answer : r.answer ≡ Answer.Accepted call
+  pub answer : r.answer ≡ Ok call
   pub number : r.head.accepted ≡ h.accepted + 1
   pub calls : r.head.eager ≡ h.eager + eager
 
@@ -77,7 +75,7 @@ pub record UnlockWords (pr : Protocol) (h : Head) (n : ℕ) (maximum released ke
   pub call : r.call ≡ calls_for (newest (at saved h.running)) h.next.0
   pub back : r.back.0 ≡ newest (at saved h.running)
   pub words : (lazy l : ℕ) (more : Bool) (owner : List ℕ)
-      → words_on r.turn (lazy + (when r.call then 1 else 0)) kept₂ saved₂ (set owner l (left_of more (at owner l)))
+      → words_on r.turn (lazy + (if r.call then 1 else 0)) kept₂ saved₂ (set owner l (left_of more (at owner l)))
       ≡ after_unlock pr n maximum released more l (words_on (turn_of h) lazy kept saved owner)
 
 abbrev pub unlock_tested : ℕ → ℕ → ℕ → (depth takes : List ℕ) → Tested

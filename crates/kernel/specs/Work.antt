@@ -1,13 +1,12 @@
 -- RULES 9.7: what work does, as the code goes about it: task by task, and along the row of the running task's takes. Assumes nothing.
-use Rattle.std.specs.Prelude.{◌≡◌, Bool, true, false, ◌&&◌, ◌||◌, List, ℕ, zero, suc, ◌+◌, ◌≤◌, ◌<◌, min, ltb, set}
+use Rattle.std.specs.Prelude.{◌≡◌, Bool, true, false, ◌&&◌, ◌||◌, List, ℕ, zero, suc, ◌+◌, ◌≤◌, ◌<◌, min, ltb, set, if◌then◌else◌}
 use Rattle.rules.specs.Numbers.Capacity.{max_delay}
-use Rattle.rules.specs.Numbers.Choice.{when◌then◌else◌}
 use Rattle.rules.specs.Numbers.Place.{at}
 use Rattle.rules.specs.Numbers.Row.{newest, under, has}
 
 -- the delay d of a task of release number y and base q after a units by one of base b
 unfoldable pub waited_by : ℕ → ℕ → ℕ → ℕ → ℕ → ℕ
-waited_by y q b d a = when ltb 0 y && ltb b q then min max_delay (d + a) else d
+waited_by y q b d a = if ltb 0 y && ltb b q then min max_delay (d + a) else d
 
 abbrev pub waited : List ℕ → List ℕ → List ℕ → ℕ → ℕ → ℕ → ℕ
 waited base released delay b a t = waited_by (at released t) (at base t) b (at delay t) a
@@ -19,7 +18,7 @@ past_row limit units a row (suc k) = ltb (at limit (newest row)) (at units (newe
 
 -- the units after a more for the section of lock l, unless an older take of it counts them
 unfoldable pub bumped : List ℕ → (older : Bool) → ℕ → ℕ → List ℕ
-bumped units older l a = when older then units else set units l (min max_delay (at units l + a))
+bumped units older l a = if older then units else set units l (min max_delay (at units l + a))
 
 -- and after a more for the lock of each of the k newest, once: at its oldest take
 unfoldable pub charged_row : List ℕ → ℕ → ℕ → ℕ → List ℕ

@@ -11,7 +11,6 @@ use crate::lazy::after_acquire;
 use crate::refusals::acquire_refusal;
 use figures::priority::user_of;
 use figures::row::push_on;
-use rules::answer::Tested;
 use rules::capacity::{MAX_LOCKS, MAX_TASKS};
 use rules::state::Head;
 
@@ -60,7 +59,7 @@ pub fn acquire(
 {
     let tested = acquire_refusal(h.running as usize, m, uses, depth, owner, l);
     match tested {
-        Tested::Refused(why) => refused(h, why),
-        Tested::Passed => accept(h, ceiling, depth, takes, saved, owner, l),
+        Err(why) => refused(h, why),
+        Ok(()) => accept(h, ceiling, depth, takes, saved, owner, l),
     }
 }

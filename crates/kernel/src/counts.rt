@@ -1,6 +1,5 @@
 // The head after an event: as it was where the event is refused, or one event further.
-ghost use Rattle.std.specs.Prelude.{◌≡◌, ◌≤◌};
-ghost use Rattle.rules.specs.Numbers.Choice.{when◌then◌else◌};
+ghost use Rattle.std.specs.Prelude.{◌≡◌, ◌≤◌, if◌then◌else◌};
 ghost use Rattle.rules.specs.Schedulers.FiguresAfter.{differs};
 ghost use Rattle.kernel.specs.Lent.{accepted_with, refused_as, turn_of};
 ghost use Rattle.kernel.specs.Ready.{Counts};
@@ -8,7 +7,6 @@ ghost use Rattle.kernel.specs.Ready.{Counts};
 use crate::acted::Acted;
 use crate::switch::Turn;
 use figures::priority::same_word;
-use rules::answer::Answer;
 use rules::priority::UserPriority;
 use rules::refusal::Refusal;
 use rules::state::Head;
@@ -29,7 +27,7 @@ pub fn refused(h: Head, why: Refusal) -> Acted
         eager: h.eager,
     };
     Acted {
-        answer: Answer::Refused(why),
+        answer: Err(why),
         head: head,
     }
 }
@@ -48,7 +46,7 @@ pub fn turn_of(h: Head) -> Turn
 }
 
 fn call_count(call: bool) -> u32
-    ensures { (result ≡ (when call then 1 else 0)) × (result ≤ 1) }
+    ensures { (result ≡ (if call then 1 else 0)) × (result ≤ 1) }
 {
     if call {
         return 1;
@@ -83,7 +81,7 @@ pub fn accepted(h: Head, turn: Turn, call: bool, eager: u32) -> Acted
         eager: h.eager + eager,
     };
     Acted {
-        answer: Answer::Accepted(call),
+        answer: Ok(call),
         head: head,
     }
 }

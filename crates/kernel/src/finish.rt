@@ -10,7 +10,6 @@ use crate::counts::{accepted, refused};
 use crate::entry::entering;
 use crate::lazy::after_finish;
 use crate::refusals::finish_refusal;
-use rules::answer::Tested;
 use rules::capacity::MAX_TASKS;
 use rules::protocol::Protocol;
 use rules::state::Head;
@@ -58,7 +57,7 @@ pub fn finish(
 {
     let tested = finish_refusal(h.running as usize, depth);
     match tested {
-        Tested::Refused(why) => refused(h, why),
-        Tested::Passed => accept(protocol, h, n, maximum, released, kept, tree),
+        Err(why) => refused(h, why),
+        Ok(()) => accept(protocol, h, n, maximum, released, kept, tree),
     }
 }

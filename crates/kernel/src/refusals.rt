@@ -9,22 +9,21 @@ ghost use Rattle.kernel.specs.Parts.{acquire_tested, finish_tested, release_test
 use figures::mask::has_bit;
 use figures::number::{place_of, wide_word};
 use figures::row::{newest_of, under_of};
-use rules::answer::Tested;
 use rules::capacity::{MAX_LOCKS, MAX_TAKES, MAX_TASKS};
 use rules::refusal::Refusal;
 
-pub fn release_refusal(n: usize, released: &[u32; MAX_TASKS], t: u8) -> Tested
+pub fn release_refusal(n: usize, released: &[u32; MAX_TASKS], t: u8) -> Result<(), Refusal>
     requires { n ≤ max_tasks }
     ensures { result ≡ release_tested n t released.now }
 {
     let y = t as usize;
     if n <= y {
-        return Tested::Refused(Refusal::Unknown);
+        return Err(Refusal::Unknown);
     }
     if 0 < released[y] {
-        return Tested::Refused(Refusal::AlreadyReleased);
+        return Err(Refusal::AlreadyReleased);
     }
-    Tested::Passed
+    Ok(())
 }
 
 // Whether a lock is open for another task than x, by its owner's byte: the task plus one, or 0 for none.
@@ -46,27 +45,27 @@ pub fn acquire_refusal(
     depth: &[u8; MAX_TASKS],
     owner: &[u8; MAX_LOCKS],
     l: u8,
-) -> Tested
+) -> Result<(), Refusal>
     requires { m ≤ max_locks }
     ensures { result ≡ acquire_tested x m l uses.now depth.now owner.now }
 {
     if MAX_TASKS <= x {
-        return Tested::Refused(Refusal::NobodyRuns);
+        return Err(Refusal::NobodyRuns);
     }
     let y = l as usize;
     if m <= y {
-        return Tested::Refused(Refusal::Unknown);
+        return Err(Refusal::Unknown);
     }
     if !has_bit(uses[x], l) {
-        return Tested::Refused(Refusal::NotDeclared);
+        return Err(Refusal::NotDeclared);
     }
     if open_elsewhere(owner[y], x) {
-        return Tested::Refused(Refusal::OpenElsewhere);
+        return Err(Refusal::OpenElsewhere);
     }
     if MAX_TAKES <= depth[x] {
-        return Tested::Refused(Refusal::RowFull);
+        return Err(Refusal::RowFull);
     }
-    Tested::Passed
+    Ok(())
 }
 
 // Whether the newest of a row of k takes is not of lock l, or there is none.
@@ -85,20 +84,20 @@ pub fn unlock_refusal(
     depth: &[u8; MAX_TASKS],
     takes: &[u64; MAX_TASKS],
     l: u8,
-) -> Tested
+) -> Result<(), Refusal>
     ensures { result ≡ unlock_tested x m l depth.now takes.now }
 {
     if MAX_TASKS <= x {
-        return Tested::Refused(Refusal::NobodyRuns);
+        return Err(Refusal::NobodyRuns);
     }
     let y = l as usize;
     if m <= y {
-        return Tested::Refused(Refusal::Unknown);
+        return Err(Refusal::Unknown);
     }
     if older(depth[x], takes[x], l) {
-        return Tested::Refused(Refusal::NotNewest);
+        return Err(Refusal::NotNewest);
     }
-    Tested::Passed
+    Ok(())
 }
 
 // A figure of lock l; a place past the last one has 0.
@@ -139,30 +138,30 @@ pub fn work_refusal(
     takes: &[u64; MAX_TASKS],
     units: &[u16; MAX_LOCKS],
     a: u16,
-) -> Tested
+) -> Result<(), Refusal>
     requires { (length limit.now ≡ max_locks) × (length units.now ≡ max_locks) }
     ensures { result ≡ work_tested x a limit.now depth.now takes.now units.now }
 {
     if a == 0 {
-        return Tested::Refused(Refusal::NoWork);
+        return Err(Refusal::NoWork);
     }
     if MAX_TASKS <= x {
-        return Tested::Refused(Refusal::NobodyRuns);
+        return Err(Refusal::NobodyRuns);
     }
     if past(limit, units, takes[x], depth[x], a) {
-        return Tested::Refused(Refusal::PastLimit);
+        return Err(Refusal::PastLimit);
     }
-    Tested::Passed
+    Ok(())
 }
 
-pub fn finish_refusal(x: usize, depth: &[u8; MAX_TASKS]) -> Tested
+pub fn finish_refusal(x: usize, depth: &[u8; MAX_TASKS]) -> Result<(), Refusal>
     ensures { result ≡ finish_tested x depth.now }
 {
     if MAX_TASKS <= x {
-        return Tested::Refused(Refusal::NobodyRuns);
+        return Err(Refusal::NobodyRuns);
     }
     if 0 < depth[x] {
-        return Tested::Refused(Refusal::StillOpen);
+        return Err(Refusal::StillOpen);
     }
-    Tested::Passed
+    Ok(())
 }

@@ -10,7 +10,6 @@ use crate::entry::entering;
 use crate::lazy::after_release;
 use crate::refusals::release_refusal;
 use figures::priority::kernel_of;
-use rules::answer::Tested;
 use rules::capacity::MAX_TASKS;
 use rules::protocol::Protocol;
 use rules::state::Head;
@@ -65,8 +64,8 @@ pub fn release(
 {
     let tested = release_refusal(n, released, t);
     match tested {
-        Tested::Refused(why) => refused(h, why),
-        Tested::Passed => accept(
+        Err(why) => refused(h, why),
+        Ok(()) => accept(
             protocol, h, n, base, maximum, released, kept, tree, delay, t,
         ),
     }

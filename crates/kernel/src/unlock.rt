@@ -12,7 +12,6 @@ use crate::counts::{accepted_with_word, refused};
 use crate::lazy::after_unlock;
 use crate::refusals::unlock_refusal;
 use figures::row::{has_lock, under_of};
-use rules::answer::Tested;
 use rules::capacity::{MAX_LOCKS, MAX_TASKS};
 use rules::protocol::Protocol;
 use rules::state::Head;
@@ -94,8 +93,8 @@ pub fn unlock(
 {
     let tested = unlock_refusal(h.running as usize, m, depth, takes, l);
     match tested {
-        Tested::Refused(why) => refused(h, why),
-        Tested::Passed => accept(
+        Err(why) => refused(h, why),
+        Ok(()) => accept(
             protocol, h, n, maximum, released, kept, tree, depth, takes, saved, units, owner, l,
         ),
     }

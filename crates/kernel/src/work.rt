@@ -11,7 +11,6 @@ use crate::counts::{accepted, refused, turn_of};
 use crate::refusals::work_refusal;
 use figures::priority::{exceeds, kernel_of};
 use figures::row::{has_lock, newest_of, under_of};
-use rules::answer::Tested;
 use rules::capacity::{MAX_DELAY, MAX_LOCKS, MAX_TASKS};
 use rules::priority::KernelPriority;
 use rules::state::Head;
@@ -157,7 +156,7 @@ pub fn work(
 {
     let tested = work_refusal(h.running as usize, limit, depth, takes, units, a);
     match tested {
-        Tested::Refused(why) => refused(h, why),
-        Tested::Passed => accept(h, n, most, base, released, delay, depth, takes, units, a),
+        Err(why) => refused(h, why),
+        Ok(()) => accept(h, n, most, base, released, delay, depth, takes, units, a),
     }
 }

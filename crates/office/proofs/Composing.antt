@@ -1,4 +1,6 @@
 -- The ways through the code that composes a book. Assumes nothing.
+use Rattle.std.specs.Prelude.{Ok}
+use Rattle.rules.specs.Numbers.Verdict.{Verdict, refused_at}
 use mathlib.Core.Path.{◌≡◌, sym, ◌∙◌, ap}
 use mathlib.Core.List.{List, [], ◌∷◌}
 use Prim.Native.Nat.{ℕ, zero, suc, ◌%◌, ◌≤◌, ◌<◌}
@@ -11,7 +13,6 @@ use Rattle.rules.specs.Numbers.Place.{at, renewed}
 use Rattle.rules.specs.Numbers.Refusal.{number_of}
 use Rattle.rules.specs.Books.Plan.{most}
 use Rattle.rules.specs.Books.Write.{Wrote, write_of, wrote_with}
-use Rattle.rules.specs.declared.answer.Verdict.{Verdict}
 use Rattle.rules.specs.declared.answer.Written.{Written}
 use Rattle.rules.specs.declared.refusal.Refusal.{Refusal}
 use Rattle.rules.proofs.Numbers.Choice.{if_true, if_false}
@@ -122,14 +123,14 @@ module _ (text buffer bytes : List ℕ) (w : Written) (h : wrote_with w bytes �
   unfolding composed_records
   as_told v e = rw (sym h) (ap (λ x. composed_as x (read_lines text) (wrote_with w bytes)) e)
 
-  pub records_written : w.verdict ≡ Verdict.Passed → answered w.length bytes p ≡ answer_of (composed_records text buffer) p
+  pub records_written : w.verdict ≡ Ok tt → answered w.length bytes p ≡ answer_of (composed_records text buffer) p
   unfolding composed_as typed
-  records_written e = ap (λ c. answer_of c p) (sym (as_told Verdict.Passed e))
+  records_written e = ap (λ c. answer_of c p) (sym (as_told (Ok tt) e))
 
-  pub records_refused : (r : Page) (why : Refusal) (place : ℕ) → r ≡ typed p (refused_by (read_lines text) why place) → w.verdict ≡ Verdict.Refused why place
+  pub records_refused : (r : Page) (why : Refusal) (place : ℕ) → r ≡ typed p (refused_by (read_lines text) why place) → w.verdict ≡ refused_at why place
       → answered 0 bytes r ≡ answer_of (composed_records text buffer) p
   unfolding composed_as
-  records_refused r why place g e = ap (answered 0 bytes) g ∙ ap (λ c. answer_of c p) (sym (as_told (Verdict.Refused why place) e))
+  records_refused r why place g e = ap (answered 0 bytes) g ∙ ap (λ c. answer_of c p) (sym (as_told (refused_at why place) e))
 
 module _ (text buffer : List ℕ) (p r : Page) where
   pub text_long : r ≡ typed p too_long → text_space < length text → answered 0 buffer r ≡ answer_of (compose_of text buffer) p

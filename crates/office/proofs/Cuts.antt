@@ -1,4 +1,6 @@
 -- A text's records are kept up to one more than there may be: then the writer says of them what it says of all. Assumes nothing.
+use Rattle.std.specs.Prelude.{Ok, Err, if◌then◌else◌}
+use Rattle.rules.specs.Numbers.Verdict.{Verdict, refused_at}
 use mathlib.Core.Path.{◌≡◌, refl, sym, ◌∙◌, ap}
 use mathlib.Core.Logic.{⊎_elim}
 use mathlib.Core.Bool.{false, ◌&&◌, ◌||◌}
@@ -10,13 +12,11 @@ use lib.ListN.{length, take, drop, set, length-take, length-set}
 use lib.Seq.{take_all, take-append_seam, set_out, ext_get_or}
 use borrow.Author.Tests.{lt-ltb, ltb-false, ne_eqb}
 use Rattle.rules.specs.Numbers.Capacity.{max_tasks, max_locks, max_uses, max_events}
-use Rattle.rules.specs.Numbers.Choice.{when◌then◌else◌}
 use Rattle.rules.specs.Numbers.Place.{at, renewed, stored, tabulate}
 use Rattle.rules.specs.Numbers.Refusal.{Check, number_of, first_fault, check_for}
 use Rattle.rules.specs.Books.Plan.{most, count_fault}
 use Rattle.rules.specs.Books.Book.{count_check}
 use Rattle.rules.specs.Books.Write.{counts_of, whole_checks, write_checks, wrote_as, write_of}
-use Rattle.rules.specs.declared.answer.Verdict.{Verdict}
 use Rattle.rules.specs.declared.refusal.Refusal.{Refusal}
 use Rattle.rules.specs.declared.refusal.Refusal.TheVariants.{WrongCount}
 use Rattle.rules.proofs.Numbers.Choice.{lt_or_le, or_false}
@@ -76,8 +76,8 @@ count_fits e n m h f = rw h (ltb-false (most e) n (or_false (eqb e 0 && eqb n 0)
 abbrev counted : (a b c d : List ℕ) → List Check
 counted a b c d = count_check (counts_of a b c d) ∷ []
 
-counts_clean : (a b c d : List ℕ) → first_fault (counted a b c d) ≡ Verdict.Passed → Clean (count_check (counts_of a b c d))
-unfolding check_for number_of when◌then◌else◌
+counts_clean : (a b c d : List ℕ) → first_fault (counted a b c d) ≡ Ok tt → Clean (count_check (counts_of a b c d))
+unfolding check_for number_of
 counts_clean a b c d e = clean_for (counted a b c d) e WrongCount
 
 module _ (ts ls us es : List ℕ) where
@@ -94,7 +94,7 @@ module _ (ts ls us es : List ℕ) where
   e' = take (suc max_events) es
 
   same_counts : (i : ℕ) → i < 4 → count_fault i (counts_of t' l' u' e' i) ≡ count_fault i (counts_of ts ls us es i)
-  unfolding most when◌then◌else◌
+  unfolding most
   same_counts zero l = ap (count_fault 0) (length-take (suc max_tasks) ts) ∙ count_cut 0 (length ts) max_tasks refl (omega arith)
   same_counts (suc zero) l = ap (count_fault 1) (length-take (suc max_locks) ls) ∙ count_cut 1 (length ls) max_locks refl (omega arith)
   same_counts (suc (suc zero)) l = ap (count_fault 2) (length-take (suc max_uses) us) ∙ count_cut 2 (length us) max_uses refl (omega arith)
@@ -105,7 +105,7 @@ module _ (ts ls us es : List ℕ) where
   same_two = same_faults WrongCount 1 4 (λ i. count_fault i (counts_of t' l' u' e' i)) (λ i. count_fault i (counts_of ts ls us es i)) [] [] same_counts refl
 
   cut_none : Clean (count_check (counts_of ts ls us es)) → (t' ≡ ts) × (l' ≡ ls) × (u' ≡ us) × (e' ≡ es)
-  unfolding most when◌then◌else◌
+  unfolding most
   cut_none C = (
     take_all (suc max_tasks) ts (omega (arith, count_fits 0 (length ts) max_tasks refl (C 0 (omega arith)))),
     take_all (suc max_locks) ls (omega (arith, count_fits 1 (length ls) max_locks refl (C 1 (omega arith)))),
@@ -114,8 +114,8 @@ module _ (ts ls us es : List ℕ) where
   )
 
   module _ (buffer : List ℕ) where
-    refused_so : (a b c d : List ℕ) (why : Refusal) (place : ℕ) → first_fault (counted a b c d) ≡ Verdict.Refused why place
-        → write_of a b c d buffer ≡ record { verdict = Verdict.Refused why place; length = 0; bytes = buffer }
+    refused_so : (a b c d : List ℕ) (why : Refusal) (place : ℕ) → first_fault (counted a b c d) ≡ refused_at why place
+        → write_of a b c d buffer ≡ record { verdict = refused_at why place; length = 0; bytes = buffer }
     unfolding write_of write_checks whole_checks wrote_as
     refused_so a b c d why place e = rw (check_left (counted a b c d) _ why place e)
 
@@ -123,8 +123,8 @@ module _ (ts ls us es : List ℕ) where
     cut_write = go (first_fault (counted ts ls us es)) refl
       where
         go : (v : Verdict) → first_fault (counted ts ls us es) ≡ v → write_of t' l' u' e' buffer ≡ write_of ts ls us es buffer
-        go Verdict.Passed e = let (a, b, c, d) = cut_none (counts_clean ts ls us es e) in rw (a, b, c, d)
-        go (Verdict.Refused why place) e = refused_so t' l' u' e' why place (same_two ∙ e) ∙ sym (refused_so ts ls us es why place e)
+        go (Ok _) e = let (a, b, c, d) = cut_none (counts_clean ts ls us es e) in rw (a, b, c, d)
+        go (Err f) e = refused_so t' l' u' e' f.why f.place (same_two ∙ e) ∙ sym (refused_so ts ls us es f.why f.place e)
 
 -- ---- numbers of two bytes
 

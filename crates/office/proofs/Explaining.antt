@@ -1,4 +1,6 @@
 -- The ways through the code that explains a replay. Assumes nothing.
+use Rattle.std.specs.Prelude.{Ok}
+use Rattle.rules.specs.Numbers.Verdict.{Verdict, refused_at}
 use mathlib.Core.Path.{◌≡◌, sym, ◌∙◌, ap}
 use mathlib.Core.Bool.{Bool, true, false, ◌&&◌, ◌||◌}
 use mathlib.Core.List.{List}
@@ -16,7 +18,6 @@ use Rattle.rules.specs.Replays.Replay.{ran_as}
 use Rattle.rules.specs.declared.plan.Plan.{Plan}
 use Rattle.rules.specs.declared.state.State.{State}
 use Rattle.rules.specs.declared.protocol.Protocol.{Protocol}
-use Rattle.rules.specs.declared.answer.Verdict.{Verdict}
 use Rattle.rules.specs.declared.answer.Replayed.{Replayed}
 use Rattle.rules.specs.declared.refusal.Refusal.{Refusal}
 use Rattle.rules.proofs.Numbers.Choice.{if_true, if_false}
@@ -204,11 +205,11 @@ module _ (p r : Page) (b : List ℕ) (plan : Plan) (s : State) (why : Refusal) (
   refused_event h y = h ∙ ap (typed p) (sym (if_false (of_book (number_of why)) _ _ (ap of_book (sym f) ∙ sym e ∙ y)))
 
 module _ (p : Page) (b : List ℕ) (plan : Plan) (s : State) (v : Verdict) where
-  pub end_none : v ≡ Verdict.Passed → p ≡ typed p (end_words b plan s v)
+  pub end_none : v ≡ Ok tt → p ≡ typed p (end_words b plan s v)
   unfolding end_words typed
   end_none e = ap (λ x. typed p (end_words b plan s x)) (sym e)
 
-  pub end_refused : (r : Page) (why : Refusal) (place : ℕ) → r ≡ typed p (refused_words b plan s why place) → v ≡ Verdict.Refused why place
+  pub end_refused : (r : Page) (why : Refusal) (place : ℕ) → r ≡ typed p (refused_words b plan s why place) → v ≡ refused_at why place
       → r ≡ typed p (end_words b plan s v)
   unfolding end_words
   end_refused r why place h e = h ∙ ap (λ x. typed p (end_words b plan s x)) (sym e)

@@ -1,4 +1,6 @@
 -- The ways through the code that shows a book. Assumes nothing.
+use Rattle.std.specs.Prelude.{Ok, Err}
+use Rattle.rules.specs.Numbers.Verdict.{Verdict, refused_at}
 use mathlib.Core.Path.{◌≡◌, refl, sym, ◌∙◌, ap}
 use mathlib.Core.Bool.{Bool, true, false}
 use mathlib.Core.List.{List, [], ◌++◌}
@@ -13,8 +15,7 @@ use Rattle.rules.specs.Numbers.Refusal.{number_of}
 use Rattle.rules.specs.Books.Event.{number_fault, number_event}
 use Rattle.rules.specs.Books.Book.{check_of, checked_as, checked_of}
 use Rattle.rules.specs.Replays.Replay.{ran_as}
-use Rattle.rules.specs.declared.answer.Verdict.{Verdict}
-use Rattle.rules.specs.declared.answer.Checked.{Checked}
+use Rattle.rules.specs.Books.Book.{Checked}
 use Rattle.rules.specs.declared.answer.Replayed.{Replayed}
 use Rattle.rules.specs.declared.event.Event.{Event}
 use Rattle.rules.specs.declared.protocol.Protocol.TheVariants.{Second}
@@ -95,11 +96,11 @@ module _ (b : List ℕ) (p : Page) where
 
 -- ---- an event and its comment
 
-pub stop_passed : (p r : Page) (v : Verdict) (n : ℕ) → r ≡ typed p (unreached n) → v ≡ Verdict.Passed → r ≡ typed p (stop_comment v n)
+pub stop_passed : (p r : Page) (v : Verdict) (n : ℕ) → r ≡ typed p (unreached n) → v ≡ Ok tt → r ≡ typed p (stop_comment v n)
 unfolding stop_comment
 stop_passed p r v n h e = h ∙ ap (λ x. typed p (stop_comment x n)) (sym e)
 
-pub stop_refused : (p r : Page) (v : Verdict) (n : ℕ) (why : Refusal) (place : ℕ) → r ≡ typed p (refused_comment n why) → v ≡ Verdict.Refused why place
+pub stop_refused : (p r : Page) (v : Verdict) (n : ℕ) (why : Refusal) (place : ℕ) → r ≡ typed p (refused_comment n why) → v ≡ refused_at why place
     → r ≡ typed p (stop_comment v n)
 unfolding stop_comment
 stop_refused p r v n why place h e = h ∙ ap (λ x. typed p (stop_comment x n)) (sym e)
@@ -172,7 +173,7 @@ module _ (p r : Page) (n : ℕ) (b : List ℕ) where
   unfolding refused_body
   body_entries h e l = h ∙ ap (typed p) (sym (if_false (eqb n 1) _ _ (ne_eqb n 1 e) ∙ if_true (leb n 3) _ _ (le-leb n 3 l)))
 
-  pub body_parts : r ≡ typed p (parts_of b Verdict.Passed 0 []) → (n ≡ 1 → ⊥) → 3 < n → r ≡ typed p (refused_body n b)
+  pub body_parts : r ≡ typed p (parts_of b (Ok tt) 0 []) → (n ≡ 1 → ⊥) → 3 < n → r ≡ typed p (refused_body n b)
   unfolding refused_body
   body_parts h e l = h ∙ ap (typed p) (sym (if_false (eqb n 1) _ _ (ne_eqb n 1 e) ∙ if_false (leb n 3) _ _ (lt-leb n 3 l)))
 
@@ -184,29 +185,29 @@ head_put p a r why place h g = typed_two p a r (ascii "# ") (refusal_words why p
 
 pub shown_refused : (p a r : Page) (b : List ℕ) (why : Refusal) (place n : ℕ) → r ≡ typed a (refused_body n b) → a ≡ typed p (refused_head why place)
     → n ≡ number_of why
-    → r ≡ typed p (shown_as (Verdict.Refused why place) b)
+    → r ≡ typed p (shown_as (refused_at why place) b)
 unfolding shown_as
 shown_refused p a r b why place n h g e =
     typed_two p a r (refused_head why place) (refused_body (number_of why) b) g (h ∙ ap (λ x. typed a (refused_body x b)) e)
 
 pub shown_ran : (b rows : List ℕ) (s : Replayed) (p r : Page) → r ≡ typed p (parts_of b s.verdict s.state.head.accepted rows) → ran_as s rows ≡ ran_of Second b
-    → r ≡ typed p (shown_as Verdict.Passed b)
+    → r ≡ typed p (shown_as (Ok tt) b)
 unfolding shown_as
 shown_ran b rows s p r h e = h ∙ ap (λ x. typed p (parts_of b x.verdict x.state.head.accepted x.rows)) e
 
 checked_verdict : (b : List ℕ) (v : Verdict) → (checked_as v b).verdict ≡ v
 unfolding checked_as
-checked_verdict b Verdict.Passed = refl
-checked_verdict b (Verdict.Refused why place) = refl
+checked_verdict b (Ok _) = refl
+checked_verdict b (Err f) = refl
 
 module _ (b : List ℕ) (c : Checked) (h : c ≡ checked_of b row_space) (p r : Page) where
   told : (v : Verdict) → c.verdict ≡ v → shown_of b ≡ shown_as v b
   unfolding shown_of
   told v e = ap (λ x. shown_as x b) (sym (checked_verdict b (check_of b row_space)) ∙ sym (ap (λ x. x.verdict) h) ∙ e)
 
-  pub shown_accepted : r ≡ typed p (shown_as Verdict.Passed b) → c.verdict ≡ Verdict.Passed → r ≡ typed p (shown_of b)
-  shown_accepted g e = g ∙ ap (typed p) (sym (told Verdict.Passed e))
+  pub shown_accepted : r ≡ typed p (shown_as (Ok tt) b) → c.verdict ≡ Ok tt → r ≡ typed p (shown_of b)
+  shown_accepted g e = g ∙ ap (typed p) (sym (told (Ok tt) e))
 
-  pub shown_not : (why : Refusal) (place : ℕ) → r ≡ typed p (shown_as (Verdict.Refused why place) b) → c.verdict ≡ Verdict.Refused why place
+  pub shown_not : (why : Refusal) (place : ℕ) → r ≡ typed p (shown_as (refused_at why place) b) → c.verdict ≡ refused_at why place
       → r ≡ typed p (shown_of b)
-  shown_not why place g e = g ∙ ap (typed p) (sym (told (Verdict.Refused why place) e))
+  shown_not why place g e = g ∙ ap (typed p) (sym (told (refused_at why place) e))

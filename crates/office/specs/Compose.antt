@@ -1,11 +1,10 @@
 -- RULES 19.5: the book of a text, or the line that says why there is none. Assumes nothing.
-use Rattle.std.specs.Prelude.{List, [], ◌∷◌, ℕ, eqb, ltb, length}
-use Rattle.rules.specs.Numbers.Choice.{when◌then◌else◌}
+use Rattle.std.specs.Prelude.{List, [], ◌∷◌, ℕ, eqb, ltb, length, Ok, Err, if◌then◌else◌}
+use Rattle.rules.specs.Numbers.Verdict.{Verdict, refused_at}
 use Rattle.rules.specs.Numbers.Refusal.{number_of}
 use Rattle.rules.specs.Books.Plan.{most}
 use Rattle.rules.specs.Books.Write.{Wrote, write_of}
 use Rattle.rules.specs.declared.refusal.Refusal.{Refusal}
-use Rattle.rules.specs.declared.answer.Verdict.{Verdict}
 use Rattle.page.specs.Says.{says}
 use Rattle.texts.specs.Lines.{lines_of, read_lines, records_of, first_wrong, line_of_record}
 use Rattle.texts.specs.declared.line.Line.{Line}
@@ -28,24 +27,24 @@ unwritten buffer said = record { length = 0; bytes = buffer; said = said }
 
 -- the part that an entry of the contents belongs to; the entries count from 1
 unfoldable pub entry_part : ℕ → ℕ
-entry_part e = when eqb e 1 then 0 else when eqb e 2 then 1 else when eqb e 3 then 2 else 3
+entry_part e = if eqb e 1 then 0 else if eqb e 2 then 1 else if eqb e 3 then 2 else 3
 
 -- the part and the record that a refusal names: for 2 the first record that is too many
 unfoldable pub refused_part : ℕ → ℕ → ℕ
 refused_part number place =
-    when eqb number 2 then entry_part place
-    else when eqb number 4 then 0
-    else when eqb number 5 then 1
-    else when eqb number 7 then 1
-    else when eqb number 8 then 3
+    if eqb number 2 then entry_part place
+    else if eqb number 4 then 0
+    else if eqb number 5 then 1
+    else if eqb number 7 then 1
+    else if eqb number 8 then 3
     else 2
 
 unfoldable pub refused_record : ℕ → ℕ → ℕ
-refused_record number place = when eqb number 2 then most (entry_part place) else place
+refused_record number place = if eqb number 2 then most (entry_part place) else place
 
 -- a refusal, with a line where one can be named; and with the line of that record
 unfoldable pub refused_at : ℕ → Refusal → ℕ → List ℕ
-refused_at n why place = when eqb n 0 then refusal_words why place else refusal_at_line why place n
+refused_at n why place = if eqb n 0 then refusal_words why place else refusal_at_line why place n
 
 unfoldable pub refused_by : List Line → Refusal → ℕ → List ℕ
 refused_by lines why place = refused_at (line_of_record (refused_part (number_of why) place) (refused_record (number_of why) place) 0 lines) why place
@@ -55,8 +54,8 @@ abbrev pub written : List (List ℕ) → List ℕ → Wrote
 written lines buffer = write_of (records_of 0 lines) (records_of 1 lines) (records_of 2 lines) (records_of 3 lines) buffer
 
 unfoldable pub composed_as : Verdict → List Line → Wrote → Composed
-composed_as Verdict.Passed lines w = record { length = w.length; bytes = w.bytes; said = [] }
-composed_as (Verdict.Refused why place) lines w = record { length = 0; bytes = w.bytes; said = refused_by lines why place }
+composed_as (Ok _) lines w = record { length = w.length; bytes = w.bytes; said = [] }
+composed_as (Err f) lines w = record { length = 0; bytes = w.bytes; said = refused_by lines f.why f.place }
 
 -- a text without a mistake, and with one
 unfoldable pub composed_records : List ℕ → List ℕ → Composed
@@ -72,4 +71,4 @@ too_long = says "the text has more than @ bytes\n" (text_space ∷ [])
 
 unfoldable pub compose_of : List ℕ → List ℕ → Composed
 compose_of text buffer =
-    when ltb text_space (length text) then unwritten buffer too_long else composed_by (first_wrong 0 (read_lines text)) text buffer
+    if ltb text_space (length text) then unwritten buffer too_long else composed_by (first_wrong 0 (read_lines text)) text buffer

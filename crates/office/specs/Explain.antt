@@ -1,7 +1,7 @@
 -- RULES 19.9: what the calls and the refusal of a replay were about. Assumes nothing.
-use Rattle.std.specs.Prelude.{Bool, ◌&&◌, ◌||◌, List, [], ◌++◌, ℕ, ◌+◌, ◌*◌, ◌-◌, eqb, leb, ltb, length}
+use Rattle.std.specs.Prelude.{Bool, ◌&&◌, ◌||◌, List, [], ◌++◌, ℕ, ◌+◌, ◌*◌, ◌-◌, eqb, leb, ltb, length, Ok, Err, if◌then◌else◌}
+use Rattle.rules.specs.Numbers.Verdict.{Verdict}
 use Rattle.rules.specs.Numbers.Capacity.{max_locks}
-use Rattle.rules.specs.Numbers.Choice.{when◌then◌else◌}
 use Rattle.rules.specs.Numbers.Place.{at, first_from}
 use Rattle.rules.specs.Numbers.Refusal.{number_of}
 use Rattle.rules.specs.Numbers.Row.{newest}
@@ -10,7 +10,6 @@ use Rattle.rules.specs.Books.Book.{checked_of}
 use Rattle.rules.specs.declared.plan.Plan.{Plan}
 use Rattle.rules.specs.declared.state.State.{State}
 use Rattle.rules.specs.declared.protocol.Protocol.{Protocol}
-use Rattle.rules.specs.declared.answer.Verdict.{Verdict}
 use Rattle.rules.specs.declared.refusal.Refusal.{Refusal}
 use Rattle.page.specs.Ascii.{ascii}
 use Rattle.book.specs.Look.{task_in, lock_in, use_in, event_in}
@@ -28,14 +27,14 @@ unfoldable pub call_text : List ℕ → (rows : List ℕ) → ℕ → List ℕ
 call_text b rows k = call_line (k + 1) (at rows ((k - 1) * 4)) (record_id (event_in b k)) (at rows (k * 4)) (at rows (k * 4 + 1))
 
 unfoldable pub call_of : List ℕ → (rows : List ℕ) → ℕ → List ℕ
-call_of b rows k = when eqb (at rows (k * 4 + 3)) 1 then call_text b rows k else []
+call_of b rows k = if eqb (at rows (k * 4 + 3)) 1 then call_text b rows k else []
 
 unfoldable pub call_lines : List ℕ → (rows : List ℕ) → ℕ → List ℕ
 call_lines b rows n = each (call_of b rows) n
 
 -- those of so many accepted events
 unfoldable pub call_words : List ℕ → (rows : List ℕ) → (accepted lazy : ℕ) → List ℕ
-call_words b rows accepted lazy = when eqb lazy 0 then ascii "no call of the kernel\n" else call_lines b rows accepted
+call_words b rows accepted lazy = if eqb lazy 0 then ascii "no call of the kernel\n" else call_lines b rows accepted
 
 -- ---- the refusal of an event
 
@@ -71,20 +70,20 @@ stop_words b p s why = stop_line (s.head.accepted + 1) why ++ reason_of why (fac
 
 -- what stands at the place of 2 or 3: an entry, or the book's end
 unfoldable pub entry_place : List ℕ → ℕ → List ℕ
-entry_place b place = when ltb 4 place then size_line (length b) else entry_of b (place - 1)
+entry_place b place = if ltb 4 place then size_line (length b) else entry_of b (place - 1)
 
 -- that of the others: a task, a lock, an event or a use
 unfoldable pub record_words : ℕ → List ℕ → ℕ → List ℕ
 record_words number b place =
-    when eqb number 4 then task_line place (task_in b place)
-    else when eqb number 5 then lock_line place (lock_in b place)
-    else when eqb number 7 then lock_line place (lock_in b place)
-    else when eqb number 8 then no_event_line (event_in b place)
+    if eqb number 4 then task_line place (task_in b place)
+    else if eqb number 5 then lock_line place (lock_in b place)
+    else if eqb number 7 then lock_line place (lock_in b place)
+    else if eqb number 8 then no_event_line (event_in b place)
     else use_line place (use_in b place)
 
 unfoldable pub place_words : ℕ → List ℕ → ℕ → List ℕ
 place_words number b place =
-    when eqb number 1 then size_line (length b) else when leb number 3 then entry_place b place else record_words number b place
+    if eqb number 1 then size_line (length b) else if leb number 3 then entry_place b place else record_words number b place
 
 unfoldable pub book_words : List ℕ → Refusal → ℕ → List ℕ
 book_words b why place = refusal_words why place ++ place_words (number_of why) b place
@@ -96,11 +95,11 @@ unfoldable pub of_book : ℕ → Bool
 of_book number = leb number 9 || eqb number 24
 
 unfoldable pub refused_words : List ℕ → Plan → State → Refusal → ℕ → List ℕ
-refused_words b p s why place = when of_book (number_of why) then book_words b why place else stop_words b p s why
+refused_words b p s why place = if of_book (number_of why) then book_words b why place else stop_words b p s why
 
 unfoldable pub end_words : List ℕ → Plan → State → Verdict → List ℕ
-end_words b p s Verdict.Passed = []
-end_words b p s (Verdict.Refused why place) = refused_words b p s why place
+end_words b p s (Ok _) = []
+end_words b p s (Err f) = refused_words b p s f.why f.place
 
 -- the heading and the calls, and all of it
 unfoldable pub front_words : List ℕ → (rows : List ℕ) → (accepted lazy : ℕ) → List ℕ

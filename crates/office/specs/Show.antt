@@ -1,10 +1,9 @@
 -- RULES 19.7, 19.8: the text of a book. Assumes nothing.
-use Rattle.std.specs.Prelude.{List, [], ◌∷◌, ◌++◌, ℕ, zero, suc, ◌+◌, ◌*◌, eqb, leb, ltb, length}
-use Rattle.rules.specs.Numbers.Choice.{when◌then◌else◌}
+use Rattle.std.specs.Prelude.{List, [], ◌∷◌, ◌++◌, ℕ, zero, suc, ◌+◌, ◌*◌, eqb, leb, ltb, length, Ok, Err, if◌then◌else◌}
+use Rattle.rules.specs.Numbers.Verdict.{Verdict}
 use Rattle.rules.specs.Numbers.Place.{at}
 use Rattle.rules.specs.Numbers.Refusal.{number_of}
 use Rattle.rules.specs.Books.Book.{check_of}
-use Rattle.rules.specs.declared.answer.Verdict.{Verdict}
 use Rattle.rules.specs.declared.refusal.Refusal.{Refusal}
 use Rattle.rules.specs.declared.protocol.Protocol.TheVariants.{Second}
 use Rattle.page.specs.Ascii.{ascii}
@@ -31,13 +30,13 @@ use_lines b n = each (λ k. use_line k (use_in b k)) n
 
 -- an event with what came of it, in a run that ended with this verdict after so many accepted events, with these rows
 unfoldable pub stop_comment : Verdict → ℕ → List ℕ
-stop_comment Verdict.Passed n = unreached n
-stop_comment (Verdict.Refused why place) n = refused_comment n why
+stop_comment (Ok _) n = unreached n
+stop_comment (Err f) n = refused_comment n f.why
 
 unfoldable pub comment_of : Verdict → (accepted : ℕ) → (rows : List ℕ) → ℕ → List ℕ
 comment_of verdict accepted rows k =
-    when ltb k accepted then ran_comment (k + 1) (at rows (k * 4)) (at rows (k * 4 + 1))
-    else when eqb k accepted then stop_comment verdict (k + 1)
+    if ltb k accepted then ran_comment (k + 1) (at rows (k * 4)) (at rows (k * 4 + 1))
+    else if eqb k accepted then stop_comment verdict (k + 1)
     else unreached (k + 1)
 
 unfoldable pub event_lines : List ℕ → Verdict → (accepted : ℕ) → (rows : List ℕ) → ℕ → List ℕ
@@ -79,16 +78,16 @@ entries_of b = size_line (length b) ++ entry_pair b 0 ++ entry_pair b 2
 -- of a book that this number refuses
 unfoldable pub refused_body : ℕ → List ℕ → List ℕ
 refused_body number b =
-    when eqb number 1 then size_line (length b)
-    else when leb number 3 then entries_of b
-    else parts_of b Verdict.Passed 0 []
+    if eqb number 1 then size_line (length b)
+    else if leb number 3 then entries_of b
+    else parts_of b (Ok tt) 0 []
 
 unfoldable pub refused_head : Refusal → ℕ → List ℕ
 refused_head why place = ascii "# " ++ refusal_words why place
 
 unfoldable pub shown_as : Verdict → List ℕ → List ℕ
-shown_as Verdict.Passed b = parts_of b (ran_of Second b).verdict (ran_of Second b).state.head.accepted (ran_of Second b).rows
-shown_as (Verdict.Refused why place) b = refused_head why place ++ refused_body (number_of why) b
+shown_as (Ok _) b = parts_of b (ran_of Second b).verdict (ran_of Second b).state.head.accepted (ran_of Second b).rows
+shown_as (Err f) b = refused_head f.why f.place ++ refused_body (number_of f.why) b
 
 unfoldable pub shown_of : List ℕ → List ℕ
 shown_of b = shown_as (check_of b row_space) b

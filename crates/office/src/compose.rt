@@ -13,9 +13,9 @@ use crate::space::TEXT_SPACE;
 use book::writer::write;
 use page::put_says;
 use plan::count::most_of;
-use rules::answer::{Verdict, Written};
+use rules::answer::{Fault, Written};
 use rules::capacity::{MAX_EVENTS, MAX_LOCKS, MAX_TASKS, MAX_USES};
-use rules::refusal::{Refusal, number};
+use rules::refusal::Refusal;
 use texts::lines::{First, collect, first_wrong, line_of_record};
 use wording::mistake::{put_mistake, put_refusal, put_refusal_at};
 
@@ -186,7 +186,7 @@ fn put_refused_at(said: &mut [u8], n: usize, why: Refusal, place: usize) -> usiz
 fn put_refused_by(text: &[u8], said: &mut [u8], why: Refusal, place: usize) -> usize
     ensures { page said.new result ≡ typed (page said.old 0) (refused_by (read_lines text.now) why place) }
 {
-    let number = number(why);
+    let number = u8::from(why);
     let part = refused_part(number, place);
     let record = refused_record(number, place);
     let n = line_of_record(text, part, record);
@@ -201,11 +201,11 @@ fn compose_records(text: &[u8], out: &mut [u8], said: &mut [u8]) -> Made
     let written = write_text(text, out);
     let verdict = written.verdict;
     match verdict {
-        Verdict::Passed => Made {
+        Ok(()) => Made {
             length: written.length,
             said: 0,
         },
-        Verdict::Refused(why, place) => {
+        Err(Fault { why, place }) => {
             let n = put_refused_by(text, said, why, place);
             Made { length: 0, said: n }
         }

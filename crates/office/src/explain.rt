@@ -10,11 +10,11 @@ use crate::entry::put_entry_of;
 use book::look::{event, lock, task, usage};
 use page::put_text;
 use report::row::{call, running, user};
-use rules::answer::Verdict;
+use rules::answer::Fault;
 use rules::capacity::{MAX_EVENTS, MAX_LOCKS, MAX_TASKS};
 use rules::plan::Plan;
 use rules::protocol::Protocol;
-use rules::refusal::{Refusal, number};
+use rules::refusal::Refusal;
 use rules::state::State;
 use scheduler::replay;
 use wording::mistake::put_refusal;
@@ -307,7 +307,7 @@ fn put_book_words(out: &mut [u8], i: usize, b: &[u8], why: Refusal, place: usize
     ensures { page out.new result ≡ typed (page out.old i) (book_words b.now why place) }
 {
     let after = put_refusal(out, i, why, place);
-    put_place_words(out, after, number(why), b, place)
+    put_place_words(out, after, u8::from(why), b, place)
 }
 
 // 1 to 9 and 24 refuse a book, the others an event.
@@ -331,18 +331,18 @@ fn put_refused_words(
 ) -> usize
     ensures { page out.new result ≡ typed (page out.old i) (refused_words b.now p s why place) }
 {
-    if of_book(number(why)) {
+    if of_book(u8::from(why)) {
         return put_book_words(out, i, b, why, place);
     }
     put_stop_words(out, i, b, p, s, why)
 }
 
-fn put_end_words(out: &mut [u8], i: usize, b: &[u8], p: Plan, s: State, verdict: Verdict) -> usize
+fn put_end_words(out: &mut [u8], i: usize, b: &[u8], p: Plan, s: State, verdict: Result<(), Fault>) -> usize
     ensures { page out.new result ≡ typed (page out.old i) (end_words b.now p s verdict) }
 {
     match verdict {
-        Verdict::Passed => i,
-        Verdict::Refused(why, place) => put_refused_words(out, i, b, p, s, why, place),
+        Ok(()) => i,
+        Err(Fault { why, place }) => put_refused_words(out, i, b, p, s, why, place),
     }
 }
 
@@ -361,7 +361,7 @@ fn put_explained(
     rows: &[u8],
     p: Plan,
     s: State,
-    verdict: Verdict,
+    verdict: Result<(), Fault>,
 ) -> usize
     ensures { page out.new result ≡ typed (page out.old i) (explained_as b.now rows.now p s verdict) }
 {

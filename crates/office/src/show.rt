@@ -1,7 +1,6 @@
 // RULES 19.7, 19.8: the text of a book.
 ghost use Rattle.std.specs.Prelude.{◌≡◌, [], ◌∷◌, ◌+◌, ◌<◌, ◌^◌, min, length};
 ghost use Rattle.rules.specs.Numbers.Place.{stored};
-ghost use Rattle.rules.specs.declared.answer.Verdict.{Verdict};
 ghost use Rattle.page.specs.Page.{page, typed};
 ghost use Rattle.page.specs.Says.{filled};
 ghost use Rattle.book.specs.Look.{entry_in};
@@ -14,10 +13,10 @@ use book::look::{entry_at, event, lock, task, usage};
 use book::record::{number_event, number_fault};
 use page::{put_says, put_text};
 use report::row::{running, user};
-use rules::answer::Verdict;
+use rules::answer::Fault;
 use rules::capacity::MAX_EVENTS;
 use rules::protocol::Protocol;
-use rules::refusal::{Refusal, number};
+use rules::refusal::Refusal;
 use scheduler::replay;
 use wording::mistake::put_refusal;
 use wording::record::{
@@ -69,12 +68,12 @@ fn put_uses(out: &mut [u8], i: usize, b: &[u8], n: usize) -> usize
 }
 
 // The comment of the event at which a run ended.
-fn put_stop(out: &mut [u8], i: usize, verdict: Verdict, n: u64) -> usize
+fn put_stop(out: &mut [u8], i: usize, verdict: Result<(), Fault>, n: u64) -> usize
     ensures { page out.new result ≡ typed (page out.old i) (stop_comment verdict n) }
 {
     match verdict {
-        Verdict::Passed => put_unreached(out, i, n),
-        Verdict::Refused(why, _) => put_refused(out, i, n, why),
+        Ok(()) => put_unreached(out, i, n),
+        Err(Fault { why, .. }) => put_refused(out, i, n, why),
     }
 }
 
@@ -82,7 +81,7 @@ fn put_stop(out: &mut [u8], i: usize, verdict: Verdict, n: u64) -> usize
 fn put_comment(
     out: &mut [u8],
     i: usize,
-    verdict: Verdict,
+    verdict: Result<(), Fault>,
     accepted: usize,
     rows: &[u8],
     k: usize,
@@ -108,7 +107,7 @@ fn put_commented(
     out: &mut [u8],
     i: usize,
     w: u32,
-    verdict: Verdict,
+    verdict: Result<(), Fault>,
     accepted: usize,
     rows: &[u8],
     k: usize,
@@ -128,7 +127,7 @@ fn put_events(
     out: &mut [u8],
     i: usize,
     b: &[u8],
-    verdict: Verdict,
+    verdict: Result<(), Fault>,
     accepted: usize,
     rows: &[u8],
     n: usize,
@@ -178,7 +177,7 @@ fn put_event_part(
     out: &mut [u8],
     i: usize,
     b: &[u8],
-    verdict: Verdict,
+    verdict: Result<(), Fault>,
     accepted: usize,
     rows: &[u8],
     n: usize,
@@ -210,7 +209,7 @@ fn put_last_parts(
     out: &mut [u8],
     i: usize,
     b: &[u8],
-    verdict: Verdict,
+    verdict: Result<(), Fault>,
     accepted: usize,
     rows: &[u8],
 ) -> usize
@@ -224,7 +223,7 @@ fn put_parts(
     out: &mut [u8],
     i: usize,
     b: &[u8],
-    verdict: Verdict,
+    verdict: Result<(), Fault>,
     accepted: usize,
     rows: &[u8],
 ) -> usize
@@ -261,7 +260,7 @@ fn put_refused_body(out: &mut [u8], i: usize, number: u8, b: &[u8]) -> usize
     if number <= 3 {
         return put_entries(out, i, b);
     }
-    put_parts(out, i, b, Verdict::Passed, 0, &b[..0])
+    put_parts(out, i, b, Ok(()), 0, &b[..0])
 }
 
 // The refusal, in a comment.
@@ -273,14 +272,14 @@ fn put_refused_head(out: &mut [u8], why: Refusal, place: usize) -> usize
 }
 
 fn put_refused_book(out: &mut [u8], b: &[u8], why: Refusal, place: usize) -> usize
-    ensures { page out.new result ≡ typed (page out.old 0) (shown_as (Verdict.Refused why place) b.now) }
+    ensures { page out.new result ≡ typed (page out.old 0) (shown_as (refused_at why place) b.now) }
 {
     let after = put_refused_head(out, why, place);
-    put_refused_body(out, after, number(why), b)
+    put_refused_body(out, after, u8::from(why), b)
 }
 
 fn put_accepted(out: &mut [u8], b: &[u8]) -> usize
-    ensures { page out.new result ≡ typed (page out.old 0) (shown_as Verdict.Passed b.now) }
+    ensures { page out.new result ≡ typed (page out.old 0) (shown_as (Ok tt) b.now) }
 {
     let mut rows = [0u8; ROW_SPACE];
     let replayed = replay(Protocol::Second, b, &mut rows);
@@ -295,8 +294,8 @@ fn put_shown(out: &mut [u8], b: &[u8]) -> usize
     let checked = book::check(b, ROW_SPACE);
     let verdict = checked.verdict;
     match verdict {
-        Verdict::Passed => put_accepted(out, b),
-        Verdict::Refused(why, place) => put_refused_book(out, b, why, place),
+        Ok(()) => put_accepted(out, b),
+        Err(Fault { why, place }) => put_refused_book(out, b, why, place),
     }
 }
 

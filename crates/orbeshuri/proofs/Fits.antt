@@ -1,4 +1,6 @@
 -- The text for every book fits the program's buffer. Assumes nothing.
+use Rattle.std.specs.Prelude.{Ok, Err}
+use Rattle.rules.specs.Numbers.Verdict.{Verdict}
 use mathlib.Core.Path.{◌≡◌, refl, sym, ◌∙◌, ap}
 use mathlib.Core.Logic.{⊎_elim}
 use mathlib.Core.List.{List, [], ◌∷◌}
@@ -19,7 +21,6 @@ use Rattle.rules.specs.Demands.Replayed.{RanUpTo}
 use Rattle.rules.specs.declared.plan.Plan.{Plan}
 use Rattle.rules.specs.declared.protocol.Protocol.{Protocol}
 use Rattle.rules.specs.declared.event.Event.{Event}
-use Rattle.rules.specs.declared.answer.Verdict.{Verdict}
 use Rattle.rules.specs.declared.answer.Replayed.{Replayed}
 use Rattle.rules.proofs.Numbers.Choice.{lt_or_le}
 use Rattle.rules.proofs.Numbers.Stored.{stored_front}
@@ -68,7 +69,7 @@ module _ (pr : Protocol) {p : Plan} (O : Obeys p) (es : List Event) (few : lengt
           (lt_or_le a (length es))
 
       by : (v : Verdict) → verdict_place v < 10 ^ 5 → length (report_of v a ran.rows lazy eager delays) ≤ report_space
-      by Verdict.Passed h = omega (
+      by (Ok _) h = omega (
         arith,
         few_tasks O,
         length-take p.tasks ran.state.delay,
@@ -77,11 +78,11 @@ module _ (pr : Protocol) {p : Plan} (O : Obeys p) (es : List Event) (few : lengt
             (front_below (10 ^ 5) (omega arith) p.tasks ran.state.delay (λ t. omega (arith, R.bounded t, bound_word O t))),
         R.within,
       )
-      by (Verdict.Refused why place) h =
-          omega (arith, R.within, stopped_long ran.rows a (omega (arith, R.within)) small lazy eager delays why place h)
+      by (Err f) h =
+          omega (arith, R.within, stopped_long ran.rows a (omega (arith, R.within)) small lazy eager delays f.why f.place h)
 
 -- the text of a book whose events run
-ran_text : (pr : Protocol) (b : List ℕ) → check_of b row_space ≡ Verdict.Passed → length (text_of pr b) ≤ report_space
+ran_text : (pr : Protocol) (b : List ℕ) → check_of b row_space ≡ Ok tt → length (text_of pr b) ≤ report_space
 unfolding checked_as verdict_number
 ran_text pr b e = rw e (ran_fits pr (passed_obeys b row_space e) (events_of b) (few_events b (passed_contents b row_space e)) (replicate row_space 0) (ran_of pr b)
     (ran_of pr b).state.head.accepted ((replayed pr b (replicate row_space 0)).ran (rw rows_room (ap verdict_number e))))
@@ -91,12 +92,12 @@ pub text_fits : (pr : Protocol) (b : List ℕ) → length (text_of pr b) ≤ rep
 text_fits pr b = go (check_of b row_space) refl
   where
     go : (v : Verdict) → check_of b row_space ≡ v → length (text_of pr b) ≤ report_space
-    go Verdict.Passed e = ran_text pr b e
-    go (Verdict.Refused why place) e = rw (refused_text pr b why place e)
+    go (Ok _) e = ran_text pr b e
+    go (Err f) e = rw (refused_text pr b f.why f.place e)
         (omega (
           arith,
-          stopped_long (replicate row_space 0) 0 (omega arith) (λ k l. absurd (omega arith)) 0 0 (take 0 fresh_of.delay) why place
-              (omega (arith, place_few b row_space why place e)),
+          stopped_long (replicate row_space 0) 0 (omega arith) (λ k l. absurd (omega arith)) 0 0 (take 0 fresh_of.delay) f.why f.place
+              (omega (arith, place_few b row_space f.why f.place e)),
         ))
 
 -- ---- so the whole of it stands at the front of the buffer

@@ -1,4 +1,6 @@
 -- How long the report of a replay can be. Assumes nothing.
+use Rattle.std.specs.Prelude.{Ok}
+use Rattle.rules.specs.Numbers.Verdict.{refused_at}
 use mathlib.Core.Path.{◌≡◌, refl, ◌∙◌}
 use mathlib.Core.Logic.{◌≢◌}
 use mathlib.Core.List.{List, [], ◌∷◌, ◌++◌, map}
@@ -11,7 +13,6 @@ use Rattle.rules.specs.Numbers.Capacity.{max_tasks, nobody}
 use Rattle.rules.specs.Numbers.Place.{at}
 use Rattle.rules.specs.Numbers.Refusal.{number_of}
 use Rattle.rules.specs.declared.refusal.Refusal.{Refusal}
-use Rattle.rules.specs.declared.answer.Verdict.{Verdict}
 use Rattle.rules.proofs.Numbers.Choice.{if_true, if_false, by_test}
 use Rattle.rules.proofs.Numbers.Refusals.{numbered}
 use Rattle.rules.proofs.Demands.Sizes.{SmallRow}
@@ -99,10 +100,10 @@ delayed_long xs h = omega (arith, line_long delayed (map digits xs), list_long x
 
 module _ (rows : List ℕ) (n : ℕ) (few : n < 10 ^ 5) (small : (k : ℕ) → k < n → SmallAt rows k) (lazy eager : ℕ) (delays : List ℕ) where
   pub passed_long : lazy < 10 ^ 5 → eager < 10 ^ 5 → ((i : ℕ) → at delays i < 10 ^ 5)
-      → length (report_of Verdict.Passed n rows lazy eager delays) ≤ 55 + n * 20 + length delays * 6
+      → length (report_of (Ok tt) n rows lazy eager delays) ≤ 55 + n * 20 + length delays * 6
   unfolding report_of
   passed_long l e d = simp length-append (omega (arith, header_long, rows_long rows n few small, calls_long lazy eager l e, delayed_long delays d))
 
-  pub stopped_long : (why : Refusal) (place : ℕ) → place < 10 ^ 5 → length (report_of (Verdict.Refused why place) n rows lazy eager delays) ≤ 46 + n * 20
+  pub stopped_long : (why : Refusal) (place : ℕ) → place < 10 ^ 5 → length (report_of (refused_at why place) n rows lazy eager delays) ≤ 46 + n * 20
   unfolding report_of
   stopped_long why place h = simp length-append (omega (arith, header_long, rows_long rows n few small, refused_long why place h))

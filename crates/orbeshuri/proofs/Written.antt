@@ -1,4 +1,6 @@
 -- The text that the program writes. Assumes nothing.
+use Rattle.std.specs.Prelude.{Ok, Err}
+use Rattle.rules.specs.Numbers.Verdict.{Verdict, refused_at}
 use mathlib.Core.Path.{◌≡◌, refl, sym, ◌∙◌, ap}
 use mathlib.Core.Logic.{⊎_elim}
 use mathlib.Core.List.{List}
@@ -14,7 +16,6 @@ use Rattle.rules.specs.Schedulers.State.{fresh_of}
 use Rattle.rules.specs.declared.plan.Plan.{Plan}
 use Rattle.rules.specs.declared.protocol.Protocol.{Protocol}
 use Rattle.rules.specs.declared.refusal.Refusal.{Refusal}
-use Rattle.rules.specs.declared.answer.Verdict.{Verdict}
 use Rattle.rules.specs.declared.answer.Replayed.{Replayed}
 use Rattle.rules.proofs.Numbers.Choice.{lt_or_le}
 use Rattle.rules.proofs.Books.Cut.{cut_same, long_refused}
@@ -27,8 +28,8 @@ use Rattle.orbeshuri.specs.Text.{input_space, text_of}
 -- the plan of a book, or the blank one, has no more tasks than there are places
 tasks_by : (b : List ℕ) (room : ℕ) (v : Verdict) → check_of b room ≡ v → (checked_as v b).plan.tasks ≤ max_tasks
 unfolding checked_as
-tasks_by b room Verdict.Passed e = few_tasks (passed_obeys b room e)
-tasks_by b room (Verdict.Refused why place) e = omega arith
+tasks_by b room (Ok _) e = few_tasks (passed_obeys b room e)
+tasks_by b room (Err f) e = omega arith
 
 pub few_replayed : (b : List ℕ) (room : ℕ) (p : Plan) → p ≡ (checked_of b room).plan → p.tasks ≤ max_tasks
 few_replayed b room p e = rw e (tasks_by b room (check_of b room) refl)
@@ -54,8 +55,8 @@ text_is pr b rows r ran planned =
 -- ---- an input that is longer than the buffer
 
 -- the text of a refused book
-pub refused_text : (pr : Protocol) (b : List ℕ) (why : Refusal) (place : ℕ) → check_of b row_space ≡ Verdict.Refused why place
-    → text_of pr b ≡ report_of (Verdict.Refused why place) 0 (replicate row_space 0) 0 0 (take 0 fresh_of.delay)
+pub refused_text : (pr : Protocol) (b : List ℕ) (why : Refusal) (place : ℕ) → check_of b row_space ≡ refused_at why place
+    → text_of pr b ≡ report_of (refused_at why place) 0 (replicate row_space 0) 0 0 (take 0 fresh_of.delay)
 unfolding replay_of replay_as checked_as
 refused_text pr b why place e = rw (rows_room, e)
 

@@ -15,7 +15,7 @@ ghost use Rattle.orbeshuri.specs.Text.{report_space, text_of};
 use office::explain::explain;
 use office::space::text_room;
 use report::report;
-use rules::answer::Verdict;
+use rules::answer::Fault;
 use rules::capacity::{MAX_EVENTS, MAX_TASKS};
 use rules::protocol::Protocol;
 use rules::state::Head;
@@ -32,7 +32,7 @@ const REPORT_SPACE: usize = 262144;
 // The delays of the first n tasks are reported.
 fn report_state(
     out: &mut [u8],
-    verdict: Verdict,
+    verdict: Result<(), Fault>,
     rows: &[u8],
     head: Head,
     delay: [u16; MAX_TASKS],

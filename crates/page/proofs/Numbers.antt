@@ -1,4 +1,5 @@
 -- Laws of a number in decimal. Assumes nothing.
+use Rattle.std.specs.Prelude.{if◌then◌else◌}
 use mathlib.Core.Path.{◌≡◌, sym, ◌∙◌, ap}
 use mathlib.Core.List.{[], ◌∷◌, ◌++◌}
 use mathlib.Core.Logic.{⊎_elim}
@@ -8,7 +9,6 @@ use native.Mathlib.Omega.{arith}
 use lib.Dec.{ltb}
 use lib.ListN.{length, length-append}
 use borrow.Author.Tests.{lt-ltb, le-ltb}
-use Rattle.rules.specs.Numbers.Choice.{when◌then◌else◌}
 use Rattle.rules.proofs.Numbers.Choice.{if_true, if_false, lt_or_le}
 use Rattle.page.specs.Page.{Page, typed}
 use Rattle.page.specs.Decimal.{digit, digits_in, digits}
@@ -71,4 +71,4 @@ digits_few d n h = in_few (suc n) d n h
 -- and at least one
 pub digits_some : (n : ℕ) → 1 ≤ length (digits n)
 unfolding digits digits_in
-digits_some n = omega (arith, length-append (when ltb n 10 then [] else digits_in n (n / 10)) (digit (n % 10) ∷ []))
+digits_some n = omega (arith, length-append (if ltb n 10 then [] else digits_in n (n / 10)) (digit (n % 10) ∷ []))

@@ -1,6 +1,5 @@
 -- RULES 15: a text written into lent bytes; it is cut where they end. Assumes nothing.
-use Rattle.std.specs.Prelude.{List, [], ◌∷◌, ℕ, ◌+◌, ltb, length, set}
-use Rattle.rules.specs.Numbers.Choice.{when◌then◌else◌}
+use Rattle.std.specs.Prelude.{List, [], ◌∷◌, ℕ, ◌+◌, ltb, length, set, if◌then◌else◌}
 
 -- as the code goes along: the bytes, and the place that is next, which is at most their end
 pub record Page : Type 0 where
@@ -12,7 +11,7 @@ page bytes place = record { bytes = bytes; place = place }
 
 -- one byte more
 unfoldable pub put : Page → ℕ → Page
-put p b = page (set p.bytes p.place b) (when ltb p.place (length p.bytes) then p.place + 1 else p.place)
+put p b = page (set p.bytes p.place b) (if ltb p.place (length p.bytes) then p.place + 1 else p.place)
 
 -- a text, byte by byte
 unfoldable pub typed : Page → List ℕ → Page

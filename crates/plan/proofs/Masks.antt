@@ -1,4 +1,5 @@
 -- The loop that puts each use into its task's set. Assumes nothing.
+use Rattle.std.specs.Prelude.{if◌then◌else◌}
 use mathlib.Core.Path.{◌≡◌, ◌∙◌, ap}
 use mathlib.Core.List.{List}
 use Prim.Native.Nat.{ℕ, ◌+◌, ◌≤◌, ◌<◌}
@@ -9,7 +10,6 @@ use lib.ListN.{length, set}
 use borrow.Author.Tests.{lt-ltb}
 use Rattle.rules.specs.Numbers.Capacity.{max_tasks, max_locks}
 use Rattle.rules.specs.Numbers.Place.{at}
-use Rattle.rules.specs.Numbers.Choice.{when◌then◌else◌}
 use Rattle.rules.specs.Numbers.Mask.{with_bit}
 use Rattle.rules.specs.Books.Load.{use_task, use_lock, masks_of}
 use Rattle.rules.proofs.Numbers.Choice.{if_true}
@@ -41,7 +41,7 @@ module _ (uses : List ℕ) where
     lock_in_lem h b = rw lock (lock_placed max_tasks max_locks i w uses read h b)
 
     pub masks_next : (masks : List ℕ) (v : ℕ) → MasksSoFar i masks → i < length uses → Placed max_tasks max_locks uses
-        → v ≡ (when ltb l max_locks then with_bit (at masks t) l else at masks t) → MasksSoFar (i + 1) (set masks t v)
+        → v ≡ (if ltb l max_locks then with_bit (at masks t) l else at masks t) → MasksSoFar (i + 1) (set masks t v)
     unfolding masks_of
     masks_next masks v e h u g =
         let o : v ≡ with_bit (at masks t) l = g ∙ if_true (ltb l max_locks) (with_bit (at masks t) l) (at masks t) (lt-ltb l max_locks (lock_in_lem u h)) in

@@ -1,4 +1,6 @@
 -- The order of the load: each check is asked where those before it found no offender. Assumes nothing.
+use Rattle.std.specs.Prelude.{Ok, if◌then◌else◌}
+use Rattle.rules.specs.Numbers.Verdict.{Verdict, refused_at}
 use mathlib.Core.Path.{◌≡◌, refl, sym, ◌∙◌, ap}
 use mathlib.Core.List.{List}
 use Prim.Native.Nat.{ℕ, ◌+◌, ◌≤◌, ◌<◌}
@@ -6,14 +8,12 @@ use native.Mathlib.Omega.{arith}
 use lib.ListN.{length, replicate}
 use Rattle.rules.specs.Numbers.Capacity.{max_tasks, max_locks}
 use Rattle.rules.specs.Numbers.Place.{at, first_from, renewed, tabulate}
-use Rattle.rules.specs.Numbers.Choice.{when◌then◌else◌}
 use Rattle.rules.specs.Numbers.Refusal.{number_of, first_fault, check_for}
 use Rattle.rules.specs.Books.Plan.{ceiling_fault}
 use Rattle.rules.specs.Books.Load.{task_base, task_maximum, lock_ceiling, lock_limit, count_fault_of, task_fault_at, lock_fault_at, use_fault, use_above}
 use Rattle.rules.specs.Books.Load.{masks_of, plan_of, record_checks, load_checks, passed_load, refused_load, loaded_as, load_of}
 use Rattle.rules.specs.declared.plan.Plan.{Plan}
-use Rattle.rules.specs.declared.answer.Verdict.{Verdict}
-use Rattle.rules.specs.declared.answer.Loaded.{Loaded}
+use Rattle.rules.specs.Books.Load.{Loaded}
 use Rattle.rules.specs.declared.refusal.Refusal.{Refusal}
 use Rattle.rules.specs.declared.refusal.Refusal.TheVariants.{WrongCount, WrongTask, WrongLock, WrongUse, WrongCeiling, AboveMaximum}
 use Rattle.rules.proofs.Numbers.Place.{first_same, renewed_table, none_past}
@@ -55,29 +55,29 @@ as_plan tasks locks uses base maximum ceiling limit masks few a b c d e = rw (
 
 -- e, t, l and u are their first offenders
 module _ (tasks locks uses : List ℕ) (e : ℕ) (count : e ≡ first_from (count_fault_of (length tasks) (length locks) (length uses)) 0 3) where
-  pub wrong_count : e < 3 → Verdict.Refused WrongCount (e + 1) ≡ first_fault (record_checks tasks locks uses)
+  pub wrong_count : e < 3 → refused_at WrongCount (e + 1) ≡ first_fault (record_checks tasks locks uses)
   unfolding record_checks
-  wrong_count h = sym (check_finds _ _ e count h ∙ ap (Verdict.Refused WrongCount) (omega arith))
+  wrong_count h = sym (check_finds _ _ e count h ∙ ap (refused_at WrongCount) (omega arith))
 
   module _ (counts : 3 ≤ e) (t : ℕ) (task : t ≡ first_from (task_fault_at tasks) 0 (length tasks)) where
-    pub wrong_task : t < length tasks → Verdict.Refused WrongTask t ≡ first_fault (record_checks tasks locks uses)
+    pub wrong_task : t < length tasks → refused_at WrongTask t ≡ first_fault (record_checks tasks locks uses)
     unfolding record_checks
-    wrong_task h = sym (check_passes _ _ e count counts ∙ check_finds _ _ t task h ∙ ap (Verdict.Refused WrongTask) (omega arith))
+    wrong_task h = sym (check_passes _ _ e count counts ∙ check_finds _ _ t task h ∙ ap (refused_at WrongTask) (omega arith))
 
     module _ (tasked : length tasks ≤ t) (l : ℕ) (lock : l ≡ first_from (lock_fault_at locks) 0 (length locks)) where
-      pub wrong_lock : l < length locks → Verdict.Refused WrongLock l ≡ first_fault (record_checks tasks locks uses)
+      pub wrong_lock : l < length locks → refused_at WrongLock l ≡ first_fault (record_checks tasks locks uses)
       unfolding record_checks
       wrong_lock h = sym (check_passes _ _ e count counts ∙ check_passes _ _ t task tasked ∙ check_finds _ _ l lock h
-          ∙ ap (Verdict.Refused WrongLock) (omega arith))
+          ∙ ap (refused_at WrongLock) (omega arith))
 
       module _ (locked : length locks ≤ l) (u : ℕ) (use' : u ≡ first_from (use_fault (length tasks) (length locks) uses) 0 (length uses)) where
-        pub wrong_use : u < length uses → Verdict.Refused WrongUse u ≡ first_fault (record_checks tasks locks uses)
+        pub wrong_use : u < length uses → refused_at WrongUse u ≡ first_fault (record_checks tasks locks uses)
         unfolding record_checks
         wrong_use h = sym
             (check_passes _ _ e count counts ∙ check_passes _ _ t task tasked ∙ check_passes _ _ l lock locked ∙ check_finds _ _ u use' h
-            ∙ ap (Verdict.Refused WrongUse) (omega arith))
+            ∙ ap (refused_at WrongUse) (omega arith))
 
-        pub no_wrong : length uses ≤ u → Verdict.Passed ≡ first_fault (record_checks tasks locks uses)
+        pub no_wrong : length uses ≤ u → Ok tt ≡ first_fault (record_checks tasks locks uses)
         unfolding record_checks
         no_wrong h = sym (check_passes _ _ e count counts ∙ check_passes _ _ t task tasked ∙ check_passes _ _ l lock locked ∙ check_passes _ _ u use' h
             ∙ check_none)
@@ -89,24 +89,24 @@ module _ (tasks locks uses : List ℕ) (v : Verdict) (said : v ≡ first_fault (
   abbrev p : Plan
   p = plan_of tasks locks uses
 
-  pub refused_record_lem : (why : Refusal) (place : ℕ) (r : Loaded) → v ≡ Verdict.Refused why place → r ≡ refused_load why place → r ≡ load_of tasks locks uses
+  pub refused_record_lem : (why : Refusal) (place : ℕ) (r : Loaded) → v ≡ refused_at why place → r ≡ refused_load why place → r ≡ load_of tasks locks uses
   unfolding load_of loaded_as load_checks
   refused_record_lem why place r e h = h ∙ ap (λ w. loaded_as w p) (sym (check_left (record_checks tasks locks uses) _ why place (sym said ∙ e)))
 
-  module _ (passed : v ≡ Verdict.Passed) where
+  module _ (passed : v ≡ Ok tt) where
     clean : (why : Refusal) → Clean (check_for why (record_checks tasks locks uses))
     clean = clean_for (record_checks tasks locks uses) (sym said ∙ passed)
 
     pub few_tasks : length tasks ≤ max_tasks
-    unfolding record_checks check_for number_of when◌then◌else◌
+    unfolding record_checks check_for number_of
     few_tasks = tasks_fit (length tasks) (length locks) (length uses) (clean WrongCount 0 (omega arith))
 
     pub few_locks : length locks ≤ max_locks
-    unfolding record_checks check_for number_of when◌then◌else◌
+    unfolding record_checks check_for number_of
     few_locks = locks_fit (length tasks) (length locks) (length uses) (clean WrongCount 1 (omega arith))
 
     pub known : Placed (length tasks) (length locks) uses
-    unfolding record_checks check_for number_of when◌then◌else◌ Placed
+    unfolding record_checks check_for number_of Placed
     known i b = use_known (length tasks) (length locks) uses i (clean WrongUse i b)
 
     pub placed : Placed max_tasks max_locks uses
@@ -136,7 +136,7 @@ module _ (tasks locks uses : List ℕ) (v : Verdict) (said : v ≡ first_fault (
             g
             ∙ ap (λ w. loaded_as w p)
             (sym (check_right (record_checks tasks locks uses) _ (sym said ∙ passed) ∙ check_finds _ _ c first h
-            ∙ ap (Verdict.Refused WrongCeiling) (omega arith)))
+            ∙ ap (refused_at WrongCeiling) (omega arith)))
 
         -- u is the first use of a lock above its task's maximum
         module _ (right : length locks ≤ c) (u : ℕ) (above : u ≡ first_from (use_above tasks locks uses) 0 (length uses)) where
@@ -146,7 +146,7 @@ module _ (tasks locks uses : List ℕ) (v : Verdict) (said : v ≡ first_fault (
               g
               ∙ ap (λ w. loaded_as w p)
               (sym (check_right (record_checks tasks locks uses) _ (sym said ∙ passed) ∙ check_passes _ _ c first right ∙ check_finds _ _ u above h
-              ∙ ap (Verdict.Refused AboveMaximum) (omega arith)))
+              ∙ ap (refused_at AboveMaximum) (omega arith)))
 
           pub all_right : (r : Loaded) → length uses ≤ u → r ≡ passed_load q → r ≡ load_of tasks locks uses
           unfolding load_of loaded_as load_checks

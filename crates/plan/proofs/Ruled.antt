@@ -1,4 +1,5 @@
 -- The ways through the test of a plan that is handed in. Assumes nothing.
+use Rattle.std.specs.Prelude.{if◌then◌else◌}
 use mathlib.Core.Path.{◌≡◌, refl, sym, ◌∙◌, ap}
 use mathlib.Core.Bool.{Bool, true, false, not, ◌||◌}
 use mathlib.Core.List.{List, [], ◌∷◌}
@@ -11,7 +12,7 @@ use lib.Pow.{pow-lt}
 use borrow.Author.Tests.{eq-eqb, ne_eqb, lt-ltb, le-ltb, ltb-false}
 use Rattle.rules.proofs.Numbers.Choice.{or_false, all_next}
 use Rattle.rules.specs.Numbers.Capacity.{max_tasks, max_locks}
-use Rattle.rules.specs.Numbers.Choice.{when◌then◌else◌, all_true}
+use Rattle.rules.specs.Numbers.Choice.{all_true}
 use Rattle.rules.specs.Books.Plan.{most, count_fault, task_fault, lock_fault, declares, above_fault}
 use Rattle.rules.specs.Numbers.Mask.{has_bit}
 use Rattle.rules.specs.Numbers.Place.{at, every, zeros}
@@ -21,17 +22,17 @@ use Rattle.plan.specs.Lent.{users_top, shared_by, above_by, task_by, lock_by, sp
 use Rattle.plan.proofs.Users.{ceiling_said, ceiling_same}
 
 last : (t : Bool) → t ≡ all_true (t ∷ [])
-unfolding all_true when◌then◌else◌
+unfolding all_true
 last true = refl
 last false = refl
 
 -- counts that pass
 pub tasks_fit : (r : Bool) (n : ℕ) → r ≡ count_fault 0 n → r ≡ false → n ≤ max_tasks
-unfolding count_fault most when◌then◌else◌
+unfolding count_fault most
 tasks_fit r n d e = ltb-false max_tasks n (or_false (eqb n 0) (ltb max_tasks n) (sym d ∙ e)).1
 
 pub locks_fit : (r : Bool) (m : ℕ) → r ≡ count_fault 1 m → r ≡ false → m ≤ max_locks
-unfolding count_fault most when◌then◌else◌
+unfolding count_fault most
 locks_fit r m d e = ltb-false max_locks m (sym d ∙ e)
 
 -- a task with base b, maximum c and set of locks u, where there are m locks
@@ -40,15 +41,15 @@ module _ (b c u m : ℕ) where
   task_all = all_true (not (task_fault b c) ∷ ltb b (2 ^ 8) ∷ ltb c (2 ^ 8) ∷ ltb u (2 ^ m) ∷ [])
 
   pub task_unbased : b ≡ 0 → false ≡ task_all
-  unfolding task_fault all_true when◌then◌else◌
+  unfolding task_fault all_true
   task_unbased e = rw (eq-eqb b 0 e)
 
   pub task_below : (b ≡ 0 → ⊥) → c < b → false ≡ task_all
-  unfolding task_fault all_true when◌then◌else◌
+  unfolding task_fault all_true
   task_below n h = rw (ne_eqb b 0 n, lt-ltb c b h)
 
   pub task_based : (b ≡ 0 → ⊥) → b ≤ c → b < 2 ^ 8 → c < 2 ^ 8 → m ≤ max_locks → ltb u (1 * 2 ^ m % 2 ^ 64) ≡ task_all
-  unfolding task_fault all_true when◌then◌else◌
+  unfolding task_fault all_true
   task_based n o h k l =
       let q : 2 ^ m < 2 ^ 64 = (let k : m < 64 = omega arith in pow-lt k) in
       rw (ne_eqb b 0 n, le-ltb c b o, lt-ltb b (2 ^ 8) h, lt-ltb c (2 ^ 8) k, one-mul (2 ^ m), mod-eq_of_lt q) (last (ltb u (2 ^ m)))
@@ -59,20 +60,20 @@ module _ (c u : ℕ) (w v : Bool) where
   lock_all = all_true (not (lock_fault c 0 u) ∷ ltb c (2 ^ 8) ∷ ltb u (2 ^ 16) ∷ not w ∷ not v ∷ [])
 
   pub lock_unceiled : c ≡ 0 → false ≡ lock_all
-  unfolding lock_fault all_true when◌then◌else◌
+  unfolding lock_fault all_true
   lock_unceiled e = rw (eq-eqb c 0 e)
 
   pub lock_unlimited : (c ≡ 0 → ⊥) → u ≡ 0 → false ≡ lock_all
-  unfolding lock_fault all_true when◌then◌else◌
+  unfolding lock_fault all_true
   lock_unlimited n e = rw (ne_eqb c 0 n, eq-eqb u 0 e)
 
   module _ (n : c ≡ 0 → ⊥) (z : u ≡ 0 → ⊥) (a : c < 2 ^ 8) (b : u < 2 ^ 16) where
     pub lock_wrong : w ≡ true → false ≡ lock_all
-    unfolding lock_fault all_true when◌then◌else◌
+    unfolding lock_fault all_true
     lock_wrong e = rw (ne_eqb c 0 n, ne_eqb u 0 z, lt-ltb c (2 ^ 8) a, lt-ltb u (2 ^ 16) b, e)
 
     pub lock_limited : w ≡ false → not v ≡ lock_all
-    unfolding lock_fault all_true when◌then◌else◌
+    unfolding lock_fault all_true
     lock_limited e = rw (ne_eqb c 0 n, ne_eqb u 0 z, lt-ltb c (2 ^ 8) a, lt-ltb u (2 ^ 16) b, e) (last (not v))
 
 -- the test of lock l, of ceiling c and limit u; top and v are what its users say, and w is what 7 says

@@ -1,5 +1,6 @@
 -- 7 and 24 by the arrays: the locks that two tasks may take are those with two users or more, and a user's maximum is below the ceiling where the least one is.
 -- Assumes nothing.
+use Rattle.std.specs.Prelude.{if◌then◌else◌}
 use mathlib.Core.Path.{◌≡◌, refl, sym, ◌∙◌, ap, ap₂}
 use mathlib.Core.Bool.{Bool, true, false, not, ◌&&◌, ◌||◌}
 use mathlib.Core.List.{List}
@@ -10,7 +11,6 @@ use native.Mathlib.Omega.{arith}
 use lib.Bits.{bit_and, bit_or}
 use lib.Dec.{eqb, leb, ltb}
 use borrow.Author.Tests.{le-leb, lt-leb, lt-ltb, le-ltb}
-use Rattle.rules.specs.Numbers.Choice.{when◌then◌else◌}
 use Rattle.rules.specs.Numbers.Mask.{has_bit}
 use Rattle.rules.specs.Numbers.Place.{at, count}
 use Rattle.rules.specs.Books.Plan.{declares, users, users_base, users_fault, ceiling_fault, maximum_fault}
@@ -42,13 +42,11 @@ shared_ends uses n i used shared (l, u, s) h = let q : i ≡ n = omega arith in 
 -- ---- what it comes to
 
 -- one task more, who is a user or not
-one_more : (c : ℕ) (t : Bool) → (leb 1 c || t) ≡ leb 1 (when t then c + 1 else c)
-unfolding when◌then◌else◌
+one_more : (c : ℕ) (t : Bool) → (leb 1 c || t) ≡ leb 1 (if t then c + 1 else c)
 one_more c true = by_test (leb 1 c) (λ e. rw e (sym (le-leb 1 (c + 1) (omega arith)))) (λ e. rw e (sym (le-leb 1 (c + 1) (omega arith))))
 one_more c false = by_test (leb 1 c) (λ e. rw e) (λ e. rw e)
 
-two_more : (c : ℕ) (t : Bool) → (leb 2 c || (leb 1 c && t)) ≡ leb 2 (when t then c + 1 else c)
-unfolding when◌then◌else◌
+two_more : (c : ℕ) (t : Bool) → (leb 2 c || (leb 1 c && t)) ≡ leb 2 (if t then c + 1 else c)
 two_more c true = ⊎_elim
     (λ (q : c < 1). rw (lt-leb 2 c (omega arith), lt-leb 1 c q, lt-leb 2 (c + 1) (omega arith)))
     (λ (q : 1 ≤ c). rw (le-leb 1 c q, le-leb 2 (c + 1) (omega arith)) (by_test (leb 2 c) (λ e. rw e) (λ e. rw e)))
@@ -101,8 +99,8 @@ above_either k a b = ⊎_elim
     (lt_or_le k (max a b))
 
 -- of one task: b says that it is a user, and m is its maximum
-gap_here : (b : Bool) (m c : ℕ) → m < 256 → c < 256 → ltb (255 - c) (when b then 255 - m else 0) ≡ (b && maximum_fault m c)
-unfolding maximum_fault when◌then◌else◌
+gap_here : (b : Bool) (m c : ℕ) → m < 256 → c < 256 → ltb (255 - c) (if b then 255 - m else 0) ≡ (b && maximum_fault m c)
+unfolding maximum_fault
 gap_here true m c h k = ⊎_elim
     (λ (q : m < c). rw (lt-ltb (255 - c) (255 - m) (omega arith), lt-ltb m c q))
     (λ (q : c ≤ m). rw (le-ltb (255 - c) (255 - m) (omega arith), le-ltb m c q))
@@ -110,10 +108,10 @@ gap_here true m c h k = ⊎_elim
 gap_here false m c h k = le-ltb (255 - c) 0 (omega arith)
 
 -- r is how far the ceiling c is below 255, v and m belong to task i, and g is v if that is a user
-pub gap_said : (i l c r set m v g : ℕ) (maximum uses : List ℕ) → g ≡ (when has_bit set l then v else 0) → set ≡ at uses i → v ≡ 255 - m → m ≡ at maximum i
+pub gap_said : (i l c r set m v g : ℕ) (maximum uses : List ℕ) → g ≡ (if has_bit set l then v else 0) → set ≡ at uses i → v ≡ 255 - m → m ≡ at maximum i
     → m < 256 → r ≡ 255 - c → c < 256 → ltb r g ≡ (has_bit (at uses i) l && maximum_fault (at maximum i) c)
 gap_said i l c r set m v g maximum uses q a s b small e top =
-    ap₂ ltb e (q ∙ ap (λ z. when has_bit set l then z else 0) s) ∙ gap_here (has_bit set l) m c small top ∙ rw (a, b)
+    ap₂ ltb e (q ∙ ap (λ z. if has_bit set l then z else 0) s) ∙ gap_here (has_bit set l) m c small top ∙ rw (a, b)
 
 -- what is asked of the greatest so far is asked of each
 module _ (f : ℕ → Bool) (n r : ℕ) where

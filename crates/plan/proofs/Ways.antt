@@ -1,4 +1,5 @@
 -- The ways through a test that is said with "or": the code's returns, one law each. Assumes nothing.
+use Rattle.std.specs.Prelude.{if◌then◌else◌}
 use mathlib.Core.Path.{◌≡◌}
 use mathlib.Core.Bool.{Bool, true, false, not, ◌||◌, and-true, and-false, or-false}
 use mathlib.Core.List.{List}
@@ -6,7 +7,6 @@ use Prim.Native.Nat.{ℕ, ◌-◌, ◌≤◌, ◌<◌}
 use lib.Dec.{eqb, leb, ltb}
 use borrow.Author.Tests.{eq-eqb, ne_eqb, le-leb, lt-leb, lt-ltb, le-ltb}
 use native.Mathlib.Omega.{arith}
-use Rattle.rules.specs.Numbers.Choice.{when◌then◌else◌}
 use Rattle.rules.specs.Numbers.Place.{at}
 use Rattle.rules.specs.Numbers.Mask.{has_bit}
 use Rattle.rules.specs.Books.Plan.{most, count_fault, task_fault, lock_fault, maximum_fault}
@@ -88,6 +88,6 @@ module _ (n m i : ℕ) (uses : List ℕ) where
   )
 
 -- the test of an entry, of the count that is its own
-pub count_said : (n m u e c : ℕ) (r : Bool) → c ≡ (when eqb e 0 then n else when eqb e 1 then m else u) → r ≡ count_fault e c → r ≡ count_fault_of n m u e
+pub count_said : (n m u e c : ℕ) (r : Bool) → c ≡ (if eqb e 0 then n else if eqb e 1 then m else u) → r ≡ count_fault e c → r ≡ count_fault_of n m u e
 unfolding count_fault_of
 count_said n m u e c r g h = rw (← g) h

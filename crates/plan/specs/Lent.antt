@@ -1,7 +1,7 @@
 -- RULES 3 and 13.4: the tests of a plan, and what its bounds are made of, by the arrays that the code is lent for each. Assumes nothing.
-use Rattle.std.specs.Prelude.{Bool, not, ◌&&◌, List, [], ◌∷◌, ℕ, zero, suc, ◌^◌, leb, ltb, drop}
+use Rattle.std.specs.Prelude.{Bool, not, ◌&&◌, List, [], ◌∷◌, ℕ, zero, suc, ◌^◌, leb, ltb, drop, if◌then◌else◌}
 use Rattle.std.specs.Int.Bits.{bit_and, bit_or}
-use Rattle.rules.specs.Numbers.Choice.{when◌then◌else◌, all_true}
+use Rattle.rules.specs.Numbers.Choice.{all_true}
 use Rattle.rules.specs.Numbers.Place.{at, every, any, count, greatest, zeros}
 use Rattle.rules.specs.Numbers.Mask.{has_bit}
 use Rattle.rules.specs.Books.Plan.{task_fault, lock_fault, users_fault, maximum_fault}
@@ -14,7 +14,7 @@ users_by n uses l = count (λ x. has_bit (at uses x) l) n
 
 -- the greatest base of those that may, and 0 without any
 unfoldable pub users_top : ℕ → List ℕ → List ℕ → ℕ → ℕ
-users_top n base uses l = greatest (λ x. when has_bit (at uses x) l then at base x else 0) n
+users_top n base uses l = greatest (λ x. if has_bit (at uses x) l then at base x else 0) n
 
 -- 7, of lock l
 unfoldable pub wrong_ceiling : ℕ → List ℕ → List ℕ → List ℕ → ℕ → Bool
@@ -80,4 +80,4 @@ blocks_by n base ceiling uses b l = leb b (at ceiling l) && any (lower_by base u
 
 -- the limit of such a lock
 unfoldable pub limit_by : ℕ → List ℕ → List ℕ → List ℕ → List ℕ → ℕ → ℕ → ℕ
-limit_by n base ceiling limit uses b l = when blocks_by n base ceiling uses b l then at limit l else 0
+limit_by n base ceiling limit uses b l = if blocks_by n base ceiling uses b l then at limit l else 0

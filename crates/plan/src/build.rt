@@ -7,7 +7,7 @@ ghost use Rattle.rules.specs.Books.Load.{task_base, task_maximum, lock_ceiling, 
 
 use crate::record::{lock_ceiling, lock_limit, task_base, task_maximum, use_lock, use_task};
 use figures::mask::with_bit;
-use rules::answer::{Loaded, Verdict};
+use rules::answer::{Fault, Loaded};
 use rules::capacity::{MAX_LOCKS, MAX_TASKS};
 use rules::plan::{Plan, blank};
 use rules::refusal::Refusal;
@@ -18,7 +18,7 @@ pub fn refused(why: Refusal, place: usize) -> Loaded
 {
     let plan = blank();
     Loaded {
-        verdict: Verdict::Refused(why, place),
+        verdict: Err(Fault { why, place }),
         plan: plan,
     }
 }
@@ -27,7 +27,7 @@ pub fn loaded(plan: Plan) -> Loaded
     ensures { result ≡ passed_load plan }
 {
     Loaded {
-        verdict: Verdict::Passed,
+        verdict: Ok(()),
         plan: plan,
     }
 }

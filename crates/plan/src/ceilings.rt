@@ -1,7 +1,6 @@
 // 7: a lock has fewer than two users, or its ceiling is not the highest base of its users.
-ghost use Rattle.std.specs.Prelude.{◌≡◌, not, ◌||◌, ◌<◌, ◌≤◌, eqb};
+ghost use Rattle.std.specs.Prelude.{◌≡◌, not, ◌||◌, ◌<◌, ◌≤◌, eqb, if◌then◌else◌};
 ghost use Rattle.rules.specs.Numbers.Capacity.{max_tasks, max_locks};
-ghost use Rattle.rules.specs.Numbers.Choice.{when◌then◌else◌};
 ghost use Rattle.rules.specs.Numbers.Place.{first_from};
 ghost use Rattle.rules.specs.Numbers.Mask.{has_bit};
 ghost use Rattle.plan.specs.Lent.{shared_by, users_top, wrong_ceiling};
@@ -30,7 +29,7 @@ pub fn shared_locks(n: usize, uses: &[u32; MAX_TASKS]) -> u32
 
 // A number of a task that may take the locks of this set, if lock l is one of them, and 0 if not.
 pub fn if_user(number: u8, uses: u32, l: u8) -> u8
-    ensures { result ≡ (when has_bit uses l then number else 0) }
+    ensures { result ≡ (if has_bit uses l then number else 0) }
 {
     if has_bit(uses, l) {
         return number;

@@ -1,6 +1,5 @@
 // The first offender of 2, 4, 5 and 6; where there is none, the number of records.
-ghost use Rattle.std.specs.Prelude.{◌≡◌, ◌<◌, eqb, length};
-ghost use Rattle.rules.specs.Numbers.Choice.{when◌then◌else◌};
+ghost use Rattle.std.specs.Prelude.{◌≡◌, ◌<◌, eqb, length, if◌then◌else◌};
 ghost use Rattle.rules.specs.Numbers.Place.{first_from};
 ghost use Rattle.rules.specs.Books.Plan.{task_fault, lock_fault};
 ghost use Rattle.rules.specs.Books.Load.{task_base, task_maximum, lock_ceiling, lock_second, lock_limit, use_key};
@@ -11,11 +10,11 @@ use crate::count::count_fault;
 use crate::record::{
     lock_ceiling, lock_limit, lock_second, task_base, task_maximum, use_lock, use_task,
 };
-use rules::answer::Verdict;
+use rules::answer::Fault;
 use rules::refusal::Refusal;
 
 fn count_of(n: usize, m: usize, u: usize, e: usize) -> usize
-    ensures { result ≡ (when eqb e 0 then n else when eqb e 1 then m else u) }
+    ensures { result ≡ (if eqb e 0 then n else if eqb e 1 then m else u) }
 {
     if e == 0 {
         return n;
@@ -130,26 +129,26 @@ fn first_use(n: usize, m: usize, uses: &[u16]) -> usize
 }
 
 // 2, 4, 5 and 6, in this order, each at its first offender.
-pub fn first_record(tasks: &[u16], locks: &[u32], uses: &[u16]) -> Verdict
+pub fn first_record(tasks: &[u16], locks: &[u32], uses: &[u16]) -> Result<(), Fault>
     ensures { result ≡ first_fault (record_checks tasks.now locks.now uses.now) }
 {
     let n = tasks.len();
     let m = locks.len();
     let e = first_count(n, m, uses.len());
     if e < 3 {
-        return Verdict::Refused(Refusal::WrongCount, e + 1);
+        return Err(Fault { why: Refusal::WrongCount, place: e + 1 });
     }
     let t = first_task(tasks);
     if t < n {
-        return Verdict::Refused(Refusal::WrongTask, t);
+        return Err(Fault { why: Refusal::WrongTask, place: t });
     }
     let l = first_lock(locks);
     if l < m {
-        return Verdict::Refused(Refusal::WrongLock, l);
+        return Err(Fault { why: Refusal::WrongLock, place: l });
     }
     let u = first_use(n, m, uses);
     if u < uses.len() {
-        return Verdict::Refused(Refusal::WrongUse, u);
+        return Err(Fault { why: Refusal::WrongUse, place: u });
     }
-    Verdict::Passed
+    Ok(())
 }

@@ -16,7 +16,7 @@ ghost use Rattle.rules.specs.Books.Load.{load_of};
 ghost use Rattle.rules.specs.Demands.Bound.{bound_of};
 ghost use Rattle.rules.specs.Soundness.SoundTest as SoundTest;
 
-use rules::answer::{Loaded, Verdict};
+use rules::answer::{Fault, Loaded};
 use rules::plan::Plan;
 use rules::refusal::Refusal;
 
@@ -27,8 +27,8 @@ pub fn load(tasks: &[u16], locks: &[u32], uses: &[u16]) -> Loaded
 {
     let verdict = faults::first_record(tasks, locks, uses);
     match verdict {
-        Verdict::Refused(why, place) => build::refused(why, place),
-        Verdict::Passed => {
+        Err(Fault { why, place }) => build::refused(why, place),
+        Ok(()) => {
             let plan = build::built(tasks, locks, uses);
             let c = ceilings::first_ceiling(plan);
             if c < locks.len() {

@@ -1,4 +1,6 @@
 -- RULES 19.10: what `show` writes for an accepted book is read again as that book, and is no longer than a text may be. Assumes nothing.
+use Rattle.std.specs.Prelude.{Ok, if◌then◌else◌}
+use Rattle.rules.specs.Numbers.Verdict.{Verdict}
 use mathlib.Core.Path.{◌≡◌, refl, ◌∙◌, ap}
 use mathlib.Core.Logic.{◌≢◌}
 use mathlib.Core.Bool.{◌&&◌}
@@ -10,7 +12,6 @@ use lib.ListN.{length, replicate, length-append, length-replicate}
 use borrow.Author.Tests.{le-ltb, lt-ltb, eqb-true, eqb-false, ltb-true, ltb-false}
 use Rattle.rules.specs.Numbers.Answer.{verdict_number}
 use Rattle.rules.specs.Numbers.Capacity.{nobody, max_tasks, max_locks, max_uses, max_events}
-use Rattle.rules.specs.Numbers.Choice.{when◌then◌else◌}
 use Rattle.rules.specs.Numbers.Place.{at}
 use Rattle.rules.specs.Numbers.Refusal.{number_of, check_for}
 use Rattle.rules.specs.Books.Plan.{most, count_fault}
@@ -19,7 +20,6 @@ use Rattle.rules.specs.Books.Bytes.{Bytes}
 use Rattle.rules.specs.Books.Write.{write_of}
 use Rattle.rules.specs.Demands.Written.{WrittenBack}
 use Rattle.rules.specs.Demands.Replayed.{RanUpTo}
-use Rattle.rules.specs.declared.answer.Verdict.{Verdict}
 use Rattle.rules.specs.declared.protocol.Protocol.TheVariants.{Second}
 use Rattle.rules.specs.declared.refusal.Refusal.TheVariants.{WrongCount}
 use Rattle.rules.proofs.Numbers.Choice.{if_true, if_false, by_test, or_false}
@@ -46,19 +46,19 @@ use Rattle.promises.proofs.ShownLength.{space_for, filled_long, one_few, task_lo
 head_long : (text : List ℕ) (n : ℕ) → n < 100000 → space_for 5 text ≤ 30 → length (filled text (n ∷ [])) ≤ 30
 head_long text n l h = omega (arith, filled_long 5 text (n ∷ []) (one_few n l), h)
 
-module _ (b : List ℕ) (B : Bytes b) (passed : check_of b row_space ≡ Verdict.Passed) where
+module _ (b : List ℕ) (B : Bytes b) (passed : check_of b row_space ≡ Ok tt) where
   -- no more records than there may be
   counts : (e : ℕ) → e < 4 → count_at b e ≤ most e
-  unfolding contents_checks check_for number_of count_fault when◌then◌else◌
+  unfolding contents_checks check_for number_of count_fault
   counts e l = ltb-false (most e) (count_at b e)
       (or_false (eqb e 0 && eqb (count_at b e) 0) (ltb (most e) (count_at b e)) (clean_for (contents_checks b) (passed_contents b row_space passed) WrongCount e l)).1
 
   few : (count_at b 0 ≤ max_tasks) × (count_at b 1 ≤ max_locks) × (count_at b 2 ≤ max_uses) × (count_at b 3 ≤ max_events)
-  unfolding most when◌then◌else◌
+  unfolding most
   few = (counts 0 (omega arith), counts 1 (omega arith), counts 2 (omega arith), counts 3 (omega arith))
 
   tasks_long : length (task_part b (count_at b 0)) ≤ 30 + count_at b 0 * 25
-  unfolding task_part task_lines ascii space_for when◌then◌else◌
+  unfolding task_part task_lines ascii space_for
   tasks_long = omega (
     arith,
     length-append (filled (ascii "# @ tasks: base, maximum\n") (count_at b 0 ∷ [])) (each (λ k. task_line k (task_in b k)) (count_at b 0)),
@@ -68,7 +68,7 @@ module _ (b : List ℕ) (B : Bytes b) (passed : check_of b row_space ≡ Verdict
   )
 
   locks_long : length (lock_part b (count_at b 1)) ≤ 30 + count_at b 1 * 25
-  unfolding lock_part lock_lines ascii space_for when◌then◌else◌
+  unfolding lock_part lock_lines ascii space_for
   locks_long = omega (
     arith,
     length-append (filled (ascii "# @ locks: ceiling, limit\n") (count_at b 1 ∷ [])) (each (λ k. lock_line k (lock_in b k)) (count_at b 1)),
@@ -78,7 +78,7 @@ module _ (b : List ℕ) (B : Bytes b) (passed : check_of b row_space ≡ Verdict
   )
 
   uses_long : length (use_part b (count_at b 2)) ≤ 30 + count_at b 2 * 24
-  unfolding use_part use_lines ascii space_for when◌then◌else◌
+  unfolding use_part use_lines ascii space_for
   uses_long = omega (
     arith,
     length-append (filled (ascii "# @ uses: task, lock\n") (count_at b 2 ∷ [])) (each (λ k. use_line k (use_in b k)) (count_at b 2)),
@@ -91,7 +91,7 @@ module _ (b : List ℕ) (B : Bytes b) (passed : check_of b row_space ≡ Verdict
   module _ (v : Verdict) (a : ℕ) (rs : List ℕ) (small : (k : ℕ) → k < a → (at rs (k * 4) < 100000) × (at rs (k * 4 + 1) < 100000)) where
     -- one of them may have a longer comment
     extra : ℕ → ℕ
-    extra k = when ltb a k then 91 else 0
+    extra k = if ltb a k then 91 else 0
 
     most_extra : (k : ℕ) → extra k ≤ 91
     unfolding extra
@@ -116,7 +116,7 @@ module _ (b : List ℕ) (B : Bytes b) (passed : check_of b row_space ≡ Verdict
         (λ f. rw (if_false {A = ℕ} (ltb a k) 91 0 f) (omega (arith, h))))
 
     events_long : length (event_part b v a rs (count_at b 3)) ≤ 30 + count_at b 3 * 54 + 91
-    unfolding event_part event_lines ascii space_for when◌then◌else◌
+    unfolding event_part event_lines ascii space_for
     events_long = omega (
       arith,
       length-append (filled (ascii "# @ events\n") (count_at b 3 ∷ [])) (each (λ k. event_line (event_in b k) (comment_of v a rs k)) (count_at b 3)),
@@ -181,7 +181,7 @@ module _ (b : List ℕ) (B : Bytes b) (passed : check_of b row_space ≡ Verdict
     same : written (lines_of (shown_of b)) buffer ≡ write_of (tasks_of b) (locks_of b) (uses_of b) (event_numbers_of b) buffer
     same = rw (read_tasks b passed B, read_locks b passed B, read_uses b passed B, read_events b passed B)
 
-    composed : compose_of (shown_of b) buffer ≡ composed_as Verdict.Passed (read_lines (shown_of b)) (write_of (tasks_of b) (locks_of b) (uses_of b) (event_numbers_of b) buffer)
+    composed : compose_of (shown_of b) buffer ≡ composed_as (Ok tt) (read_lines (shown_of b)) (write_of (tasks_of b) (locks_of b) (uses_of b) (event_numbers_of b) buffer)
     unfolding compose_of composed_by composed_records
     composed = if_false (ltb text_space (length (shown_of b))) _ _ (le-ltb text_space (length (shown_of b)) fits)
         ∙ ap (λ f. composed_by f (shown_of b) buffer) (read_right b passed B)

@@ -1,11 +1,11 @@
 -- What a host in another language is answered is what the library's own functions answer, in numbers; so whatever is promised of these holds for the host.
 -- Assumes nothing.
+use Rattle.std.specs.Prelude.{if◌then◌else◌}
 use mathlib.Core.Path.{◌≡◌, refl, sym, ◌∙◌, ap}
 use mathlib.Core.Bool.{true, false}
 use Prim.Native.Nat.{ℕ}
 use contract.Lifetimes.{Lfts}
 use lib.ListN.{length}
-use Rattle.rules.specs.Numbers.Choice.{when◌then◌else◌}
 use Rattle.rules.specs.Books.Event.{event_of}
 use Rattle.rules.specs.Books.Write.{Wrote, wrote_with}
 use Rattle.rules.specs.Books.Book.{checked_of}
@@ -14,7 +14,7 @@ use Rattle.rules.specs.Replays.Run.{Ran}
 use Rattle.rules.specs.Replays.Replay.{ran_as, replay_of}
 use Rattle.rules.specs.declared.plan.Plan.{Plan}
 use Rattle.rules.specs.declared.state.State.{State}
-use Rattle.rules.specs.declared.answer.Checked.{Checked}
+use Rattle.rules.specs.Books.Book.{Checked}
 use Rattle.rules.specs.declared.answer.Stepped.{Stepped}
 use Rattle.rules.specs.declared.answer.Replayed.{Replayed}
 use Rattle.rules.specs.declared.answer.Written.{Written}
@@ -66,10 +66,8 @@ module _ (number : ℕ) (p : Plan) (s : State) (kind id amount : ℕ) (r : Devic
   pub step_for_host : (q : Stepped) → no_event kind id amount ≡ false
       → step.Post tt (protocol_named number, (p, (s, (event_of kind id amount, tt)))) q (protocol_named number, (p, (s, (event_of kind id amount, tt))))
       → r ≡ step_spelled q
-  unfolding when◌then◌else◌
   step_for_host q e k = h ∙ rw e (ap step_spelled (sym k))
 
   -- and others, which are refused with 8 and leave the state
   pub no_step_for_host : no_event kind id amount ≡ true → r ≡ not_stepped s
-  unfolding when◌then◌else◌
   no_step_for_host e = h ∙ rw e refl

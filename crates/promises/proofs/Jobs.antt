@@ -1,10 +1,11 @@
 -- What is promised of the reading of a job, said of the code. Assumes nothing.
+use Rattle.std.specs.Prelude.{Ok}
+use Rattle.rules.specs.Numbers.Verdict.{Verdict, refused_at}
 use mathlib.Core.Path.{◌≡◌, sym, ◌∙◌, ap}
 use mathlib.Core.List.{List}
 use Prim.Native.Nat.{ℕ}
 use contract.Lifetimes.{Lfts}
 use lib.ListN.{length}
-use Rattle.rules.specs.declared.answer.Verdict.{Verdict}
 use Rattle.rules.specs.declared.refusal.Refusal.TheVariants.{WrongJob, ShortSpace}
 use Rattle.jobs.specs.Grammar.{events_of}
 use Rattle.jobs.specs.Job.{job_verdict, job_answer, ReadInto, read_with, with_events, job_of}
@@ -31,9 +32,9 @@ module _ (text space : List ℕ) (r : Job) (after : List ℕ) (h : read_with r a
 
   keeps : JobRead text space r after
   keeps = record {
-    written = λ b g e l. as_said Verdict.Passed (length (events_of b)) (with_events (events_of b) space) (ap (λ t. job_of t space) (sym e) ∙ kept.written b space g l);
-    no_space = λ b g e l. as_said (Verdict.Refused ShortSpace 0) 0 space (ap (λ t. job_of t space) (sym e) ∙ kept.no_space b space g l);
-    unfit = λ f. let (n, p, e) = kept.unfit text space f in (n, p, as_said (Verdict.Refused WrongJob n) 0 space e);
+    written = λ b g e l. as_said (Ok tt) (length (events_of b)) (with_events (events_of b) space) (ap (λ t. job_of t space) (sym e) ∙ kept.written b space g l);
+    no_space = λ b g e l. as_said (refused_at ShortSpace 0) 0 space (ap (λ t. job_of t space) (sym e) ∙ kept.no_space b space g l);
+    unfit = λ f. let (n, p, e) = kept.unfit text space f in (n, p, as_said (refused_at WrongJob n) 0 space e);
     accepted = λ e. let (b, g, t, f) = kept.accepted text (length space) (sym told ∙ e) in (b, g, t);
     placed = λ n e. kept.placed text (length space) n (sym told ∙ e);
   }

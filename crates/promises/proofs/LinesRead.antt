@@ -1,4 +1,5 @@
 -- What the reader of a text makes of a line that is shown. Assumes nothing.
+use Rattle.std.specs.Prelude.{if◌then◌else◌}
 use mathlib.Core.Path.{◌≡◌, refl, sym, ◌∙◌, ap}
 use mathlib.Core.Bool.{Bool, true, false, not, ◌&&◌}
 use mathlib.Core.List.{List, [], ◌∷◌, ◌++◌, map, append_assoc}
@@ -8,7 +9,6 @@ use lib.Dec.{eqb, ltb}
 use lib.ListN.{length, take, drop, length-append}
 use lib.Seq.{take-append_seam, drop-append_seam, drop-append-add, take-length}
 use borrow.Author.Tests.{lt-ltb, le-ltb, ne_eqb, eqb-true, not-true}
-use Rattle.rules.specs.Numbers.Choice.{when◌then◌else◌}
 use Rattle.rules.specs.Numbers.Place.{at}
 use Rattle.rules.proofs.Numbers.Choice.{if_true, if_false, and_true, untrue, by_test}
 use Rattle.page.specs.Decimal.{digits}
@@ -60,7 +60,7 @@ nothing_trim = refl
 -- ---- one line, and those after it
 
 line_first : (w rest : List ℕ) → all quiet w ≡ true → lines_of ((w ++ newline ∷ []) ++ rest) ≡ w ∷ lines_of rest
-unfolding all lines_of longer when◌then◌else◌
+unfolding all lines_of longer
 line_first [] rest h = refl
 line_first (c ∷ w) rest h =
     let (a, b) = and_true (quiet c) (all quiet w) h in
@@ -108,7 +108,7 @@ whole w h = by_test (eqb (length w) 0)
 
 -- a comment alone
 pub comment_blank : (y : List ℕ) → all quiet (hash ∷ y) ≡ true → line_of (hash ∷ y) ≡ Line.Blank
-unfolding line_of words_line up_to until spaces_of when◌then◌else◌
+unfolding line_of words_line up_to until spaces_of
 comment_blank y h = ap (λ w. words_line (trimmed (before hash w))) (whole (hash ∷ y) h)
 
 -- ---- a record's line: its name, a space, its numbers, and a comment
@@ -138,7 +138,7 @@ module _ (name xs y : List ℕ) where
     up_to_lem = until_there (λ c. eqb c space) name space xs ns refl
 
     one_space : spaces_of (space ∷ xs) ≡ 1
-    unfolding spaces_of until when◌then◌else◌
+    unfolding spaces_of until
     one_space = ap suc xt
 
     passed : drop (word_length words) words ≡ xs
@@ -186,7 +186,7 @@ module _ (kind : Kind) (w v : ℕ) (more : List ℕ) (has : w < fields_of kind) 
       ∙ ap (number_of (most_of kind w)) (ap (λ k. take k bytes) ends ∙ take-append_seam (digits v) (space ∷ more)) ∙ number_read (most_of kind w) v l s
 
   spaced : spaces_of (space ∷ more) ≡ 1
-  unfolding spaces_of until when◌then◌else◌
+  unfolding spaces_of until
   spaced = ap suc t
 
   pub field_after : after_field kind w bytes ≡ more

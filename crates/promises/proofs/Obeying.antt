@@ -10,8 +10,8 @@ use Rattle.rules.specs.Numbers.Place.{at}
 use Rattle.rules.specs.Books.Plan.{declares, Shared, Obeys}
 use Rattle.rules.specs.Books.Load.{load_of}
 use Rattle.rules.specs.declared.plan.Plan.{Plan}
-use Rattle.rules.specs.declared.answer.Checked.{Checked}
-use Rattle.rules.specs.declared.answer.Loaded.{Loaded}
+use Rattle.rules.specs.Books.Book.{Checked}
+use Rattle.rules.specs.Books.Load.{Loaded}
 use Rattle.device.specs.Table.{numbers_of}
 use Rattle.device.specs.Device.{load_spelled}
 use Rattle.device.specs.declared.table.TaskRecord.{TaskRecord}

@@ -16,9 +16,9 @@ use Rattle.rules.specs.declared.state.State.{State}
 use Rattle.rules.specs.declared.event.Event.{Event}
 use Rattle.rules.specs.declared.priority.KernelPriority.{KernelPriority}
 use Rattle.rules.specs.declared.priority.UserPriority.{UserPriority}
-use Rattle.rules.specs.declared.answer.Checked.{Checked}
+use Rattle.rules.specs.Books.Book.{Checked}
 use Rattle.rules.specs.declared.answer.Found.{Found}
-use Rattle.rules.specs.declared.answer.Loaded.{Loaded}
+use Rattle.rules.specs.Books.Load.{Loaded}
 use Rattle.rules.specs.declared.answer.Stepped.{Stepped}
 use Rattle.rules.specs.declared.answer.Replayed.{Replayed}
 use Rattle.rules.specs.declared.answer.Written.{Written}

@@ -1,4 +1,6 @@
 -- RULES 19.10: reading what `show` writes gives the same records, for every accepted book, and composing it the same bytes. Assumes nothing.
+use Rattle.std.specs.Prelude.{Ok, Err, if◌then◌else◌}
+use Rattle.rules.specs.Numbers.Verdict.{Verdict}
 use mathlib.Core.Path.{◌≡◌, refl, sym, ◌∙◌, ap}
 use mathlib.Core.Bool.{Bool, true, false, not, ◌&&◌, ◌||◌}
 use mathlib.Core.List.{List, [], ◌∷◌, ◌++◌, map, append_assoc, append-nil}
@@ -8,7 +10,6 @@ use lib.Dec.{eqb, leb, ltb}
 use lib.ListN.{length}
 use borrow.Author.Tests.{le-leb, le-ltb, eqb-true, ltb-false, not-true, not-false, ne_eqb, eq-eqb}
 use Rattle.rules.specs.Numbers.Answer.{verdict_number}
-use Rattle.rules.specs.Numbers.Choice.{when◌then◌else◌}
 use Rattle.rules.specs.Numbers.Place.{at, from, tabulate}
 use Rattle.rules.specs.Numbers.Refusal.{number_of, first_fault, check_for}
 use Rattle.rules.specs.Books.Event.{number_fault}
@@ -18,7 +19,6 @@ use Rattle.rules.specs.Books.Book.{contents, word, long, count_at, size_of, body
 use Rattle.rules.specs.Books.Bytes.{Bytes}
 use Rattle.rules.specs.Books.Write.{whole_checks, write_checks, wrote_as, write_of}
 use Rattle.rules.specs.Demands.Written.{WrittenBack}
-use Rattle.rules.specs.declared.answer.Verdict.{Verdict}
 use Rattle.rules.specs.declared.protocol.Protocol.TheVariants.{Second}
 use Rattle.rules.specs.declared.refusal.Refusal.TheVariants.{ShortBook, WrongLayout, WrongLock, WrongEvent}
 use Rattle.rules.proofs.Numbers.Choice.{if_true, if_false, or_false, and_true, true_and, untrue}
@@ -217,19 +217,19 @@ byte_word b B i = omega (arith, B i, B (i + 1))
 pub byte_long : (b : List ℕ) → Bytes b → (i : ℕ) → long b i < 4294967296
 byte_long b B i = omega (arith, byte_word b B i, byte_word b B (i + 2))
 
-module _ (b : List ℕ) (passed : check_of b row_space ≡ Verdict.Passed) where
+module _ (b : List ℕ) (passed : check_of b row_space ≡ Ok tt) where
   whole : contents ≤ length b
-  unfolding contents_checks check_for number_of when◌then◌else◌
+  unfolding contents_checks check_for number_of
   whole = ltb-false (length b) contents (clean_for (contents_checks b) (passed_contents b row_space passed) ShortBook 0 (omega arith))
 
   ends_there : body_at b 4 ≡ length b
-  unfolding contents_checks check_for number_of layout_fault when◌then◌else◌
+  unfolding contents_checks check_for number_of layout_fault
   ends_there = eqb-true (body_at b 4) (length b) (not-false (eqb (body_at b 4) (length b))
       (clean_for (contents_checks b) (passed_contents b row_space passed) WrongLayout 4 (omega arith)))
 
   pub spans : (body_at b 1 ≡ body_at b 0 + count_at b 0 * 2) × (body_at b 2 ≡ body_at b 1 + count_at b 1 * 4) × (body_at b 3 ≡ body_at b 2 + count_at b 2 * 2)
       × (length b ≡ body_at b 3 + count_at b 3 * 4)
-  unfolding body_at size_of when◌then◌else◌
+  unfolding body_at size_of
   spans = (refl, refl, refl, sym ends_there)
 
   body_is : (e : ℕ) → e ≤ 3 → body_in b e ≡ body_at b e
@@ -274,15 +274,15 @@ module _ (b : List ℕ) (passed : check_of b row_space ≡ Verdict.Passed) where
 
     verdict_as : (v : Verdict) (c buffer : List ℕ) → (wrote_as v c buffer).verdict ≡ v
     unfolding wrote_as
-    verdict_as Verdict.Passed c buffer = refl
-    verdict_as (Verdict.Refused why place) c buffer = refl
+    verdict_as (Ok _) c buffer = refl
+    verdict_as (Err f) c buffer = refl
 
-    pub clean : first_fault (write_checks (tasks_of b) (locks_of b) (uses_of b) (event_numbers_of b) (length b)) ≡ Verdict.Passed
+    pub clean : first_fault (write_checks (tasks_of b) (locks_of b) (uses_of b) (event_numbers_of b) (length b)) ≡ Ok tt
     unfolding write_of
     clean = sym (verdict_as (first_fault (write_checks (tasks_of b) (locks_of b) (uses_of b) (event_numbers_of b) (length b))) _ b) ∙ none_refused_at _ written.accepted
 
     pub second_none : (k : ℕ) → k < count_at b 1 → lock_second (lock_in b k) ≡ 0
-    unfolding write_checks whole_checks load_checks record_checks check_for number_of when◌then◌else◌ lock_fault_at lock_fault
+    unfolding write_checks whole_checks load_checks record_checks check_for number_of lock_fault_at lock_fault
     second_none k l =
         let f : lock_fault_at (locks_of b) k ≡ false = clean_for (write_checks (tasks_of b) (locks_of b) (uses_of b) (event_numbers_of b) (length b)) clean WrongLock k
         (omega (arith, length_from (λ i. long b (body_at b 1 + i * 4)) 0 (count_at b 1))) in
@@ -292,7 +292,7 @@ module _ (b : List ℕ) (passed : check_of b row_space ≡ Verdict.Passed) where
         ap lock_second (sym here) ∙ eqb-true (lock_second (at (locks_of b) k)) 0 (not-false (eqb (lock_second (at (locks_of b) k)) 0) g)
 
     pub event_right : (k : ℕ) → k < count_at b 3 → number_fault (event_in b k) ≡ false
-    unfolding write_checks whole_checks load_checks record_checks check_for number_of when◌then◌else◌
+    unfolding write_checks whole_checks load_checks record_checks check_for number_of
     event_right k l =
         let f : number_fault (at (event_numbers_of b) k) ≡ false = clean_for (write_checks (tasks_of b) (locks_of b) (uses_of b) (event_numbers_of b) (length b)) clean WrongEvent k
         (omega (arith, length_from (λ i. long b (body_at b 3 + i * 4)) 0 (count_at b 3))) in
@@ -301,21 +301,21 @@ module _ (b : List ℕ) (passed : check_of b row_space ≡ Verdict.Passed) where
 
     -- the four parts
     task_lines_lem : Reads (task_part b (count_at b 0)) (Line.Blank ∷ rows 0 (task_in b) (count_at b 0))
-    unfolding task_part task_lines ascii last_line nothing when◌then◌else◌
+    unfolding task_part task_lines ascii last_line nothing
     task_lines_lem = rw (filled_byte hash (ascii " @ tasks: base, maximum\n") (count_at b 0 ∷ []) refl)
         (part_reads (filled (ascii " @ tasks: base, maximum\n") (count_at b 0 ∷ [])) (λ k. task_line k (task_in b k)) 0 (task_in b) (count_at b 0)
         (filled_ends (ascii " @ tasks: base, maximum\n") (count_at b 0 ∷ []) refl)
         (λ k l. reads_task k (task_in b k) (omega (arith, task_is k l, byte_word b B (body_at b 0 + k * 2)))))
 
     lock_lines_lem : Reads (lock_part b (count_at b 1)) (Line.Blank ∷ rows 1 (lock_in b) (count_at b 1))
-    unfolding lock_part lock_lines ascii last_line nothing when◌then◌else◌
+    unfolding lock_part lock_lines ascii last_line nothing
     lock_lines_lem = rw (filled_byte hash (ascii " @ locks: ceiling, limit\n") (count_at b 1 ∷ []) refl)
         (part_reads (filled (ascii " @ locks: ceiling, limit\n") (count_at b 1 ∷ [])) (λ k. lock_line k (lock_in b k)) 1 (lock_in b) (count_at b 1)
         (filled_ends (ascii " @ locks: ceiling, limit\n") (count_at b 1 ∷ []) refl)
         (λ k l. reads_lock k (lock_in b k) (omega (arith, lock_is k l, byte_long b B (body_at b 1 + k * 4))) (second_none k l)))
 
     use_lines_lem : Reads (use_part b (count_at b 2)) (Line.Blank ∷ rows 2 (use_in b) (count_at b 2))
-    unfolding use_part use_lines ascii last_line nothing when◌then◌else◌
+    unfolding use_part use_lines ascii last_line nothing
     use_lines_lem = rw (filled_byte hash (ascii " @ uses: task, lock\n") (count_at b 2 ∷ []) refl)
         (part_reads (filled (ascii " @ uses: task, lock\n") (count_at b 2 ∷ [])) (λ k. use_line k (use_in b k)) 2 (use_in b) (count_at b 2)
         (filled_ends (ascii " @ uses: task, lock\n") (count_at b 2 ∷ []) refl)
@@ -323,7 +323,7 @@ module _ (b : List ℕ) (passed : check_of b row_space ≡ Verdict.Passed) where
 
     module _ (v : Verdict) (a : ℕ) (rs : List ℕ) where
       event_lines_lem : Reads (event_part b v a rs (count_at b 3)) (Line.Blank ∷ rows 3 (event_in b) (count_at b 3))
-      unfolding event_part event_lines ascii last_line nothing when◌then◌else◌
+      unfolding event_part event_lines ascii last_line nothing
       event_lines_lem = rw (filled_byte hash (ascii " @ events\n") (count_at b 3 ∷ []) refl)
           (part_reads (filled (ascii " @ events\n") (count_at b 3 ∷ [])) (λ k. event_line (event_in b k) (comment_of v a rs k)) 3 (event_in b) (count_at b 3)
           (filled_ends (ascii " @ events\n") (count_at b 3 ∷ []) refl)
@@ -352,7 +352,7 @@ module _ (b : List ℕ) (passed : check_of b row_space ≡ Verdict.Passed) where
     text_lines : read_lines (shown_of b) ≡ said
     unfolding shown_of shown_as lines_of
     text_lines = ap (λ w. read_lines (shown_as w b)) passed
-        ∙ ap read_lines (sym (append-nil (shown_as Verdict.Passed b)))
+        ∙ ap read_lines (sym (append-nil (shown_as (Ok tt) b)))
         ∙ parts_read (ran_of Second b).verdict (ran_of Second b).state.head.accepted (ran_of Second b).rows []
         ∙ append-nil said
 

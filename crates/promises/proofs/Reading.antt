@@ -13,7 +13,7 @@ use contract.Monad.{Fun, fact, fact_mono}
 use lib.ListN.{drop}
 use Rattle.rules.specs.Numbers.Answer.{verdict_number}
 use Rattle.rules.specs.Books.Book.{found_at, checked_of}
-use Rattle.rules.specs.declared.answer.Checked.{Checked}
+use Rattle.rules.specs.Books.Book.{Checked}
 use Rattle.rules.specs.declared.answer.Found.{Found}
 use Rattle.rules.proofs.Books.Passes.{check_passes}
 use Rattle.book.specs.Reader.{ReadAt}

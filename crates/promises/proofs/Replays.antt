@@ -15,7 +15,7 @@ use Rattle.rules.specs.Demands.Replayed.{RanUpTo, BookReaches, Compared}
 use Rattle.rules.specs.declared.plan.Plan.{Plan}
 use Rattle.rules.specs.declared.protocol.Protocol.{Protocol}
 use Rattle.rules.specs.declared.protocol.Protocol.TheVariants.{Second, First}
-use Rattle.rules.specs.declared.answer.Checked.{Checked}
+use Rattle.rules.specs.Books.Book.{Checked}
 use Rattle.rules.specs.declared.answer.Replayed.{Replayed}
 use Rattle.rules.proofs.Demands.Replayed.{replayed, both_replayed}
 use Rattle.plan.proofs.bound.Reads as bound

@@ -1,4 +1,6 @@
 -- How long the text of an accepted book can be. Assumes nothing.
+use Rattle.std.specs.Prelude.{Ok, Err, if◌then◌else◌}
+use Rattle.rules.specs.Numbers.Verdict.{Verdict}
 use mathlib.Core.Path.{◌≡◌, refl}
 use mathlib.Core.Logic.{◌≢◌}
 use mathlib.Core.Bool.{false}
@@ -10,14 +12,12 @@ use lib.ListN.{length, drop, length-append}
 use lib.Seq.{get_or-drop}
 use borrow.Author.Tests.{eqb-true, ltb-true}
 use Rattle.rules.specs.Numbers.Capacity.{nobody, max_tasks, max_locks, max_uses, max_events, max_accepted, max_takes}
-use Rattle.rules.specs.Numbers.Choice.{when◌then◌else◌}
 use Rattle.rules.specs.Numbers.Place.{at}
 use Rattle.rules.specs.Numbers.Refusal.{number_of}
 use Rattle.rules.specs.Books.Event.{id_of, amount_of, number_fault, number_event}
 use Rattle.rules.specs.Books.Load.{task_base, task_maximum, lock_ceiling, lock_second, lock_limit, use_task, use_lock}
 use Rattle.rules.specs.declared.event.Event.{Event}
 use Rattle.rules.specs.declared.refusal.Refusal.{Refusal}
-use Rattle.rules.specs.declared.answer.Verdict.{Verdict}
 use Rattle.rules.proofs.Numbers.Choice.{if_true, if_false, by_test}
 use Rattle.rules.proofs.Numbers.Refusals.{numbered}
 use Rattle.page.specs.Ascii.{ascii}
@@ -33,7 +33,7 @@ use Rattle.office.specs.Show.{each, stop_comment, comment_of}
 -- its bytes, with w for each number
 unfoldable pub space_for : ℕ → List ℕ → ℕ
 space_for w [] = 0
-space_for w (c ∷ cs) = when eqb c mark then w + space_for w cs else suc (space_for w cs)
+space_for w (c ∷ cs) = if eqb c mark then w + space_for w cs else suc (space_for w cs)
 
 -- numbers of so many digits
 abbrev pub Few : ℕ → List ℕ → Type 0
@@ -76,15 +76,15 @@ three_few a b c h g f = few_one 5 a (b ∷ c ∷ []) (five a h) (two_few b c g f
 -- ---- the lines of the plan
 
 pub task_long : (k w : ℕ) → k < 100000 → w < 65536 → length (task_line k w) ≤ 25
-unfolding task_line ascii space_for when◌then◌else◌
+unfolding task_line ascii space_for
 task_long k w l h = filled_long 5 (ascii "task @ @ # @\n") (task_base w ∷ task_maximum w ∷ k ∷ []) (three_few (task_base w) (task_maximum w) k (omega arith) (omega arith) l)
 
 pub use_long : (k w : ℕ) → k < 100000 → w < 65536 → length (use_line k w) ≤ 24
-unfolding use_line ascii space_for when◌then◌else◌
+unfolding use_line ascii space_for
 use_long k w l h = filled_long 5 (ascii "use @ @ # @\n") (use_task w ∷ use_lock w ∷ k ∷ []) (three_few (use_task w) (use_lock w) k (omega arith) (omega arith) l)
 
 lock_words_long : (k w : ℕ) → k < 100000 → length (filled (ascii "lock @ @ # @\n") (lock_ceiling w ∷ lock_limit w ∷ k ∷ [])) ≤ 25
-unfolding ascii space_for when◌then◌else◌
+unfolding ascii space_for
 lock_words_long k w l = filled_long 5 (ascii "lock @ @ # @\n") (lock_ceiling w ∷ lock_limit w ∷ k ∷ []) (three_few (lock_ceiling w) (lock_limit w) k (omega arith) (omega arith) l)
 
 pub lock_long : (k w : ℕ) → k < 100000 → lock_second w ≡ 0 → length (lock_line k w) ≤ 25
@@ -94,7 +94,7 @@ lock_long k w l z = rw (if_true (eqb (lock_second w) 0) _ _ (rw z refl)) (lock_w
 -- ---- an event
 
 words_long : (e : Event) → id_of e < 100000 → amount_of e < 100000 → length (event_words e) ≤ 13
-unfolding event_words ascii space_for when◌then◌else◌ id_of amount_of
+unfolding event_words ascii space_for id_of amount_of
 words_long (Event.Release t) h g = filled_long 5 (ascii "release @") (t ∷ []) (one_few t h)
 words_long (Event.Acquire l) h g = filled_long 5 (ascii "acquire @") (l ∷ []) (one_few l h)
 words_long (Event.Unlock l) h g = omega (arith, filled_long 5 (ascii "unlock @") (l ∷ []) (one_few l h))
@@ -110,15 +110,15 @@ event_long w c m h i a l = rw (if_false (number_fault w) _ _ h) (omega (arith, l
 -- its comment
 
 unreached_long : (n : ℕ) → n < 100000 → length (unreached n) ≤ 28
-unfolding unreached ascii space_for when◌then◌else◌
+unfolding unreached ascii space_for
 unreached_long n h = filled_long 5 (ascii " # event @: not reached\n") (n ∷ []) (one_few n h)
 
 idle_long : (n task user : ℕ) → n < 100000 → task < 100000 → user < 100000 → length (filled (ascii " # event @: nobody runs\n") (n ∷ task ∷ user ∷ [])) ≤ 28
-unfolding ascii space_for when◌then◌else◌
+unfolding ascii space_for
 idle_long n task user h g f = filled_long 5 (ascii " # event @: nobody runs\n") (n ∷ task ∷ user ∷ []) (three_few n task user h g f)
 
 busy_long : (n task user : ℕ) → n < 100000 → task < 100000 → user < 100000 → length (filled (ascii " # event @: task @ runs at @\n") (n ∷ task ∷ user ∷ [])) ≤ 41
-unfolding ascii space_for when◌then◌else◌
+unfolding ascii space_for
 busy_long n task user h g f = filled_long 5 (ascii " # event @: task @ runs at @\n") (n ∷ task ∷ user ∷ []) (three_few n task user h g f)
 
 ran_long : (n task user : ℕ) → n < 100000 → task < 100000 → user < 100000 → length (ran_comment n task user) ≤ 41
@@ -128,7 +128,7 @@ ran_long n task user h g f = by_test (eqb task nobody)
     (λ e. rw (if_false (eqb task nobody) _ _ e) (busy_long n task user h g f))
 
 meaning_long : (why : Refusal) → length (meaning_of why) ≤ 100
-unfolding meaning_of ascii space_for when◌then◌else◌
+unfolding meaning_of ascii space_for
 meaning_long Refusal.ShortBook = omega arith
 meaning_long Refusal.WrongCount =
     omega (
@@ -163,7 +163,7 @@ meaning_long Refusal.WrongJob = omega arith
 meaning_long Refusal.ShortSpace = omega arith
 
 refused_head_long : (n r : ℕ) → n < 100000 → r < 100000 → length (filled (ascii " # event @: refused @: ") (n ∷ r ∷ [])) ≤ 31
-unfolding ascii space_for when◌then◌else◌
+unfolding ascii space_for
 refused_head_long n r h g = filled_long 5 (ascii " # event @: refused @: ") (n ∷ r ∷ []) (two_few n r h g)
 
 refused_long : (n : ℕ) (why : Refusal) → n < 100000 → length (refused_comment n why) ≤ 132
@@ -178,8 +178,8 @@ refused_long n why h = omega (
 
 stop_long : (v : Verdict) (n : ℕ) → n < 100000 → length (stop_comment v n) ≤ 132
 unfolding stop_comment
-stop_long Verdict.Passed n h = omega (arith, unreached_long n h)
-stop_long (Verdict.Refused why place) n h = refused_long n why h
+stop_long (Ok _) n h = omega (arith, unreached_long n h)
+stop_long (Err f) n h = refused_long n f.why h
 
 -- the comment of event k, which is the one that was refused, or another one
 module _ (v : Verdict) (a : ℕ) (rows : List ℕ) (k : ℕ) (few : k + 1 < 100000) (small : k < a → (at rows (k * 4) < 100000) × (at rows (k * 4 + 1) < 100000)) where

@@ -1,4 +1,6 @@
 -- Each line that is shown reads as the record that it shows, or as nothing. Assumes nothing.
+use Rattle.std.specs.Prelude.{Ok, Err, if◌then◌else◌}
+use Rattle.rules.specs.Numbers.Verdict.{Verdict}
 use mathlib.Core.Path.{◌≡◌, refl, sym, ◌∙◌, ap}
 use mathlib.Core.Bool.{Bool, true, false, not, ◌&&◌}
 use mathlib.Core.List.{List, [], ◌∷◌, ◌++◌, append_assoc, append-nil}
@@ -8,14 +10,12 @@ use lib.Dec.{eqb, leb, ltb}
 use lib.ListN.{length, drop}
 use borrow.Author.Tests.{eqb-true, not-false, ne_eqb, lt-leb}
 use Rattle.rules.specs.Numbers.Capacity.{nobody, max_tasks, max_locks, max_uses, max_events, max_accepted, max_takes}
-use Rattle.rules.specs.Numbers.Choice.{when◌then◌else◌}
 use Rattle.rules.specs.Numbers.Place.{at}
 use Rattle.rules.specs.Numbers.Refusal.{number_of}
 use Rattle.rules.specs.Books.Event.{kind_of, id_of, amount_of, event_fault, event_of, record_kind, record_id, record_amount, number_fault, number_event, event_number}
 use Rattle.rules.specs.Books.Load.{task_base, task_maximum, lock_ceiling, lock_second, lock_limit, use_task, use_lock}
 use Rattle.rules.specs.declared.event.Event.{Event}
 use Rattle.rules.specs.declared.refusal.Refusal.{Refusal}
-use Rattle.rules.specs.declared.answer.Verdict.{Verdict}
 use Rattle.rules.proofs.Numbers.Choice.{if_true, if_false, by_test, and_true, true_and, untrue, either}
 use Rattle.page.specs.Ascii.{ascii}
 use Rattle.page.specs.Decimal.{digits}
@@ -63,7 +63,7 @@ nothing (c ∷ cs) = false
 
 unfoldable pub last_line : List ℕ → Bool
 last_line [] = false
-last_line (c ∷ cs) = when eqb c newline then nothing cs else quiet c && last_line cs
+last_line (c ∷ cs) = if eqb c newline then nothing cs else quiet c && last_line cs
 
 no_more : (cs : List ℕ) → nothing cs ≡ true → cs ≡ []
 unfolding nothing
@@ -185,50 +185,50 @@ module _ (name : List ℕ) (kind : Kind) (N : Name name kind) (t : List ℕ) (E 
 -- ---- the names
 
 task_name : Name (ascii "task") Kind.Task
-unfolding ascii kind_named same when◌then◌else◌ all has_items
+unfolding ascii kind_named same all has_items
 task_name = record { is = refl; some = omega arith; still = refl; bares = refl; solids = refl; alone = refl }
 
 lock_name : Name (ascii "lock") Kind.Lock
-unfolding ascii kind_named same when◌then◌else◌ all has_items
+unfolding ascii kind_named same all has_items
 lock_name = record { is = refl; some = omega arith; still = refl; bares = refl; solids = refl; alone = refl }
 
 use_name : Name (ascii "use") Kind.Use
-unfolding ascii kind_named same when◌then◌else◌ all has_items
+unfolding ascii kind_named same all has_items
 use_name = record { is = refl; some = omega arith; still = refl; bares = refl; solids = refl; alone = refl }
 
 release_name : Name (ascii "release") Kind.Release
-unfolding ascii kind_named event_named same when◌then◌else◌ all has_items
+unfolding ascii kind_named event_named same all has_items
 release_name = record { is = refl; some = omega arith; still = refl; bares = refl; solids = refl; alone = refl }
 
 acquire_name : Name (ascii "acquire") Kind.Acquire
-unfolding ascii kind_named event_named same when◌then◌else◌ all has_items
+unfolding ascii kind_named event_named same all has_items
 acquire_name = record { is = refl; some = omega arith; still = refl; bares = refl; solids = refl; alone = refl }
 
 unlock_name : Name (ascii "unlock") Kind.Unlock
-unfolding ascii kind_named event_named same when◌then◌else◌ all has_items
+unfolding ascii kind_named event_named same all has_items
 unlock_name = record { is = refl; some = omega arith; still = refl; bares = refl; solids = refl; alone = refl }
 
 work_name : Name (ascii "work") Kind.Work
-unfolding ascii kind_named event_named same when◌then◌else◌ all has_items
+unfolding ascii kind_named event_named same all has_items
 work_name = record { is = refl; some = omega arith; still = refl; bares = refl; solids = refl; alone = refl }
 
 finish_name : Name (ascii "finish") Kind.Finish
-unfolding ascii kind_named event_named same when◌then◌else◌ all has_items
+unfolding ascii kind_named event_named same all has_items
 finish_name = record { is = refl; some = omega arith; still = refl; bares = refl; solids = refl; alone = refl }
 
 tick_name : Name (ascii "tick") Kind.Tick
-unfolding ascii kind_named event_named same when◌then◌else◌ all has_items
+unfolding ascii kind_named event_named same all has_items
 tick_name = record { is = refl; some = omega arith; still = refl; bares = refl; solids = refl; alone = refl }
 
 -- ---- tasks, locks and uses
 
 -- the number of the record, in a comment
 counted : (k : ℕ) → Ends (filled (ascii " @\n") (k ∷ []))
-unfolding ascii last_line nothing when◌then◌else◌
+unfolding ascii last_line nothing
 counted k = filled_ends (ascii " @\n") (k ∷ []) refl
 
 pub reads_task : (k w : ℕ) → w < 65536 → Reads (task_line k w) (Line.Record 0 w ∷ [])
-unfolding task_line ascii filled when◌then◌else◌ fields_of most_of part_of record_of
+unfolding task_line ascii filled fields_of most_of part_of record_of
 reads_task k w l rest =
     let e : task_base w + task_maximum w * 256 ≡ w = omega arith in
     reads_two_numbers (ascii "task") Kind.Task task_name (filled (ascii " @\n") (k ∷ [])) (counted k) (task_base w) (task_maximum w) refl
@@ -236,7 +236,7 @@ reads_task k w l rest =
     ∙ ap (λ x. Line.Record 0 x ∷ read_lines rest) e
 
 pub reads_use : (k w : ℕ) → w < 65536 → Reads (use_line k w) (Line.Record 2 w ∷ [])
-unfolding use_line ascii filled when◌then◌else◌ fields_of most_of part_of record_of
+unfolding use_line ascii filled fields_of most_of part_of record_of
 reads_use k w l rest =
     let e : use_task w + use_lock w * 256 ≡ w = omega arith in
     reads_two_numbers (ascii "use") Kind.Use use_name (filled (ascii " @\n") (k ∷ [])) (counted k) (use_task w) (use_lock w) refl
@@ -244,7 +244,7 @@ reads_use k w l rest =
     ∙ ap (λ x. Line.Record 2 x ∷ read_lines rest) e
 
 lock_words : (k w : ℕ) → w < 4294967296 → lock_second w ≡ 0 → Reads (filled (ascii "lock @ @ # @\n") (lock_ceiling w ∷ lock_limit w ∷ k ∷ [])) (Line.Record 1 w ∷ [])
-unfolding ascii filled when◌then◌else◌ fields_of most_of part_of record_of
+unfolding ascii filled fields_of most_of part_of record_of
 lock_words k w l z rest =
     let e : lock_ceiling w + lock_limit w * 65536 ≡ w = omega arith in
     reads_two_numbers (ascii "lock") Kind.Lock lock_name (filled (ascii " @\n") (k ∷ [])) (counted k) (lock_ceiling w) (lock_limit w) refl
@@ -277,7 +277,7 @@ module _ (c : List ℕ) (C : Comment c) where
 
   -- the six of them
   pub reads_words : (e : Event) → id_of e < 256 → amount_of e < 65536 → Reads (event_words e ++ c) (Line.Record 3 (event_number e) ∷ [])
-  unfolding event_words ascii filled when◌then◌else◌ fields_of most_of part_of record_of kind_of id_of amount_of
+  unfolding event_words ascii filled fields_of most_of part_of record_of kind_of id_of amount_of
   reads_words (Event.Release t) h g = numbered (ascii "release") Kind.Release release_name t refl (omega arith) (omega arith)
   reads_words (Event.Acquire l) h g = numbered (ascii "acquire") Kind.Acquire acquire_name l refl (omega arith) (omega arith)
   reads_words (Event.Unlock l) h g = numbered (ascii "unlock") Kind.Unlock unlock_name l refl (omega arith) (omega arith)
@@ -298,7 +298,7 @@ above kind id amount l =
     ∙ if_false (eqb kind 4) _ _ (ne_eqb kind 4 (λ e. omega (arith, l, e))) ∙ if_false (leb kind 6) _ _ (lt-leb kind 6 (omega arith))
 
 same_event : (kind id amount : ℕ) → event_fault kind id amount ≡ false → Same kind id amount
-unfolding event_fault event_of kind_of id_of amount_of when◌then◌else◌
+unfolding event_fault event_of kind_of id_of amount_of
 same_event zero id amount h = untrue h
 same_event (suc zero) id amount h = record { same_kind = refl; same_id = refl; same_amount = sym (eqb-true amount 0 (not-false (eqb amount 0) h)) }
 same_event (suc (suc zero)) id amount h = record { same_kind = refl; same_id = refl; same_amount = sym (eqb-true amount 0 (not-false (eqb amount 0) h)) }
@@ -339,11 +339,11 @@ as_comment : (cs ns : List ℕ) → last_line cs ≡ true → Comment (filled (s
 as_comment cs ns h = record { tail = filled cs ns; shape = comment_shape cs ns; ends = filled_ends cs ns h }
 
 unreached_so : (n : ℕ) → Comment (unreached n)
-unfolding unreached ascii last_line nothing when◌then◌else◌
+unfolding unreached ascii last_line nothing
 unreached_so n = as_comment (ascii " event @: not reached\n") (n ∷ []) refl
 
 ran_so : (n task user : ℕ) → Comment (ran_comment n task user)
-unfolding ran_comment ascii last_line nothing when◌then◌else◌
+unfolding ran_comment ascii last_line nothing
 ran_so n task user = either Comment (eqb task nobody) (filled (ascii " # event @: nobody runs\n") (n ∷ task ∷ user ∷ []))
     (filled (ascii " # event @: task @ runs at @\n") (n ∷ task ∷ user ∷ []))
     (as_comment (ascii " event @: nobody runs\n") (n ∷ task ∷ user ∷ []) refl)
@@ -391,8 +391,8 @@ refused_so n why = record {
 
 stop_so : (v : Verdict) (n : ℕ) → Comment (stop_comment v n)
 unfolding stop_comment
-stop_so Verdict.Passed n = unreached_so n
-stop_so (Verdict.Refused why place) n = refused_so n why
+stop_so (Ok _) n = unreached_so n
+stop_so (Err f) n = refused_so n f.why
 
 pub comment_so : (v : Verdict) (a : ℕ) (rows : List ℕ) (k : ℕ) → Comment (comment_of v a rows k)
 unfolding comment_of

@@ -12,7 +12,7 @@ use denote.Triple.Walked.{needs}
 use Rattle.rules.specs.Books.Book.{found_at}
 use Rattle.rules.specs.Books.Load.{load_of}
 use Rattle.rules.specs.declared.answer.Found.{Found}
-use Rattle.rules.specs.declared.answer.Loaded.{Loaded}
+use Rattle.rules.specs.Books.Load.{Loaded}
 use Rattle.book.specs.Reader.{reader_at}
 use Rattle.book.specs.declared.reader.Reader.{Reader}
 use Rattle.device.specs.Table.{numbers_of}

@@ -14,9 +14,9 @@ use Rattle.rules.specs.Books.Bytes.{book_of, Bytes}
 use Rattle.rules.specs.Books.Write.{Wrote, write_of, wrote_with}
 use Rattle.rules.specs.Demands.History.{event_at}
 use Rattle.rules.specs.Demands.Written.{ReadsAs, RefusesAs, WrittenAs, WrittenBack}
-use Rattle.rules.specs.declared.answer.Checked.{Checked}
+use Rattle.rules.specs.Books.Book.{Checked}
 use Rattle.rules.specs.declared.answer.Found.{Found}
-use Rattle.rules.specs.declared.answer.Loaded.{Loaded}
+use Rattle.rules.specs.Books.Load.{Loaded}
 use Rattle.rules.specs.declared.answer.Written.{Written}
 use Rattle.rules.proofs.Books.Passes.{verdict_held}
 use Rattle.rules.proofs.Demands.Written.{writing}

@@ -8,9 +8,9 @@ use Rattle.rules.specs.Books.Book.{tasks_of, locks_of, uses_of, event_numbers_of
 use Rattle.rules.specs.Books.Bytes.{book_of}
 use Rattle.rules.specs.Books.Write.{wrote_with}
 use Rattle.rules.specs.Demands.Written.{WrittenBack}
-use Rattle.rules.specs.declared.answer.Checked.{Checked}
+use Rattle.rules.specs.Books.Book.{Checked}
 use Rattle.rules.specs.declared.answer.Found.{Found}
-use Rattle.rules.specs.declared.answer.Loaded.{Loaded}
+use Rattle.rules.specs.Books.Load.{Loaded}
 use Rattle.rules.specs.declared.answer.Written.{Written}
 use Rattle.plan.proofs.load.Reads as load
 use Rattle.book.proofs.check.Reads as check

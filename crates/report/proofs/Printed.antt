@@ -1,4 +1,6 @@
 -- The ways through the code that puts one line, and the lines one after the other. Assumes nothing.
+use Rattle.std.specs.Prelude.{Ok}
+use Rattle.rules.specs.Numbers.Verdict.{Verdict, refused_at}
 use mathlib.Core.Path.{◌≡◌, refl, sym, ◌∙◌, ap}
 use mathlib.Core.List.{List, [], ◌∷◌, ◌++◌, map, append_assoc, append-nil}
 use Prim.Native.Nat.{ℕ, suc, ◌+◌, ◌*◌, ◌/◌, ◌≤◌, ◌<◌}
@@ -13,7 +15,6 @@ use Rattle.rules.specs.Numbers.Capacity.{nobody}
 use Rattle.rules.specs.Numbers.Place.{at}
 use Rattle.rules.specs.Numbers.Refusal.{number_of}
 use Rattle.rules.specs.declared.refusal.Refusal.{Refusal}
-use Rattle.rules.specs.declared.answer.Verdict.{Verdict}
 use Rattle.rules.proofs.Numbers.Choice.{if_true, if_false}
 use Rattle.page.specs.Decimal.{digits}
 use Rattle.page.specs.Page.{Page, typed}
@@ -142,14 +143,14 @@ delayed_typed p r xs h = h
 -- ---- the whole report
 
 pub refused_report : (p a r : Page) (verdict : Verdict) (why : Refusal) (place n : ℕ) (rows : List ℕ) (lazy eager : ℕ) (delay : List ℕ)
-    → r ≡ typed a (refused_line why place) → a ≡ typed p (header ++ row_lines rows n) → verdict ≡ Verdict.Refused why place
+    → r ≡ typed a (refused_line why place) → a ≡ typed p (header ++ row_lines rows n) → verdict ≡ refused_at why place
     → r ≡ typed p (report_of verdict n rows lazy eager delay)
 unfolding report_of
 refused_report p a r verdict why place n rows lazy eager delay h g e =
     typed_two p a r (header ++ row_lines rows n) (refused_line why place) g h ∙ ap (λ v. typed p (report_of v n rows lazy eager delay)) (sym e)
 
 pub passed_report : (p a r : Page) (verdict : Verdict) (n : ℕ) (rows : List ℕ) (lazy eager : ℕ) (delay : List ℕ)
-    → r ≡ typed a (calls_line lazy eager ++ delayed_line delay) → a ≡ typed p (header ++ row_lines rows n) → verdict ≡ Verdict.Passed
+    → r ≡ typed a (calls_line lazy eager ++ delayed_line delay) → a ≡ typed p (header ++ row_lines rows n) → verdict ≡ Ok tt
     → r ≡ typed p (report_of verdict n rows lazy eager delay)
 unfolding report_of
 passed_report p a r verdict n rows lazy eager delay h g e =

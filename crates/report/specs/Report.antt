@@ -1,11 +1,10 @@
 -- RULES 15.2 to 15.6: the text that the program prints for a replay, in bytes. Assumes nothing.
-use Rattle.std.specs.Prelude.{List, [], ◌∷◌, ◌++◌, map, ℕ, zero, suc, ◌+◌, ◌*◌, eqb}
+use Rattle.std.specs.Prelude.{List, [], ◌∷◌, ◌++◌, map, ℕ, zero, suc, ◌+◌, ◌*◌, eqb, Ok, Err, if◌then◌else◌}
+use Rattle.rules.specs.Numbers.Verdict.{Verdict}
 use Rattle.rules.specs.Numbers.Capacity.{nobody}
-use Rattle.rules.specs.Numbers.Choice.{when◌then◌else◌}
 use Rattle.rules.specs.Numbers.Place.{at}
 use Rattle.rules.specs.Numbers.Refusal.{number_of}
 use Rattle.rules.specs.declared.refusal.Refusal.{Refusal}
-use Rattle.rules.specs.declared.answer.Verdict.{Verdict}
 use Rattle.page.specs.Decimal.{digits}
 
 -- ---- the words of the report, in ASCII
@@ -68,7 +67,7 @@ header = line event (running ∷ user ∷ next ∷ call ∷ [])
 
 -- the running task, or `-` for nobody
 unfoldable pub runner : ℕ → List ℕ
-runner t = when eqb t nobody then dash else digits t
+runner t = if eqb t nobody then dash else digits t
 
 -- the row of the event k: running task, user word, next word, call
 unfoldable pub row_words : List ℕ → ℕ → List (List ℕ)
@@ -94,5 +93,5 @@ refused_line why place = line refused (digits (number_of why) ∷ digits place �
 
 -- the whole report: it ends with the calls and the delays, or with the refusal
 unfoldable pub report_of : Verdict → ℕ → List ℕ → ℕ → ℕ → List ℕ → List ℕ
-report_of Verdict.Passed accepted rows lazy eager delays = header ++ row_lines rows accepted ++ calls_line lazy eager ++ delayed_line delays
-report_of (Verdict.Refused why place) accepted rows lazy eager delays = header ++ row_lines rows accepted ++ refused_line why place
+report_of (Ok _) accepted rows lazy eager delays = header ++ row_lines rows accepted ++ calls_line lazy eager ++ delayed_line delays
+report_of (Err f) accepted rows lazy eager delays = header ++ row_lines rows accepted ++ refused_line f.why f.place

@@ -1,9 +1,8 @@
 -- RULES 18.2, 18.3, 18.7: the report of P1, by both protocols, and that of P5, which ends with its refusal, as one claim. Assumes nothing.
-use Rattle.std.specs.Prelude.{Bool, true, false, ◌&&◌, List, [], ◌∷◌, ℕ, T, eqb}
-use Rattle.rules.specs.Numbers.Choice.{when◌then◌else◌}
+use Rattle.std.specs.Prelude.{Bool, true, false, ◌&&◌, List, [], ◌∷◌, ℕ, T, eqb, Ok, if◌then◌else◌}
+use Rattle.rules.specs.Numbers.Verdict.{refused_at}
 use Rattle.rules.specs.Numbers.Refusal.{number_of}
 use Rattle.rules.specs.declared.refusal.Refusal.TheVariants.{PastLimit}
-use Rattle.rules.specs.declared.answer.Verdict.{Verdict}
 use Rattle.page.specs.Decimal.{digits_in, digits}
 use Rattle.report.specs.Report.{spaced, line, header, runner, row_words}
 use Rattle.report.specs.Report.{row_line, row_lines, calls_line, delayed_line, refused_line, report_of}
@@ -91,9 +90,9 @@ block_of_refused =
     ∷ 114 ∷ 101 ∷ 102 ∷ 117 ∷ 115 ∷ 101 ∷ 100 ∷ 32 ∷ 50 ∷ 49 ∷ 32 ∷ 51 ∷ 10
     ∷ []
 
-shown : T (same (report_of Verdict.Passed 7 rows 1 2 (0 ∷ 2 ∷ 0 ∷ 0 ∷ [])) block
-    && same (report_of Verdict.Passed 7 rows_by_first 1 2 (0 ∷ 2 ∷ 0 ∷ 0 ∷ [])) block_by_first
-    && same (report_of (Verdict.Refused PastLimit 3) 3 rows_of_refused 0 1 (0 ∷ 0 ∷ 0 ∷ 0 ∷ [])) block_of_refused)
-unfolding same rows block rows_by_first block_by_first rows_of_refused block_of_refused when◌then◌else◌ number_of digits_in digits spaced line header runner row_words
+shown : T (same (report_of (Ok tt) 7 rows 1 2 (0 ∷ 2 ∷ 0 ∷ 0 ∷ [])) block
+    && same (report_of (Ok tt) 7 rows_by_first 1 2 (0 ∷ 2 ∷ 0 ∷ 0 ∷ [])) block_by_first
+    && same (report_of (refused_at PastLimit 3) 3 rows_of_refused 0 1 (0 ∷ 0 ∷ 0 ∷ 0 ∷ [])) block_of_refused)
+unfolding same rows block rows_by_first block_by_first rows_of_refused block_of_refused number_of digits_in digits spaced line header runner row_words
     row_line row_lines calls_line delayed_line refused_line report_of
 shown = tt

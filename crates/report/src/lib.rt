@@ -9,7 +9,7 @@ ghost use Rattle.rules.specs.Numbers.Place.{stored};
 ghost use Rattle.page.specs.Page.{page, typed};
 ghost use Rattle.report.specs.Report.{header, row_lines, calls_line, delayed_line, report_of};
 
-use rules::answer::Verdict;
+use rules::answer::Fault;
 
 // The header and the rows so far.
 fn put_front(out: &mut [u8], rows: &[u8], accepted: usize) -> usize
@@ -29,7 +29,7 @@ fn put_end(out: &mut [u8], i: usize, lazy: u32, eager: u32, delay: &[u16]) -> us
 
 fn put_report(
     out: &mut [u8],
-    verdict: Verdict,
+    verdict: Result<(), Fault>,
     accepted: usize,
     rows: &[u8],
     lazy: u32,
@@ -41,8 +41,8 @@ fn put_report(
 {
     let i = put_front(out, rows, accepted);
     match verdict {
-        Verdict::Refused(why, place) => lines::put_refused(out, i, why, place),
-        Verdict::Passed => put_end(out, i, lazy, eager, delay),
+        Err(Fault { why, place }) => lines::put_refused(out, i, why, place),
+        Ok(()) => put_end(out, i, lazy, eager, delay),
     }
 }
 
@@ -51,7 +51,7 @@ fn put_report(
 // it stand there.
 pub fn report(
     out: &mut [u8],
-    verdict: Verdict,
+    verdict: Result<(), Fault>,
     accepted: usize,
     rows: &[u8],
     lazy: u32,

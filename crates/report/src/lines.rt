@@ -102,7 +102,7 @@ pub fn put_calls(out: &mut [u8], i: usize, lazy: u32, eager: u32) -> usize
 pub fn put_refused(out: &mut [u8], i: usize, why: Refusal, place: usize) -> usize
     ensures { page out.new result ≡ typed (page out.old i) (refused_line why place) }
 {
-    let number = wide8(rules::refusal::number(why));
+    let number = wide8(u8::from(why));
     put_pair(out, i, b"refused", number, place as u64)
 }
 

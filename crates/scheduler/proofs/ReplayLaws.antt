@@ -1,4 +1,6 @@
 -- A book that passes the check, and its replay. Assumes nothing.
+use Rattle.std.specs.Prelude.{Ok}
+use Rattle.rules.specs.Numbers.Verdict.{Verdict, refused_at}
 use mathlib.Core.Path.{◌≡◌, refl, sym, ◌∙◌, ap}
 use mathlib.Core.List.{List}
 use Prim.Native.Nat.{ℕ, ◌-◌, ◌*◌, ◌/◌, ◌≤◌}
@@ -18,9 +20,8 @@ use Rattle.rules.specs.declared.protocol.Protocol.{Protocol}
 use Rattle.rules.specs.declared.state.State.{State}
 use Rattle.rules.specs.declared.event.Event.TheVariants.{Tick}
 use Rattle.rules.specs.declared.refusal.Refusal.{Refusal}
-use Rattle.rules.specs.declared.answer.Checked.{Checked}
+use Rattle.rules.specs.Books.Book.{Checked}
 use Rattle.rules.specs.declared.answer.Replayed.{Replayed}
-use Rattle.rules.specs.declared.answer.Verdict.{Verdict}
 use Rattle.rules.proofs.Numbers.Place.{length_from, get_d_tabulate, from_same}
 use Rattle.rules.proofs.Books.Passes.{verdict_held, passed_obeys}
 use Rattle.rules.proofs.Soundness.SoundKept.{fresh_sound}
@@ -35,17 +36,17 @@ module _ (pr : Protocol) (b : List ℕ) (room : ℕ) where
     check_said v e = sym (verdict_held (check_of b room) b) ∙ ap (λ (k : Checked). k.verdict) (sym reads) ∙ e
 
     -- a refused book is left as it is
-    book_refused : (why : Refusal) (place : ℕ) (rows : List ℕ) (r : Replayed) → length rows ≡ room → c.verdict ≡ Verdict.Refused why place
+    book_refused : (why : Refusal) (place : ℕ) (rows : List ℕ) (r : Replayed) → length rows ≡ room → c.verdict ≡ refused_at why place
         → r ≡ untouched_as why place c.plan → (ran_as r rows ≡ replay_of pr b rows) × (r.plan ≡ (checked_of b (length rows)).plan)
     unfolding replay_of replay_as
     book_refused why place rows r z e h =
-        rw (z, h) (rw (check_said (Verdict.Refused why place) e) refl, ap (λ (k : Checked). k.plan) reads)
+        rw (z, h) (rw (check_said (refused_at why place) e) refl, ap (λ (k : Checked). k.plan) reads)
 
-    module _ (passed : c.verdict ≡ Verdict.Passed) where
-      said : check_of b room ≡ Verdict.Passed
-      said = check_said Verdict.Passed passed
+    module _ (passed : c.verdict ≡ Ok tt) where
+      said : check_of b room ≡ Ok tt
+      said = check_said (Ok tt) passed
 
-      taken : c ≡ checked_as Verdict.Passed b
+      taken : c ≡ checked_as (Ok tt) b
       taken = reads ∙ ap (λ v. checked_as v b) said
 
       plan_is : c.plan ≡ plan_in b
@@ -94,14 +95,14 @@ module _ (pr : Protocol) (b : List ℕ) (room : ℕ) where
 
 -- the same with the rows' own room
 module _ (pr : Protocol) (b rows : List ℕ) (c : Checked) (r : Replayed) (reads : c ≡ checked_of b (length rows)) where
-  module _ (why : Refusal) (place : ℕ) (e : c.verdict ≡ Verdict.Refused why place) (h : r ≡ untouched_as why place c.plan) where
+  module _ (why : Refusal) (place : ℕ) (e : c.verdict ≡ refused_at why place) (h : r ≡ untouched_as why place c.plan) where
     pub refused_ran : ran_as r rows ≡ replay_of pr b rows
     refused_ran = (book_refused pr b (length rows) c reads why place rows r refl e h).0
 
     pub refused_plan : r.plan ≡ (checked_of b (length rows)).plan
     refused_plan = (book_refused pr b (length rows) c reads why place rows r refl e h).1
 
-  module _ (e : c.verdict ≡ Verdict.Passed) (body out : List ℕ) (part : body ≡ take (length b - c.events) (drop c.events b)) where
+  module _ (e : c.verdict ≡ Ok tt) (body out : List ℕ) (part : body ≡ take (length b - c.events) (drop c.events b)) where
     pub passed_ran : ran_as r out ≡ run_from pr c.plan (from (event_in body) 0 (length body / 4)) 0 fresh_of rows → r.plan ≡ c.plan
         → ran_as r out ≡ replay_of pr b rows
     passed_ran h q = (book_runs pr b (length rows) c reads e body part rows out r refl h q).0
@@ -110,5 +111,5 @@ module _ (pr : Protocol) (b rows : List ℕ) (c : Checked) (r : Replayed) (reads
   passed_plan q = q ∙ ap (λ (k : Checked). k.plan) reads
 
 pub left_fresh : (why : Refusal) (place : ℕ) (p : Plan) (s : State) → s ≡ fresh_of
-    → ◌≡◌ {A = Replayed} (record { verdict = Verdict.Refused why place; plan = p; state = s }) (untouched_as why place p)
-left_fresh why place p s e = ap (λ (z : State). record { verdict = Verdict.Refused why place; plan = p; state = z }) e
+    → ◌≡◌ {A = Replayed} (record { verdict = refused_at why place; plan = p; state = s }) (untouched_as why place p)
+left_fresh why place p s e = ap (λ (z : State). record { verdict = refused_at why place; plan = p; state = z }) e

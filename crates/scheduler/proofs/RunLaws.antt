@@ -1,4 +1,6 @@
 -- The turns of a run: what is left from here comes to what all of it comes to. Assumes nothing.
+use Rattle.std.specs.Prelude.{Ok, Err}
+use Rattle.rules.specs.Numbers.Verdict.{Verdict, Answer, refused_at}
 use mathlib.Core.Path.{◌≡◌, refl, sym, ◌∙◌, ap, subst}
 use mathlib.Core.Bool.{Bool, true, false}
 use mathlib.Core.List.{List}
@@ -19,9 +21,7 @@ use Rattle.rules.specs.declared.protocol.Protocol.{Protocol}
 use Rattle.rules.specs.declared.state.State.{State}
 use Rattle.rules.specs.declared.event.Event.{Event}
 use Rattle.rules.specs.declared.refusal.Refusal.{Refusal}
-use Rattle.rules.specs.declared.answer.Answer.{Answer}
 use Rattle.rules.specs.declared.answer.Stepped.{Stepped}
-use Rattle.rules.specs.declared.answer.Verdict.{Verdict}
 use Rattle.rules.proofs.Numbers.Choice.{if_true, if_false, by_test, untrue}
 use Rattle.rules.proofs.Numbers.Place.{from_same}
 use Rattle.rules.proofs.Books.Obeyed.{few_tasks}
@@ -31,11 +31,11 @@ use Rattle.tournament.specs.Tree.{places}
 use Rattle.scheduler.specs.Going.{rows_after, stopped_at, turned_as, event_in, event_on, goes_on, left_from, TurnReady, RunReady, Going}
 
 -- whether it goes on, by the verdict
-pub on_passed : (v : Verdict) (k n : ℕ) → v ≡ Verdict.Passed → ltb k n ≡ goes_on v k n
+pub on_passed : (v : Verdict) (k n : ℕ) → v ≡ Ok tt → ltb k n ≡ goes_on v k n
 unfolding goes_on
 on_passed v k n e = rw e
 
-pub on_refused : (v : Verdict) (why : Refusal) (place k n : ℕ) → v ≡ Verdict.Refused why place → false ≡ goes_on v k n
+pub on_refused : (v : Verdict) (why : Refusal) (place k n : ℕ) → v ≡ refused_at why place → false ≡ goes_on v k n
 unfolding goes_on
 on_refused v why place k n e = rw e
 
@@ -49,7 +49,7 @@ made_tree pr p s n rows tree made R e = e (few_tasks R.sound.sound.plan) refl
 
 module _ (pr : Protocol) (p : Plan) (events : ℕ → Event) (n : ℕ) (first : State) (start : List ℕ) where
   pub going_start : RunReady pr p first n start → n < 2 ^ 64
-      → Going pr p events n first start 0 (record { verdict = Verdict.Passed; state = first; rows = start })
+      → Going pr p events n first start 0 (record { verdict = Ok tt; state = first; rows = start })
   unfolding Going left_from
   going_start R few = record {
     asked = R;
@@ -75,8 +75,8 @@ module _ (pr : Protocol) (p : Plan) (events : ℕ → Event) (n : ℕ) (first : 
 
       by : (answer : Answer) → left_from pr p events n (suc k) (stopped_at answer k) r.state (rows_after answer r.state.head k rows)
           ≡ onward answer r.state k rows rest
-      by (Answer.Accepted call) = refl
-      by (Answer.Refused why) = refl
+      by (Ok call) = refl
+      by (Err why) = refl
 
   module _ (k : ℕ) (v : Verdict) (s : State) (rows : List ℕ) (G : Going pr p events n first start k (record { verdict = v; state = s; rows = rows })) where
     pub going_same : length rows ≡ length start
@@ -88,10 +88,10 @@ module _ (pr : Protocol) (p : Plan) (events : ℕ → Event) (n : ℕ) (first : 
       on : goes_on v k n ≡ true
       on = sym says ∙ so
 
-      more : (u : Verdict) → goes_on u k n ≡ true → (u ≡ Verdict.Passed) × (k < n)
+      more : (u : Verdict) → goes_on u k n ≡ true → (u ≡ Ok tt) × (k < n)
       unfolding goes_on
-      more Verdict.Passed e = (refl, ltb-true k n e)
-      more (Verdict.Refused why place) e = untrue (sym e)
+      more (Ok _) e = (refl, ltb-true k n e)
+      more (Err f) e = untrue (sym e)
 
       pub going_ready : TurnReady pr p s rows k
       unfolding Going
@@ -125,8 +125,8 @@ module _ (pr : Protocol) (p : Plan) (events : ℕ → Event) (n : ℕ) (first : 
           })
         where
           rows_same : (answer : Answer) (t : State) → length (rows_after answer t.head k rows) ≡ length rows
-          rows_same (Answer.Accepted call) t = row_length rows k t.head call
-          rows_same (Answer.Refused why) t = refl
+          rows_same (Ok call) t = row_length rows k t.head call
+          rows_same (Err why) t = refl
 
     -- it has ended
     pub going_end : (g : Bool) → g ≡ goes_on v k n → g ≡ false → (out : Ran) → out ≡ record { verdict = v; state = s; rows = rows }
@@ -135,10 +135,10 @@ module _ (pr : Protocol) (p : Plan) (events : ℕ → Event) (n : ℕ) (first : 
     going_end g says off out o = o ∙ by v refl (sym says ∙ off) ∙ G.rest
       where
         by : (u : Verdict) → v ≡ u → goes_on u k n ≡ false → record { verdict = v; state = s; rows = rows } ≡ left_from pr p events n k v s rows
-        by Verdict.Passed e f =
+        by (Ok _) e f =
             let q : n - k ≡ 0 = omega (arith, ltb-false k n f) in
             ap (λ (w : Verdict). record { verdict = w; state = s; rows = rows }) e ∙ sym (rw (e, q) refl)
-        by (Verdict.Refused why place) e f = ap (λ (w : Verdict). record { verdict = w; state = s; rows = rows }) e ∙ sym (rw e refl)
+        by (Err z) e f = ap (λ (w : Verdict). record { verdict = w; state = s; rows = rows }) e ∙ sym (rw e refl)
 
 -- what is run from a fresh start
 pub run_ready : (pr : Protocol) (p : Plan) (s : State) (n : ℕ) (rows : List ℕ) → s ≡ fresh_of → RunReady pr p fresh_of n rows → RunReady pr p s n rows

@@ -1,4 +1,6 @@
 -- The step of a state that is handed in. Assumes nothing.
+use Rattle.std.specs.Prelude.{Ok, Err, if◌then◌else◌}
+use Rattle.rules.specs.Numbers.Verdict.{Verdict, Answer, refused_at}
 use mathlib.Core.Path.{◌≡◌, refl, sym, ◌∙◌, ap}
 use mathlib.Core.Bool.{Bool, true, false, not}
 use mathlib.Core.List.{List}
@@ -8,7 +10,6 @@ use lib.Dec.{eqb}
 use lib.ListN.{length}
 use borrow.Author.Tests.{not-true, not-false}
 use Rattle.rules.specs.Numbers.Capacity.{max_tasks, max_locks}
-use Rattle.rules.specs.Numbers.Choice.{when◌then◌else◌}
 use Rattle.rules.specs.Numbers.Place.{at, from}
 use Rattle.rules.specs.Replays.Run.{Ran, onward, run_from}
 use Rattle.rules.specs.Replays.Replay.{ran_as}
@@ -21,9 +22,7 @@ use Rattle.rules.specs.declared.state.State.{State}
 use Rattle.rules.specs.declared.event.Event.{Event}
 use Rattle.rules.specs.declared.refusal.Refusal.{Refusal}
 use Rattle.rules.specs.declared.refusal.Refusal.TheVariants.{Unsound}
-use Rattle.rules.specs.declared.answer.Answer.{Answer}
 use Rattle.rules.specs.declared.answer.Replayed.{Replayed}
-use Rattle.rules.specs.declared.answer.Verdict.{Verdict}
 use Rattle.rules.specs.declared.answer.Stepped.{Stepped}
 use Rattle.rules.proofs.Numbers.Choice.{if_yes, if_no}
 use Rattle.rules.proofs.Replays.RowBytes.{row_call}
@@ -57,38 +56,37 @@ said_sound pr p s t e h = sym e ∙ not-false t h
 
 -- ---- a step as a run of one event
 
-one_or_none : (call : Bool) → eqb (when call then 1 else 0) 1 ≡ call
-unfolding when◌then◌else◌
+one_or_none : (call : Bool) → eqb (if call then 1 else 0) 1 ≡ call
 one_or_none true = refl
 one_or_none false = refl
 
-pub said_passed : (v : Verdict) (call : ℕ) (b : Bool) → v ≡ Verdict.Passed → b ≡ eqb call 1 → Answer.Accepted b ≡ answer_from v call
+pub said_passed : (v : Verdict) (call : ℕ) (b : Bool) → v ≡ Ok tt → b ≡ eqb call 1 → Ok b ≡ answer_from v call
 unfolding answer_from
 said_passed v call b e h = rw (e, h)
 
-pub said_refused : (v : Verdict) (why : Refusal) (place call : ℕ) → v ≡ Verdict.Refused why place → Answer.Refused why ≡ answer_from v call
+pub said_refused : (v : Verdict) (why : Refusal) (place call : ℕ) → v ≡ refused_at why place → Err why ≡ answer_from v call
 unfolding answer_from
 said_refused v why place call e = rw e
 
 module _ (pr : Protocol) (p : Plan) (s : State) (e : Event) (body row : List ℕ) (four : length row ≡ 4) (S : SoundAndSized pr p s) where
   -- what the run comes to, by the answer
   after : Answer → Ran
-  after answer = onward answer (act_of pr p s e).state 0 row (λ t rows. record { verdict = Verdict.Passed; state = t; rows = rows })
+  after answer = onward answer (act_of pr p s e).state 0 row (λ t rows. record { verdict = Ok tt; state = t; rows = rows })
 
   one_run : run_from pr p (from (event_on e body) 0 1) 0 s row ≡ after (act_of pr p s e).answer
-  unfolding after run_from from event_on when◌then◌else◌
-  one_run = ap (λ (x : Stepped). onward x.answer x.state 0 row (λ t rows. record { verdict = Verdict.Passed; state = t; rows = rows })) (step_act S e)
+  unfolding after run_from from event_on
+  one_run = ap (λ (x : Stepped). onward x.answer x.state 0 row (λ t rows. record { verdict = Ok tt; state = t; rows = rows })) (step_act S e)
 
   answer_is : (answer : Answer) → answer_from (after answer).verdict (at (after answer).rows 3) ≡ answer
   unfolding after onward answer_from
-  answer_is (Answer.Accepted call) =
-      ap Answer.Accepted (ap (λ x. eqb x 1) (row_call row 0 (act_of pr p s e).state.head call (omega (arith, four))) ∙ one_or_none call)
-  answer_is (Answer.Refused why) = refl
+  answer_is (Ok call) =
+      ap Ok (ap (λ x. eqb x 1) (row_call row 0 (act_of pr p s e).state.head call (omega (arith, four))) ∙ one_or_none call)
+  answer_is (Err why) = refl
 
   state_is : (answer : Answer) → (after answer).state ≡ (act_of pr p s e).state
   unfolding after onward
-  state_is (Answer.Accepted call) = refl
-  state_is (Answer.Refused why) = refl
+  state_is (Ok call) = refl
+  state_is (Err why) = refl
 
   pub stepped_once : (r : Replayed) (out : List ℕ) (answer : Answer) → ran_as r out ≡ run_from pr p (from (event_on e body) 0 1) 0 s row
       → answer ≡ answer_from r.verdict (at out 3) → ◌≡◌ {A = Stepped} (record { answer = answer; state = r.state }) (act_of pr p s e)

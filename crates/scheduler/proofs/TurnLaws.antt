@@ -1,4 +1,6 @@
 -- The ways through one turn: the event at its place, its answer and its row. Assumes nothing.
+use Rattle.std.specs.Prelude.{Ok, Err, if◌then◌else◌}
+use Rattle.rules.specs.Numbers.Verdict.{Verdict, Answer, refused_at}
 use mathlib.Core.Path.{◌≡◌, refl, sym, ◌∙◌, ap}
 use mathlib.Core.Bool.{Bool}
 use mathlib.Core.List.{List}
@@ -6,7 +8,6 @@ use Prim.Native.Nat.{ℕ, ◌+◌, ◌*◌, ◌≤◌}
 use lib.ListN.{length, set}
 use lib.Dec.{eqb}
 use borrow.Author.Tests.{eq-eqb, ne_eqb}
-use Rattle.rules.specs.Numbers.Choice.{when◌then◌else◌}
 use Rattle.rules.specs.Numbers.Answer.{found_event}
 use Rattle.rules.specs.Books.Book.{found_at}
 use Rattle.rules.specs.Replays.Run.{Ran, with_row}
@@ -19,10 +20,8 @@ use Rattle.rules.specs.declared.state.State.{State}
 use Rattle.rules.specs.declared.event.Event.{Event}
 use Rattle.rules.specs.declared.event.Event.TheVariants.{Tick}
 use Rattle.rules.specs.declared.refusal.Refusal.{Refusal}
-use Rattle.rules.specs.declared.answer.Answer.{Answer}
 use Rattle.rules.specs.declared.answer.Found.{Found}
 use Rattle.rules.specs.declared.answer.Stepped.{Stepped}
-use Rattle.rules.specs.declared.answer.Verdict.{Verdict}
 use Rattle.rules.proofs.Numbers.Choice.{if_yes, if_no}
 use Rattle.scheduler.specs.Going.{TurnReady, rows_after, stopped_at, turned_as, event_in, event_on}
 
@@ -52,25 +51,25 @@ module _ (first : Event) (body : List ℕ) (k : ℕ) where
 
 -- ---- its row
 
-pub row_put : (rows : List ℕ) (k : ℕ) (h : Head) (call : Bool) (user next last : ℕ) → user ≡ h.user.0 → next ≡ h.next.0 → last ≡ (when call then 1 else 0)
+pub row_put : (rows : List ℕ) (k : ℕ) (h : Head) (call : Bool) (user next last : ℕ) → user ≡ h.user.0 → next ≡ h.next.0 → last ≡ (if call then 1 else 0)
     → set (set (set (set rows (k * 4) h.running) (k * 4 + 1) user) (k * 4 + 2) next) (k * 4 + 3) last ≡ with_row rows k h call
 unfolding with_row
 row_put rows k h call user next last u v e = rw (u, v, e)
 
-pub after_accepted : (answer : Answer) (call : Bool) (h : Head) (k : ℕ) (rows out : List ℕ) → answer ≡ Answer.Accepted call → out ≡ with_row rows k h call
+pub after_accepted : (answer : Answer) (call : Bool) (h : Head) (k : ℕ) (rows out : List ℕ) → answer ≡ Ok call → out ≡ with_row rows k h call
     → out ≡ rows_after answer h k rows
 unfolding rows_after
 after_accepted answer call h k rows out e d = rw e d
 
-pub after_refused : (answer : Answer) (why : Refusal) (h : Head) (k : ℕ) (rows : List ℕ) → answer ≡ Answer.Refused why → rows ≡ rows_after answer h k rows
+pub after_refused : (answer : Answer) (why : Refusal) (h : Head) (k : ℕ) (rows : List ℕ) → answer ≡ Err why → rows ≡ rows_after answer h k rows
 unfolding rows_after
 after_refused answer why h k rows e = rw e
 
-pub stops_accepted : (a : Answer) (call : Bool) (k : ℕ) → a ≡ Answer.Accepted call → Verdict.Passed ≡ stopped_at a k
+pub stops_accepted : (a : Answer) (call : Bool) (k : ℕ) → a ≡ Ok call → Ok tt ≡ stopped_at a k
 unfolding stopped_at
 stops_accepted a call k e = rw e
 
-pub stops_refused : (a : Answer) (why : Refusal) (k : ℕ) → a ≡ Answer.Refused why → Verdict.Refused why k ≡ stopped_at a k
+pub stops_refused : (a : Answer) (why : Refusal) (k : ℕ) → a ≡ Err why → refused_at why k ≡ stopped_at a k
 unfolding stopped_at
 stops_refused a why k e = rw e
 

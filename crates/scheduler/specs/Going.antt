@@ -1,8 +1,8 @@
 -- RULES 12.3: a run of events under way: what one turn comes to, and what is left to run. Assumes nothing.
-use Rattle.std.specs.Prelude.{◌≡◌, Bool, false, List, ℕ, ◌+◌, ◌-◌, ◌*◌, ◌^◌, ◌≤◌, ◌<◌, eqb, ltb, length}
+use Rattle.std.specs.Prelude.{◌≡◌, Bool, false, List, ℕ, ◌+◌, ◌-◌, ◌*◌, ◌^◌, ◌≤◌, ◌<◌, eqb, ltb, length, Ok, Err, if◌then◌else◌}
+use Rattle.rules.specs.Numbers.Verdict.{Verdict, Answer, refused_at}
 use Rattle.rules.specs.Numbers.Answer.{found_event}
 use Rattle.rules.specs.Numbers.Capacity.{max_locks}
-use Rattle.rules.specs.Numbers.Choice.{when◌then◌else◌}
 use Rattle.rules.specs.Books.Book.{found_at}
 use Rattle.rules.specs.Numbers.Place.{from}
 use Rattle.rules.specs.Replays.Run.{Ran, with_row, run_from}
@@ -15,10 +15,8 @@ use Rattle.rules.specs.declared.state.Head.{Head}
 use Rattle.rules.specs.declared.state.State.{State}
 use Rattle.rules.specs.declared.event.Event.{Event}
 use Rattle.rules.specs.declared.refusal.Refusal.{Refusal}
-use Rattle.rules.specs.declared.answer.Answer.{Answer}
 use Rattle.rules.specs.declared.answer.Replayed.{Replayed}
 use Rattle.rules.specs.declared.answer.Stepped.{Stepped}
-use Rattle.rules.specs.declared.answer.Verdict.{Verdict}
 use Rattle.scheduler.specs.declared.turn.Ended.{Ended}
 
 -- what a run has come to and its head, beside the arrays and the rows
@@ -28,18 +26,18 @@ ended_as r released kept delay depth takes saved units owner rows =
 
 -- what a refusal of 1 to 9 or 24 leaves: no state but a fresh one
 abbrev pub untouched_as : Refusal → ℕ → Plan → Replayed
-untouched_as why place p = record { verdict = Verdict.Refused why place; plan = p; state = fresh_of }
+untouched_as why place p = record { verdict = refused_at why place; plan = p; state = fresh_of }
 
 -- ---- one turn
 
 -- the rows after the answer to the event at place k, with the head after it; and what the run then comes to
 unfoldable pub rows_after : Answer → Head → ℕ → List ℕ → List ℕ
-rows_after (Answer.Accepted call) h k rows = with_row rows k h call
-rows_after (Answer.Refused why) h k rows = rows
+rows_after (Ok call) h k rows = with_row rows k h call
+rows_after (Err why) h k rows = rows
 
 unfoldable pub stopped_at : Answer → ℕ → Verdict
-stopped_at (Answer.Accepted call) k = Verdict.Passed
-stopped_at (Answer.Refused why) k = Verdict.Refused why k
+stopped_at (Ok call) k = Ok tt
+stopped_at (Err why) k = refused_at why k
 
 -- the turn of the event at place k
 unfoldable pub turned_as : Stepped → ℕ → List ℕ → Ran
@@ -59,7 +57,7 @@ event_in body k = found_event (found_at body k)
 
 -- the event at place k of a run: the one that is handed in, and after it those of a body
 unfoldable pub event_on : Event → List ℕ → ℕ → Event
-event_on first body k = when eqb k 0 then first else event_in body k
+event_on first body k = if eqb k 0 then first else event_in body k
 
 -- what a run of n events asks for
 pub record RunReady (pr : Protocol) (p : Plan) (s : State) (n : ℕ) (rows : List ℕ) : Type 0 where
@@ -69,13 +67,13 @@ pub record RunReady (pr : Protocol) (p : Plan) (s : State) (n : ℕ) (rows : Lis
 
 -- it goes on where nothing was refused and an event is left
 unfoldable pub goes_on : Verdict → ℕ → ℕ → Bool
-goes_on Verdict.Passed k n = ltb k n
-goes_on (Verdict.Refused why place) k n = false
+goes_on (Ok _) k n = ltb k n
+goes_on (Err f) k n = false
 
 -- what is left at place k of n events
 unfoldable pub left_from : Protocol → Plan → (ℕ → Event) → ℕ → ℕ → Verdict → State → List ℕ → Ran
-left_from pr p events n k Verdict.Passed s rows = run_from pr p (from events k (n - k)) k s rows
-left_from pr p events n k (Verdict.Refused why place) s rows = record { verdict = Verdict.Refused why place; state = s; rows = rows }
+left_from pr p events n k (Ok _) s rows = run_from pr p (from events k (n - k)) k s rows
+left_from pr p events n k (Err f) s rows = record { verdict = refused_at f.why f.place; state = s; rows = rows }
 
 -- at place k, what is left comes to what all n events come to from the first state
 pub record Underway (pr : Protocol) (p : Plan) (events : ℕ → Event) (n : ℕ) (first : State) (start : List ℕ) (k : ℕ) (ran : Ran) : Type 0 where
@@ -94,5 +92,5 @@ Going pr p events n first start k ran = Underway pr p events n first start k ran
 
 -- its answer: what was refused, or whether its row has a call
 unfoldable pub answer_from : Verdict → ℕ → Answer
-answer_from Verdict.Passed call = Answer.Accepted (eqb call 1)
-answer_from (Verdict.Refused why place) call = Answer.Refused why
+answer_from (Ok _) call = Ok (eqb call 1)
+answer_from (Err f) call = Err f.why

@@ -7,7 +7,7 @@ ghost use Rattle.rules.specs.Replays.Step.{act_of, refused_with};
 ghost use Rattle.scheduler.specs.Going.{answer_from};
 
 use crate::run::run_from;
-use rules::answer::{Answer, Stepped, Verdict};
+use rules::answer::{Fault, Stepped};
 use rules::event::Event;
 use rules::plan::Plan;
 use rules::protocol::Protocol;
@@ -19,18 +19,18 @@ pub fn refused_with(s: State, why: Refusal) -> Stepped
     ensures { result ≡ refused_with s why }
 {
     Stepped {
-        answer: Answer::Refused(why),
+        answer: Err(why),
         state: s,
     }
 }
 
 // The answer to the one event of a run: what was refused, or whether its row has a call.
-fn answer_from(verdict: Verdict, call: u8) -> Answer
+fn answer_from(verdict: Result<(), Fault>, call: u8) -> Result<bool, Refusal>
     ensures { result ≡ answer_from verdict call }
 {
     match verdict {
-        Verdict::Passed => Answer::Accepted(call == 1),
-        Verdict::Refused(why, _) => Answer::Refused(why),
+        Ok(()) => Ok(call == 1),
+        Err(Fault { why, .. }) => Err(why),
     }
 }
 

@@ -12,7 +12,7 @@ ghost use Rattle.rules.specs.Replays.Step.{step_of};
 ghost use Rattle.scheduler.specs.Going.{untouched_as};
 
 use book::check;
-use rules::answer::{Replayed, Stepped, Verdict};
+use rules::answer::{Fault, Replayed, Stepped};
 use rules::event::Event;
 use rules::plan::Plan;
 use rules::protocol::Protocol;
@@ -38,7 +38,7 @@ fn untouched(why: Refusal, place: usize, plan: Plan) -> Replayed
 {
     let state = fresh();
     Replayed {
-        verdict: Verdict::Refused(why, place),
+        verdict: Err(Fault { why, place }),
         plan: plan,
         state: state,
     }
@@ -55,8 +55,8 @@ pub fn replay(protocol: Protocol, book: &[u8], rows: &mut [u8]) -> Replayed
     let plan = checked.plan;
     let events = checked.events;
     match verdict {
-        Verdict::Refused(why, place) => untouched(why, place, plan),
-        Verdict::Passed => {
+        Err(Fault { why, place }) => untouched(why, place, plan),
+        Ok(()) => {
             let body = &book[events..];
             run::run(protocol, plan, body, body.len() / 4, rows)
         }

@@ -8,7 +8,7 @@ ghost use Rattle.rules.specs.Schedulers.Whole.{plan_with, state_with};
 ghost use Rattle.scheduler.specs.Going.{RunReady, ended_as, event_in, event_on, goes_on};
 
 use crate::turn::{Ended, first_of, turn};
-use rules::answer::{Replayed, Verdict};
+use rules::answer::Replayed;
 use rules::capacity::{MAX_LOCKS, MAX_TASKS};
 use rules::event::Event;
 use rules::plan::Plan;
@@ -23,8 +23,8 @@ fn goes_on(ended: Ended, k: usize, c: usize) -> bool
 {
     let verdict = ended.verdict;
     match verdict {
-        Verdict::Passed => k < c,
-        Verdict::Refused(_, _) => false,
+        Ok(()) => k < c,
+        Err(_) => false,
     }
 }
 
@@ -64,7 +64,7 @@ fn turns<'a>(
     let mut tree = [0u64; PLACES];
     build(n, released, kept, &mut tree);
     let mut ended = Ended {
-        verdict: Verdict::Passed,
+        verdict: Ok(()),
         head: h,
     };
     let mut k: usize = 0;

@@ -1,6 +1,5 @@
 // One turn of the replay: the event at its place, where it lies, and its row.
-ghost use Rattle.std.specs.Prelude.{◌≡◌, ◌+◌, ◌*◌, ◌≤◌, length};
-ghost use Rattle.rules.specs.Numbers.Choice.{when◌then◌else◌};
+ghost use Rattle.std.specs.Prelude.{◌≡◌, ◌+◌, ◌*◌, ◌≤◌, length, if◌then◌else◌};
 ghost use Rattle.rules.specs.Replays.Run.{with_row};
 ghost use Rattle.rules.specs.Replays.Step.{act_of};
 ghost use Rattle.rules.specs.Schedulers.Whole.{plan_with, state_with};
@@ -10,7 +9,8 @@ ghost use Rattle.scheduler.specs.Going.{TurnReady, ended_as, event_in, event_on,
 use book::reader::read;
 use figures::priority::{kernel_byte, user_byte};
 use kernel::act::act;
-use rules::answer::{Answer, Found, Verdict};
+use rules::refusal::Refusal;
+use rules::answer::{Fault, Found};
 use rules::capacity::{MAX_LOCKS, MAX_TASKS};
 use rules::event::Event;
 use rules::protocol::Protocol;
@@ -20,7 +20,7 @@ use tournament::tree::PLACES;
 // What the run has come to, beside the arrays that it is lent.
 #[derive(Clone, Copy)]
 pub struct Ended {
-    pub verdict: Verdict,
+    pub verdict: Result<(), Fault>,
     pub head: Head,
 }
 
@@ -55,7 +55,7 @@ pub fn first_of(body: &[u8]) -> Event
 
 // Whether there was a call, as a byte.
 fn call_byte(call: bool) -> u8
-    ensures { result ≡ (when call then 1 else 0) }
+    ensures { result ≡ (if call then 1 else 0) }
 {
     if call {
         return 1;
@@ -79,23 +79,23 @@ fn put_row(rows: &mut [u8], k: usize, h: Head, call: bool)
 }
 
 // A row for an event that was accepted.
-fn put_after(rows: &mut [u8], k: usize, answer: Answer, h: Head)
+fn put_after(rows: &mut [u8], k: usize, answer: Result<bool, Refusal>, h: Head)
     requires { k * 4 + 4 ≤ length rows.old }
     ensures { rows.new ≡ rows_after answer h k rows.old }
 {
     match answer {
-        Answer::Accepted(call) => put_row(rows, k, h, call),
-        Answer::Refused(_) => {}
+        Ok(call) => put_row(rows, k, h, call),
+        Err(_) => {}
     }
 }
 
 // What the run comes to after the answer at place k.
-fn stopped_at(answer: Answer, k: usize) -> Verdict
+fn stopped_at(answer: Result<bool, Refusal>, k: usize) -> Result<(), Fault>
     ensures { result ≡ stopped_at answer k }
 {
     match answer {
-        Answer::Accepted(_) => Verdict::Passed,
-        Answer::Refused(why) => Verdict::Refused(why, k),
+        Ok(_) => Ok(()),
+        Err(why) => Err(Fault { why, place: k }),
     }
 }
 

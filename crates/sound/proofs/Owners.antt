@@ -1,4 +1,5 @@
 -- Where each task has its open locks in its own name, the task that is named for a lock is its owner exactly where it has it open. Assumes nothing.
+use Rattle.std.specs.Prelude.{if◌then◌else◌}
 use mathlib.Core.Path.{◌≡◌, refl, sym, ◌∙◌, ap, subst}
 use mathlib.Core.Logic.{⊎_elim}
 use mathlib.Core.Bool.{Bool, true, false}
@@ -9,7 +10,6 @@ use native.Mathlib.Numerals.{add-one}
 use native.Mathlib.Omega.{arith}
 use lib.Dec.{eqb, leb}
 use borrow.Author.Tests.{eqb-true, leb-true, le-leb, eq-eqb, ne_eqb}
-use Rattle.rules.specs.Numbers.Choice.{when◌then◌else◌}
 use Rattle.rules.specs.Numbers.Place.{at}
 use Rattle.rules.specs.Numbers.Row.{under, has}
 use Rattle.rules.specs.Schedulers.Figures.{Figures, holds}
@@ -35,7 +35,7 @@ own_so owner x row (suc k) e l h =
 
 -- somebody is named, and one of the first n tasks is asked
 module _ (n : ℕ) (depth takes : List ℕ) (o l : ℕ) (r : Bool) (some : o ≡ 0 → ⊥) where
-  pub named_asked : r ≡ (when leb o n then has (at takes (o - 1)) (at depth (o - 1)) l else false) → r ≡ owner_named n depth takes o l
+  pub named_asked : r ≡ (if leb o n then has (at takes (o - 1)) (at depth (o - 1)) l else false) → r ≡ owner_named n depth takes o l
   unfolding owner_named
   named_asked e = if_no (eqb o 0) true _ r (ne_eqb o 0 some) e
 
@@ -53,12 +53,12 @@ module _ (f : Figures) (l : ℕ) where
       ∙ owner_held y k (⊎_elim (λ s. s) (λ s. let z : y ≡ k = omega arith in untrue (sym h ∙ rw z e)) (lt_or_le y k)) h (λ x i. one x (omega arith)))
 
   -- who is named has it open
-  named_by : (n y : ℕ) → owner_named n f.depth f.takes (suc y) l ≡ (when leb (suc y) n then holds f y l else false)
+  named_by : (n y : ℕ) → owner_named n f.depth f.takes (suc y) l ≡ (if leb (suc y) n then holds f y l else false)
   unfolding holds
   named_by n y =
       let z : suc y - 1 ≡ y = omega arith in
       sym (named_asked n f.depth f.takes (suc y) l _ (λ e. omega arith) refl)
-      ∙ ap (λ x. when leb (suc y) n then has (at f.takes x) (at f.depth x) l else false) z
+      ∙ ap (λ x. if leb (suc y) n then has (at f.takes x) (at f.depth x) l else false) z
 
   named_some : (n y : ℕ) → owner_named n f.depth f.takes (suc y) l ≡ true → (y < n) × (holds f y l ≡ true)
   named_some n y e = by_test (leb (suc y) n)
@@ -70,7 +70,7 @@ module _ (f : Figures) (l : ℕ) where
 
   named_none : (n : ℕ) → owner_named n f.depth f.takes 0 l ≡ true
   unfolding owner_named
-  named_none n = if_true (eqb 0 0) true (when leb 0 n then has (at f.takes 0) (at f.depth 0) l else false) refl
+  named_none n = if_true (eqb 0 0) true (if leb 0 n then has (at f.takes 0) (at f.depth 0) l else false) refl
 
   -- the one that is named is the owner exactly where it has it open
   pub named_owner : (n o : ℕ) → ((x : ℕ) → x < n → holds f x l ≡ true → o ≡ suc x)

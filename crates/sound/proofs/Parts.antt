@@ -1,4 +1,5 @@
 -- The tests of a task, of a lock and of the head are their parts' tests. Assumes nothing.
+use Rattle.std.specs.Prelude.{if◌then◌else◌}
 use mathlib.Core.Path.{◌≡◌, refl, sym, ◌∙◌, ap, ap₂}
 use mathlib.Core.Bool.{Bool, true, false, not}
 use mathlib.Core.List.{List, [], ◌∷◌}
@@ -8,7 +9,7 @@ use lib.Dec.{eqb, leb, ltb}
 use lib.ListN.{length, drop}
 use borrow.Author.Tests.{lt-ltb, le-ltb, lt-leb, le-leb, not-true, not-false}
 use Rattle.rules.specs.Numbers.Capacity.{max_tasks, max_takes, max_delay, max_accepted}
-use Rattle.rules.specs.Numbers.Choice.{when◌then◌else◌, all_true}
+use Rattle.rules.specs.Numbers.Choice.{all_true}
 use Rattle.rules.specs.Numbers.Place.{at, greatest, zeros}
 use Rattle.rules.specs.Numbers.Row.{priority, saves}
 use Rattle.rules.specs.Soundness.SoundTest.{row_test, own_test, number_test, runs_test, second_test}
@@ -64,7 +65,7 @@ module _ (accepted running m : ℕ) (base ceiling uses released kept delay depth
       rw (← opened, ← t, ← A, ← B, ← C, ← D, ← R, ← E, ← F) (all_next (leb k max_takes) r _ (le-leb k max_takes l) q)
 
 pub lock_parts : (n : ℕ) (limit depth takes units owner : List ℕ) (l o : ℕ) (r named : Bool) → o ≡ at owner l → named ≡ owner_named n depth takes o l
-    → r ≡ all_true (named ∷ leb (at units l) (at limit l) ∷ (when eqb o 0 then eqb (at units l) 0 else true) ∷ [])
+    → r ≡ all_true (named ∷ leb (at units l) (at limit l) ∷ (if eqb o 0 then eqb (at units l) 0 else true) ∷ [])
     → r ≡ lock_by n limit depth takes units owner l
 unfolding lock_by
 lock_parts n limit depth takes units owner l o r named q e h = rw (← q, ← e) h

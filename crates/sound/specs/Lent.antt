@@ -1,7 +1,7 @@
 -- RULES 8: the tests of soundness by the arrays that the code is lent for each. Assumes nothing.
-use Rattle.std.specs.Prelude.{Bool, true, false, List, [], ◌∷◌, ℕ, ◌-◌, eqb, leb, ltb, drop}
+use Rattle.std.specs.Prelude.{Bool, true, false, List, [], ◌∷◌, ℕ, ◌-◌, eqb, leb, ltb, drop, if◌then◌else◌}
 use Rattle.rules.specs.Numbers.Capacity.{max_takes, max_delay, max_accepted}
-use Rattle.rules.specs.Numbers.Choice.{when◌then◌else◌, all_true}
+use Rattle.rules.specs.Numbers.Choice.{all_true}
 use Rattle.rules.specs.Numbers.Place.{at, every, greatest, zeros}
 use Rattle.rules.specs.Numbers.Row.{has, priority, saves}
 use Rattle.rules.specs.Soundness.SoundTest.{row_test, own_test, number_test, runs_test, second_test}
@@ -12,11 +12,11 @@ use Rattle.rules.specs.declared.state.Head.{Head}
 
 -- the rank of a task of this base, this release number and this row of k takes
 unfoldable pub rank_by : List ℕ → ℕ → ℕ → ℕ → ℕ → ℕ
-rank_by ceiling base number row k = when ltb 0 number then priority (at ceiling) base row k else 0
+rank_by ceiling base number row k = if ltb 0 number then priority (at ceiling) base row k else 0
 
 -- what is kept for it: nothing while it runs
 abbrev pub kept_by : Bool → ℕ → ℕ
-kept_by runs rank = when runs then 0 else rank
+kept_by runs rank = if runs then 0 else rank
 
 unfoldable pub task_by : ℕ → ℕ → ℕ → List ℕ → List ℕ → List ℕ → List ℕ → List ℕ → List ℕ → List ℕ → List ℕ → List ℕ → List ℕ → ℕ → Bool
 task_by accepted running m base ceiling uses released kept delay depth takes saved owner x =
@@ -35,14 +35,14 @@ task_by accepted running m base ceiling uses released kept delay depth takes sav
 -- the owner named for lock l is nobody, or one of the first n tasks, plus one, which has it open. Where each task has its open locks in its own name,
 -- this says that the owner is right: nobody else can have it open
 unfoldable pub owner_named : ℕ → List ℕ → List ℕ → ℕ → ℕ → Bool
-owner_named n depth takes o l = when eqb o 0 then true else when leb o n then has (at takes (o - 1)) (at depth (o - 1)) l else false
+owner_named n depth takes o l = if eqb o 0 then true else if leb o n then has (at takes (o - 1)) (at depth (o - 1)) l else false
 
 unfoldable pub lock_by : ℕ → List ℕ → List ℕ → List ℕ → List ℕ → List ℕ → ℕ → Bool
 lock_by n limit depth takes units owner l =
     all_true
     (owner_named n depth takes (at owner l) l
     ∷ leb (at units l) (at limit l)
-    ∷ (when eqb (at owner l) 0 then eqb (at units l) 0 else true)
+    ∷ (if eqb (at owner l) 0 then eqb (at units l) 0 else true)
     ∷ [])
 
 -- ---- the head, where every task is sound: the greatest kept priority is that of what stands in the table

@@ -1,8 +1,8 @@
 // Whether the figures of one lock are sound. That each task has its open locks in its own name is
 // tested with the tasks; so of a lock only the task that is named for it is asked.
-ghost use Rattle.std.specs.Prelude.{◌≡◌, true, [], ◌∷◌, ◌≤◌, ◌<◌, eqb, leb};
+ghost use Rattle.std.specs.Prelude.{◌≡◌, true, [], ◌∷◌, ◌≤◌, ◌<◌, eqb, leb, if◌then◌else◌};
 ghost use Rattle.rules.specs.Numbers.Capacity.{max_locks, max_tasks};
-ghost use Rattle.rules.specs.Numbers.Choice.{when◌then◌else◌, all_true};
+ghost use Rattle.rules.specs.Numbers.Choice.{all_true};
 ghost use Rattle.rules.specs.Numbers.Place.{every};
 ghost use Rattle.sound.specs.Lent.{lock_by, owner_named};
 
@@ -33,7 +33,7 @@ fn owner_named(
 
 // Its owner is named rightly, and its units are within its limit, 0 where it is closed.
 fn lock_fits(named: bool, owner: u8, units: u16, limit: u16) -> bool
-    ensures { result ≡ all_true (named ∷ leb units limit ∷ (when eqb owner 0 then eqb units 0 else true) ∷ []) }
+    ensures { result ≡ all_true (named ∷ leb units limit ∷ (if eqb owner 0 then eqb units 0 else true) ∷ []) }
 {
     if !named {
         return false;

@@ -1,4 +1,5 @@
 -- Laws of bytes that are cut, and of two words that are compared, as loops go along. Assumes nothing.
+use Rattle.std.specs.Prelude.{if◌then◌else◌}
 use mathlib.Core.Path.{◌≡◌, refl, sym, ◌∙◌, ap}
 use mathlib.Core.Bool.{Bool, true, false, not, ◌&&◌}
 use mathlib.Core.List.{List, [], ◌∷◌, ◌++◌}
@@ -9,7 +10,6 @@ use lib.Dec.{eqb}
 use lib.ListN.{length, take, drop, length-drop, drop_of_length-le}
 use lib.Seq.{drop-cons, take_all, length-take-le}
 use borrow.Author.Tests.{eq-eqb, ne_eqb}
-use Rattle.rules.specs.Numbers.Choice.{when◌then◌else◌}
 use Rattle.rules.specs.Numbers.Place.{at}
 use Rattle.rules.proofs.Numbers.Choice.{if_true, if_false}
 use Rattle.texts.specs.Cut.{space, until, up_to, spaces_of, without_spaces, same}
@@ -31,11 +31,11 @@ until_end stop bytes i l = ap (until stop) (drop_of_length-le bytes l)
 
 -- no more than there are
 pub until_within : (stop : ℕ → Bool) (bytes : List ℕ) → until stop bytes ≤ length bytes
-unfolding until when◌then◌else◌
+unfolding until
 until_within stop [] = omega arith
 until_within stop (c ∷ cs) = go (stop c) (until_within stop cs)
   where
-    go : (t : Bool) → until stop cs ≤ length cs → (when t then 0 else suc (until stop cs)) ≤ length (c ∷ cs)
+    go : (t : Bool) → until stop cs ≤ length cs → (if t then 0 else suc (until stop cs)) ≤ length (c ∷ cs)
     go true h = omega arith
     go false h = omega (arith, h)
 
@@ -88,14 +88,14 @@ spaces_ends bytes i h m l = so_ends (λ c. not (eqb c space)) bytes i h m l
 -- ---- the bytes before the spaces at the end
 
 bare_space : (xs : List ℕ) → without_spaces (xs ++ space ∷ []) ≡ without_spaces xs
-unfolding without_spaces when◌then◌else◌
+unfolding without_spaces
 bare_space [] = refl
-bare_space (x ∷ xs) = ap (λ n. when eqb n 0 then (when eqb x space then 0 else 1) else suc n) (bare_space xs)
+bare_space (x ∷ xs) = ap (λ n. if eqb n 0 then (if eqb x space then 0 else 1) else suc n) (bare_space xs)
 
 bare_other : (xs : List ℕ) (c : ℕ) → (c ≡ space → ⊥) → without_spaces (xs ++ c ∷ []) ≡ suc (length xs)
-unfolding without_spaces when◌then◌else◌
+unfolding without_spaces
 bare_other [] c n = if_false (eqb c space) 0 1 (ne_eqb c space n)
-bare_other (x ∷ xs) c n = ap (λ m. when eqb m 0 then (when eqb x space then 0 else 1) else suc m) (bare_other xs c n)
+bare_other (x ∷ xs) c n = ap (λ m. if eqb m 0 then (if eqb x space then 0 else 1) else suc m) (bare_other xs c n)
     ∙ if_false (eqb (suc (length xs)) 0) _ _ (ne_eqb (suc (length xs)) 0 (λ e. omega arith))
 
 take_last : (xs : List ℕ) (m : ℕ) → m < length xs → take (suc m) xs ≡ take m xs ++ at xs m ∷ []

@@ -1,4 +1,6 @@
 -- How many records of a part a line says is how many it has there; so the line of a record is the one that says it. Assumes nothing.
+use Rattle.std.specs.Prelude.{Ok, Err, if◌then◌else◌}
+use Rattle.rules.specs.Numbers.Verdict.{Verdict}
 use mathlib.Core.Path.{◌≡◌, refl, sym, ◌∙◌, ap}
 use mathlib.Core.Bool.{Bool, true, false}
 use mathlib.Core.List.{List, [], ◌∷◌, map}
@@ -6,9 +8,7 @@ use Prim.Native.Nat.{ℕ, suc, ◌+◌}
 use native.Mathlib.Omega.{arith}
 use lib.Dec.{eqb}
 use lib.ListN.{length, drop, length-map}
-use Rattle.rules.specs.Numbers.Choice.{when◌then◌else◌}
 use Rattle.rules.specs.Books.Event.{event_number}
-use Rattle.rules.specs.declared.answer.Verdict.{Verdict}
 use Rattle.rules.proofs.Numbers.Choice.{if_true, if_false, by_test, untrue}
 use Rattle.jobs.specs.Job.{job_events, job_answer}
 use Rattle.texts.specs.Cut.{space, before, trimmed, bare}
@@ -48,8 +48,8 @@ unfolding job_line job_answer job_said Counted
 job_counted kind w items e = go (job_answer items job_room).verdict
   where
     go : (v : Verdict) → Counted kind items (job_said w v (length (job_events items job_room)))
-    go Verdict.Passed = (e, refl)
-    go (Verdict.Refused why place) = tt
+    go (Ok _) = (e, refl)
+    go (Err f) = tt
 
 plain_counted : (kind : Kind) (items : List ℕ) (a b : ℕ) (bytes : List ℕ) → Counted kind items (plain_line kind a b bytes)
 unfolding plain_line Counted
@@ -74,17 +74,17 @@ first_counted kind (Number.Wrong m) rest = tt
 
 -- a job has no second number
 no_second : (kind : Kind) (rest : List ℕ) → kind ≡ Kind.Job → bare (after_field kind 1 rest) ≡ bare rest
-unfolding field_length fields_of when◌then◌else◌
+unfolding field_length fields_of
 no_second kind rest e = ap (λ k. bare (after_field k 1 rest)) e
 
 -- the numbers of a line are as many as it counts
 agrees : (part : ℕ) (kind : Kind) (found items : List ℕ) (l : Line) → Counted kind found l → (kind ≡ Kind.Job → found ≡ items)
     → count_in part l ≡ length (of_part part l items)
-unfolding Counted count_in of_part item_numbers when◌then◌else◌
+unfolding Counted count_in of_part item_numbers
 agrees part kind found items Line.Blank h f = refl
 agrees part kind found items (Line.Record p w) h f = go (eqb p part)
   where
-    go : (t : Bool) → (when t then 1 else 0) ≡ length (when t then w ∷ [] else [])
+    go : (t : Bool) → (if t then 1 else 0) ≡ length (if t then w ∷ [] else [])
     go true = refl
     go false = refl
 agrees part kind found items (Line.Job w n) (e, h) f = go (eqb part 3)
@@ -92,7 +92,7 @@ agrees part kind found items (Line.Job w n) (e, h) f = go (eqb part 3)
     many : n ≡ suc (length (map event_number (job_events items job_room)))
     many = h ∙ omega (arith, length-map (job_events items job_room) event_number, ap (λ x. length (job_events x job_room)) (f e))
 
-    go : (t : Bool) → (when t then n else 0) ≡ length (when t then w ∷ map event_number (job_events items job_room) else [])
+    go : (t : Bool) → (if t then n else 0) ≡ length (if t then w ∷ map event_number (job_events items job_room) else [])
     go true = many
     go false = refl
 agrees part kind found items Line.Unknown h f = refl

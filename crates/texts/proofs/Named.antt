@@ -1,10 +1,10 @@
 -- The figures of a kind, case by case. Assumes nothing.
+use Rattle.std.specs.Prelude.{if◌then◌else◌}
 use mathlib.Core.Path.{◌≡◌, sym, ◌∙◌, ap}
 use Prim.Native.Nat.{ℕ, ◌+◌, ◌*◌, ◌≤◌}
 use native.Mathlib.Omega.{arith}
 use mathlib.Core.Bool.{Bool, true, false}
 use lib.Dec.{eqb}
-use Rattle.rules.specs.Numbers.Choice.{when◌then◌else◌}
 use Rattle.rules.specs.Books.Event.{kind_of, id_of, amount_of}
 use Rattle.texts.specs.Kind.{fields_of, most_of, part_of, record_of, has_items}
 use Rattle.texts.specs.declared.kind.Kind.{Kind}
@@ -47,11 +47,11 @@ most_known kind case w n e h = h ∙ ap (λ k. most_of k w) (sym e)
 
 -- no number of a record may be more
 pub most_within : (kind : Kind) (w : ℕ) → most_of kind w ≤ 65535
-unfolding most_of when◌then◌else◌
+unfolding most_of
 most_within Kind.Task w = omega arith
 most_within Kind.Lock w = go (eqb w 0)
   where
-    go : (t : Bool) → (when t then 255 else 65535) ≤ 65535
+    go : (t : Bool) → (if t then 255 else 65535) ≤ 65535
     go true = omega arith
     go false = omega arith
 most_within Kind.Use w = omega arith

@@ -1,4 +1,6 @@
 -- The ways through the code that reads one line. Assumes nothing.
+use Rattle.std.specs.Prelude.{Ok}
+use Rattle.rules.specs.Numbers.Verdict.{Verdict, refused_at}
 use mathlib.Core.Path.{◌≡◌, refl, sym, ◌∙◌, ap}
 use mathlib.Core.Bool.{Bool, true, false}
 use mathlib.Core.List.{List, [], ◌∷◌}
@@ -7,7 +9,6 @@ use native.Mathlib.Omega.{arith}
 use lib.Dec.{ltb}
 use lib.ListN.{length, take, drop, length-drop}
 use borrow.Author.Tests.{lt-ltb, le-ltb}
-use Rattle.rules.specs.declared.answer.Verdict.{Verdict}
 use Rattle.rules.specs.declared.refusal.Refusal.{Refusal}
 use Rattle.rules.proofs.Numbers.Choice.{if_true, if_false, by_test}
 use Rattle.jobs.specs.Job.{job_answer}
@@ -93,11 +94,11 @@ ended_plain kind a b bytes t r h e f = h ∙ sym (if_false (has_items kind) _ _ 
 
 -- a job
 module _ (items : List ℕ) (w : ℕ) (job : Job) (h : job ≡ job_answer items job_room) where
-  pub job_right : (v : Verdict) → v ≡ job.verdict → v ≡ Verdict.Passed → Line.Job w (job.events + 1) ≡ job_line w items
+  pub job_right : (v : Verdict) → v ≡ job.verdict → v ≡ Ok tt → Line.Job w (job.events + 1) ≡ job_line w items
   unfolding job_line job_said
   job_right v e f = rw (sym h) (ap (λ x. job_said w x job.events) (sym f ∙ e))
 
-  pub job_wrong : (v : Verdict) (why : Refusal) (place : ℕ) → v ≡ job.verdict → v ≡ Verdict.Refused why place → Line.Refused why place ≡ job_line w items
+  pub job_wrong : (v : Verdict) (why : Refusal) (place : ℕ) → v ≡ job.verdict → v ≡ refused_at why place → Line.Refused why place ≡ job_line w items
   unfolding job_line job_said
   job_wrong v why place e f = rw (sym h) (ap (λ x. job_said w x job.events) (sym f ∙ e))
 

@@ -1,4 +1,6 @@
 -- The numbers of a record that was read are at most what they may be, so that two bytes hold a task and a use. Assumes nothing.
+use Rattle.std.specs.Prelude.{Ok, Err}
+use Rattle.rules.specs.Numbers.Verdict.{Verdict}
 use mathlib.Core.Path.{◌≡◌, refl, sym, ◌∙◌}
 use mathlib.Core.List.{List, [], ◌∷◌, ◌++◌}
 use Prim.Native.Nat.{ℕ, zero, suc, ◌≤◌, ◌<◌}
@@ -7,7 +9,6 @@ use lib.Dec.{eqb, ltb}
 use lib.ListN.{drop}
 use borrow.Author.Tests.{eqb-true, ne_eqb}
 use Rattle.rules.specs.Numbers.Place.{at}
-use Rattle.rules.specs.declared.answer.Verdict.{Verdict}
 use Rattle.rules.proofs.Numbers.Choice.{if_true, if_false, by_test, either}
 use Rattle.texts.specs.Cut.{space, before, trimmed}
 use Rattle.texts.specs.Kind.{kind_named, fields_of, most_of, part_of, record_of, has_items}
@@ -59,8 +60,8 @@ plain_kept kind a b (c ∷ cs) h g = tt
 
 said_kept : (w : ℕ) (v : Verdict) (events : ℕ) → Kept (job_said w v events)
 unfolding job_said Kept
-said_kept w Verdict.Passed events = tt
-said_kept w (Verdict.Refused why place) events = tt
+said_kept w (Ok _) events = tt
+said_kept w (Err f) events = tt
 
 ended_kept : (kind : Kind) (a b : ℕ) (bytes : List ℕ) → a ≤ most_of kind 0 → b ≤ most_of kind 1 → Kept (ended kind a b bytes)
 unfolding ended job_line

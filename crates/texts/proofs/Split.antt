@@ -1,4 +1,5 @@
 -- The lines of a text, one after the other, and the ways through the code that goes along them. Assumes nothing.
+use Rattle.std.specs.Prelude.{if◌then◌else◌}
 use mathlib.Core.Path.{◌≡◌, refl, sym, ◌∙◌, ap}
 use mathlib.Core.Bool.{Bool, true, false}
 use mathlib.Core.List.{List, [], ◌∷◌, ◌++◌, map}
@@ -9,7 +10,6 @@ use lib.Dec.{eqb, ltb}
 use lib.ListN.{length, take, drop, replicate, length-drop, length-map, length-replicate, drop_of_length-le}
 use lib.Seq.{drop-drop}
 use borrow.Author.Tests.{eq-eqb, ne_eqb, lt-ltb, le-ltb}
-use Rattle.rules.specs.Numbers.Choice.{when◌then◌else◌}
 use Rattle.rules.specs.Numbers.Place.{from, tabulate}
 use Rattle.rules.specs.Books.Bytes.{long_bytes}
 use Rattle.rules.specs.Books.Event.{event_number}
@@ -38,19 +38,19 @@ abbrev FirstLine : List ℕ → Type 0
 FirstLine text = lines_of text ≡ before newline text ∷ lines_of (drop (suc (up_to newline text)) text)
 
 pub lines_first : (text : List ℕ) → 0 < length text → FirstLine text
-unfolding lines_of longer up_to until when◌then◌else◌
+unfolding lines_of longer up_to until
 lines_first [] l = absurd (omega arith)
 lines_first (c ∷ []) l = go (eqb c newline)
   where
-    go : (t : Bool) → (when t then [] ∷ [] else (c ∷ []) ∷ []) ≡ take (when t then 0 else 1) (c ∷ []) ∷ lines_of (drop (suc (when t then 0 else 1)) (c ∷ []))
+    go : (t : Bool) → (if t then [] ∷ [] else (c ∷ []) ∷ []) ≡ take (if t then 0 else 1) (c ∷ []) ∷ lines_of (drop (suc (if t then 0 else 1)) (c ∷ []))
     go true = refl
     go false = refl
 lines_first (c ∷ d ∷ cs) l = go (eqb c newline) (lines_first (d ∷ cs) (omega arith))
   where
     go : (t : Bool) → FirstLine (d ∷ cs)
-        → (when t then [] ∷ lines_of (d ∷ cs) else longer c (lines_of (d ∷ cs)))
-        ≡ take (when t then 0 else suc (up_to newline (d ∷ cs))) (c ∷ d ∷ cs)
-        ∷ lines_of (drop (suc (when t then 0 else suc (up_to newline (d ∷ cs)))) (c ∷ d ∷ cs))
+        → (if t then [] ∷ lines_of (d ∷ cs) else longer c (lines_of (d ∷ cs)))
+        ≡ take (if t then 0 else suc (up_to newline (d ∷ cs))) (c ∷ d ∷ cs)
+        ∷ lines_of (drop (suc (if t then 0 else suc (up_to newline (d ∷ cs)))) (c ∷ d ∷ cs))
     go true h = refl
     go false h = ap (longer c) h
 

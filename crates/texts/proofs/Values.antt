@@ -1,4 +1,5 @@
 -- Laws of a number in decimal, as loops go along, and the ways of the code that reads one. Assumes nothing.
+use Rattle.std.specs.Prelude.{if◌then◌else◌}
 use mathlib.Core.Path.{◌≡◌, refl, sym, ◌∙◌, ap}
 use mathlib.Core.Bool.{Bool, true, false, not, ◌&&◌}
 use mathlib.Core.List.{List}
@@ -9,7 +10,6 @@ use lib.Dec.{eqb, ltb}
 use lib.ListN.{length, drop, drop_of_length-le}
 use lib.Seq.{drop-cons}
 use borrow.Author.Tests.{lt-ltb, le-ltb, eq-eqb, ne_eqb, ltb-false, not-true, not-false}
-use Rattle.rules.specs.Numbers.Choice.{when◌then◌else◌}
 use Rattle.rules.specs.Numbers.Place.{at}
 use Rattle.rules.proofs.Numbers.Choice.{if_true, if_false, untrue}
 use Rattle.texts.specs.Number.{too_large, is_digit, digital, grown, value_of, number_of}
@@ -66,11 +66,11 @@ value_ends word v i h l = ap (value_of v) (sym (drop_of_length-le word l)) ∙ h
 
 -- a number that was read is at most what it may be
 pub number_within : (most : ℕ) (word : List ℕ) (v : ℕ) → number_of most word ≡ Number.Value v → v ≤ most
-unfolding number_of when◌then◌else◌
+unfolding number_of
 number_within most word v e = go (eqb (length word) 0) (digital word) (ltb most (value_of 0 word)) refl e
   where
     go : (a b t : Bool) → ltb most (value_of 0 word) ≡ t
-        → (when a then Number.Wrong Mistake.Missing else when b then (when t then Number.Wrong Mistake.TooLarge else Number.Value (value_of 0 word)) else Number.Wrong Mistake.NoNumber)
+        → (if a then Number.Wrong Mistake.Missing else if b then (if t then Number.Wrong Mistake.TooLarge else Number.Value (value_of 0 word)) else Number.Wrong Mistake.NoNumber)
         ≡ Number.Value v
         → v ≤ most
     go true b t f h = untrue cc

@@ -1,6 +1,5 @@
 -- RULES 19.1: bytes cut at a byte, spaces passed over, and two words compared. Assumes nothing.
-use Rattle.std.specs.Prelude.{Bool, true, false, not, ◌&&◌, List, [], ◌∷◌, ℕ, suc, eqb, take, drop}
-use Rattle.rules.specs.Numbers.Choice.{when◌then◌else◌}
+use Rattle.std.specs.Prelude.{Bool, true, false, not, ◌&&◌, List, [], ◌∷◌, ℕ, suc, eqb, take, drop, if◌then◌else◌}
 
 abbrev pub newline : ℕ
 newline = 10
@@ -18,7 +17,7 @@ hash = 35
 -- how many bytes stand before the first for which a test holds
 unfoldable pub until : (ℕ → Bool) → List ℕ → ℕ
 until stop [] = 0
-until stop (c ∷ cs) = when stop c then 0 else suc (until stop cs)
+until stop (c ∷ cs) = if stop c then 0 else suc (until stop cs)
 
 -- before the first x; and how many spaces stand at the start
 unfoldable pub up_to : ℕ → List ℕ → ℕ
@@ -30,7 +29,7 @@ spaces_of bytes = until (λ c. not (eqb c space)) bytes
 -- how many bytes stand before the spaces at the end
 unfoldable pub without_spaces : List ℕ → ℕ
 without_spaces [] = 0
-without_spaces (c ∷ cs) = when eqb (without_spaces cs) 0 then (when eqb c space then 0 else 1) else suc (without_spaces cs)
+without_spaces (c ∷ cs) = if eqb (without_spaces cs) 0 then (if eqb c space then 0 else 1) else suc (without_spaces cs)
 
 -- the bytes before the first x, those after the spaces, and those before the spaces at the end
 abbrev pub before : ℕ → List ℕ → List ℕ

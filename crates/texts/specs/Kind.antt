@@ -1,6 +1,5 @@
 -- RULES 19.2: the kinds of record, and the job, which is several: their names, how many numbers each has and how large these may be, and the record that they make. Assumes nothing.
-use Rattle.std.specs.Prelude.{Bool, true, false, List, ℕ, ◌+◌, ◌*◌, eqb}
-use Rattle.rules.specs.Numbers.Choice.{when◌then◌else◌}
+use Rattle.std.specs.Prelude.{Bool, true, false, List, ℕ, ◌+◌, ◌*◌, eqb, if◌then◌else◌}
 use Rattle.rules.specs.Books.Event.{event_number}
 use Rattle.rules.specs.declared.event.Event.{Event}
 use Rattle.page.specs.Ascii.{ascii}
@@ -12,20 +11,20 @@ use Rattle.texts.specs.declared.kind.Named.{Named}
 -- of an event or a job, and of any record
 unfoldable pub event_named : List ℕ → Named
 event_named word =
-    when same word (ascii "release") then Named.Is Release
-    else when same word (ascii "acquire") then Named.Is Acquire
-    else when same word (ascii "unlock") then Named.Is Unlock
-    else when same word (ascii "work") then Named.Is Work
-    else when same word (ascii "finish") then Named.Is Finish
-    else when same word (ascii "tick") then Named.Is Tick
-    else when same word (ascii "job") then Named.Is Job
+    if same word (ascii "release") then Named.Is Release
+    else if same word (ascii "acquire") then Named.Is Acquire
+    else if same word (ascii "unlock") then Named.Is Unlock
+    else if same word (ascii "work") then Named.Is Work
+    else if same word (ascii "finish") then Named.Is Finish
+    else if same word (ascii "tick") then Named.Is Tick
+    else if same word (ascii "job") then Named.Is Job
     else Named.Nothing
 
 unfoldable pub kind_named : List ℕ → Named
 kind_named word =
-    when same word (ascii "task") then Named.Is Task
-    else when same word (ascii "lock") then Named.Is Lock
-    else when same word (ascii "use") then Named.Is Use
+    if same word (ascii "task") then Named.Is Task
+    else if same word (ascii "lock") then Named.Is Lock
+    else if same word (ascii "use") then Named.Is Use
     else event_named word
 
 -- how many numbers a record has
@@ -44,7 +43,7 @@ fields_of Job = 1
 -- the most that its number w may be, w being 0 or 1: one byte holds it, or two for a limit and for units
 unfoldable pub most_of : Kind → ℕ → ℕ
 most_of Task w = 255
-most_of Lock w = when eqb w 0 then 255 else 65_535
+most_of Lock w = if eqb w 0 then 255 else 65_535
 most_of Use w = 255
 most_of Release w = 255
 most_of Acquire w = 255

@@ -1,10 +1,9 @@
 -- RULES 19.1 to 19.4: what one line says. Assumes nothing.
-use Rattle.std.specs.Prelude.{List, [], ◌∷◌, map, ℕ, ◌+◌, ◌*◌, ◌-◌, eqb, ltb, length, take, drop}
+use Rattle.std.specs.Prelude.{List, [], ◌∷◌, map, ℕ, ◌+◌, ◌*◌, ◌-◌, eqb, ltb, length, take, drop, Ok, Err, if◌then◌else◌}
+use Rattle.rules.specs.Numbers.Verdict.{Verdict}
 use Rattle.rules.specs.Numbers.Capacity.{max_events}
-use Rattle.rules.specs.Numbers.Choice.{when◌then◌else◌}
 use Rattle.rules.specs.Numbers.Place.{at}
 use Rattle.rules.specs.Books.Event.{event_number}
-use Rattle.rules.specs.declared.answer.Verdict.{Verdict}
 use Rattle.jobs.specs.Job.{job_events, job_answer}
 use Rattle.texts.specs.Cut.{return, space, hash, up_to, before, spaces_of, trimmed, bare}
 use Rattle.texts.specs.Kind.{kind_named, fields_of, most_of, part_of, record_of, has_items}
@@ -19,7 +18,7 @@ use Rattle.texts.specs.declared.line.Line.{Line}
 
 -- how many bytes it has without a carriage return at its end
 unfoldable pub without_return : List ℕ → ℕ
-without_return line = when eqb (length line) 0 then 0 else when eqb (at line (length line - 1)) return then length line - 1 else length line
+without_return line = if eqb (length line) 0 then 0 else if eqb (at line (length line - 1)) return then length line - 1 else length line
 
 -- what stands before a comment
 abbrev pub content_of : List ℕ → List ℕ
@@ -33,10 +32,10 @@ word_length bytes = up_to space bytes + spaces_of (drop (up_to space bytes) byte
 
 -- number w of a record, where the bytes start with its word; a record that has no such number takes 0, and no byte
 unfoldable pub field_of : Kind → ℕ → List ℕ → Number
-field_of kind w bytes = when ltb w (fields_of kind) then number_of (most_of kind w) (before space bytes) else Number.Value 0
+field_of kind w bytes = if ltb w (fields_of kind) then number_of (most_of kind w) (before space bytes) else Number.Value 0
 
 unfoldable pub field_length : Kind → ℕ → List ℕ → ℕ
-field_length kind w bytes = when ltb w (fields_of kind) then word_length bytes else 0
+field_length kind w bytes = if ltb w (fields_of kind) then word_length bytes else 0
 
 abbrev pub after_field : Kind → ℕ → List ℕ → List ℕ
 after_field kind w bytes = drop (field_length kind w bytes) bytes
@@ -51,15 +50,15 @@ abbrev pub job_room : ℕ
 job_room = max_events * 4
 
 unfoldable pub job_said : ℕ → Verdict → ℕ → Line
-job_said w Verdict.Passed events = Line.Job w (events + 1)
-job_said w (Verdict.Refused why place) events = Line.Refused why place
+job_said w (Ok _) events = Line.Job w (events + 1)
+job_said w (Err f) events = Line.Refused f.why f.place
 
 unfoldable pub job_line : ℕ → List ℕ → Line
 job_line w items = job_said w (job_answer items job_room).verdict (job_answer items job_room).events
 
 -- what comes after the numbers, by the kind
 unfoldable pub ended : Kind → ℕ → ℕ → List ℕ → Line
-ended kind a b bytes = when has_items kind then job_line (record_of kind a b) (bare bytes) else plain_line kind a b bytes
+ended kind a b bytes = if has_items kind then job_line (record_of kind a b) (bare bytes) else plain_line kind a b bytes
 
 -- its second number, and its first: the words 3 and 2 of the line
 unfoldable pub with_second : Kind → ℕ → Number → List ℕ → Line

@@ -1,12 +1,11 @@
 -- RULES 19.2, 19.4: a number in decimal digits, or what is wrong with the word. Assumes nothing.
-use Rattle.std.specs.Prelude.{Bool, true, false, ◌&&◌, List, [], ◌∷◌, ℕ, ◌+◌, ◌*◌, ◌-◌, min, eqb, leb, ltb, length}
-use Rattle.rules.specs.Numbers.Choice.{when◌then◌else◌}
+use Rattle.std.specs.Prelude.{Bool, true, false, ◌&&◌, List, [], ◌∷◌, ℕ, ◌+◌, ◌*◌, ◌-◌, min, eqb, leb, ltb, length, if◌then◌else◌}
 use Rattle.texts.specs.declared.number.Mistake.{Mistake}
 use Rattle.texts.specs.declared.number.Number.{Number}
 
 -- a byte from `0` to `9`
 unfoldable pub is_digit : ℕ → Bool
-is_digit c = when ltb c 48 then false else leb c 57
+is_digit c = if ltb c 48 then false else leb c 57
 
 unfoldable pub digital : List ℕ → Bool
 digital [] = true
@@ -18,7 +17,7 @@ too_large = 65_536
 
 -- the number v with one digit more, and with all digits of a word
 unfoldable pub grown : ℕ → ℕ → ℕ
-grown v c = when ltb c 48 then v else min (v * 10 + (c - 48)) too_large
+grown v c = if ltb c 48 then v else min (v * 10 + (c - 48)) too_large
 
 unfoldable pub value_of : ℕ → List ℕ → ℕ
 value_of v [] = v
@@ -27,6 +26,6 @@ value_of v (c ∷ cs) = value_of (grown v c) cs
 -- the number that a word is, where it may be at most this
 unfoldable pub number_of : ℕ → List ℕ → Number
 number_of most word =
-    when eqb (length word) 0 then Number.Wrong Mistake.Missing
-    else when digital word then (when ltb most (value_of 0 word) then Number.Wrong Mistake.TooLarge else Number.Value (value_of 0 word))
+    if eqb (length word) 0 then Number.Wrong Mistake.Missing
+    else if digital word then (if ltb most (value_of 0 word) then Number.Wrong Mistake.TooLarge else Number.Value (value_of 0 word))
     else Number.Wrong Mistake.NoNumber

@@ -8,7 +8,7 @@ use crate::number::{Mistake, Number, read_number};
 use crate::record::record;
 use crate::word::{find, spaces, without_spaces};
 use jobs::check_job;
-use rules::answer::Verdict;
+use rules::answer::Fault;
 use rules::capacity::MAX_EVENTS;
 use rules::refusal::Refusal;
 
@@ -92,8 +92,8 @@ fn job_line(w: u32, items: &[u8]) -> Line
     let job = check_job(items, JOB_ROOM);
     let verdict = job.verdict;
     match verdict {
-        Verdict::Passed => Line::Job(w, job.events + 1),
-        Verdict::Refused(why, place) => Line::Refused(why, place),
+        Ok(()) => Line::Job(w, job.events + 1),
+        Err(Fault { why, place }) => Line::Refused(why, place),
     }
 }
 

@@ -1,4 +1,5 @@
 -- What the root says: who is elected, and the greatest kept priority. Assumes nothing.
+use Rattle.std.specs.Prelude.{if◌then◌else◌}
 use mathlib.Core.Path.{◌≡◌, refl, sym, ◌∙◌, ap, ap₂}
 use mathlib.Core.Logic.{◌≢◌, ⊎_elim}
 use mathlib.Core.List.{List}
@@ -8,7 +9,6 @@ use native.Mathlib.Decide.{ℕ_discrete}
 use native.Mathlib.Omega.{arith}
 use lib.Dec.{eqb}
 use Rattle.rules.specs.Numbers.Capacity.{max_tasks, nobody}
-use Rattle.rules.specs.Numbers.Choice.{when◌then◌else◌}
 use Rattle.rules.specs.Numbers.Place.{at, greatest}
 use Rattle.rules.specs.Schedulers.Elect.{earlier, earliest, elected}
 use Rattle.rules.proofs.Numbers.Choice.{lt_or_le}
@@ -39,13 +39,13 @@ module _ (released kept : ℕ → ℕ) where
   earliest_order : (g n : ℕ) → n ≤ nobody → earliest released kept g n ≡ earliest order kept g n
   unfolding earliest
   earliest_order g zero h = refl
-  earliest_order g (suc k) h = ap₂ (λ a b. when eqb (kept k) g then a else b)
+  earliest_order g (suc k) h = ap₂ (λ a b. if eqb (kept k) g then a else b)
       (earlier_order (earliest released kept g k) k (omega arith) (earliest_within released kept g k) ∙ ap (λ b. earlier order b k) (earliest_order g k (omega arith)))
       (earliest_order g k (omega arith))
 
   elected_order : (n : ℕ) → n ≤ nobody → elected released kept n ≡ elected order kept n
   unfolding elected
-  elected_order n h = ap (λ q. when eqb (greatest kept n) 0 then nobody else q) (earliest_order (greatest kept n) n h)
+  elected_order n h = ap (λ q. if eqb (greatest kept n) 0 then nobody else q) (earliest_order (greatest kept n) n h)
 
 -- ---- the root, over release numbers of 32 bits and n tasks of 8
 

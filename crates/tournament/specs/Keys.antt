@@ -1,7 +1,6 @@
 -- A task's key: the greater kept priority goes first, then the earlier release, then the lower number. Assumes nothing.
-use Rattle.std.specs.Prelude.{List, ℕ, ◌+◌, ◌*◌, ◌-◌, ◌/◌, ◌%◌, ◌^◌, eqb}
+use Rattle.std.specs.Prelude.{List, ℕ, ◌+◌, ◌*◌, ◌-◌, ◌/◌, ◌%◌, ◌^◌, eqb, if◌then◌else◌}
 use Rattle.rules.specs.Numbers.Capacity.{nobody}
-use Rattle.rules.specs.Numbers.Choice.{when◌then◌else◌}
 use Rattle.rules.specs.Numbers.Place.{at, greatest}
 use Rattle.tournament.specs.Tree.{tree_of}
 
@@ -11,7 +10,7 @@ order_of released t = released * 2 ^ 8 + t
 
 -- the key of task t; 0 where nothing is kept for it
 unfoldable pub key_of : ℕ → ℕ → ℕ → ℕ
-key_of kept released t = when eqb kept 0 then 0 else kept * 2 ^ 40 + (2 ^ 40 - 1 - order_of released t)
+key_of kept released t = if eqb kept 0 then 0 else kept * 2 ^ 40 + (2 ^ 40 - 1 - order_of released t)
 
 -- the keys of all tasks
 unfoldable pub keys_of : (ℕ → ℕ) → (ℕ → ℕ) → ℕ → ℕ

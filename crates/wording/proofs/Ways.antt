@@ -1,11 +1,11 @@
 -- The ways through the code that puts words on a page. Assumes nothing.
+use Rattle.std.specs.Prelude.{if◌then◌else◌}
 use mathlib.Core.Path.{◌≡◌, sym, ◌∙◌, ap}
 use mathlib.Core.List.{List, [], ◌++◌, append_assoc}
 use Prim.Native.Nat.{ℕ, ◌-◌, ◌<◌}
 use native.Mathlib.Omega.{arith}
 use lib.Dec.{eqb}
 use borrow.Author.Tests.{eq-eqb, ne_eqb}
-use Rattle.rules.specs.Numbers.Choice.{when◌then◌else◌}
 use Rattle.rules.specs.Books.Load.{lock_second}
 use Rattle.rules.specs.declared.event.Event.{Event}
 use Rattle.rules.specs.declared.refusal.Refusal.{Refusal}
@@ -57,20 +57,20 @@ said_then p q r text ns ms b c h g e =
     typed_two p q r (filled text ms) (b ++ c) (said_as p q text ns ms g e) h ∙ ap (typed p) (sym (append_assoc (filled text ms) b c))
 
 -- one of two, by whether two numbers are equal
-pub said_equal : (p r : Page) (x y : ℕ) (a b : List ℕ) → r ≡ typed p a → x ≡ y → r ≡ typed p (when eqb x y then a else b)
+pub said_equal : (p r : Page) (x y : ℕ) (a b : List ℕ) → r ≡ typed p a → x ≡ y → r ≡ typed p (if eqb x y then a else b)
 said_equal p r x y a b h e = h ∙ ap (typed p) (sym (if_true (eqb x y) a b (eq-eqb x y e)))
 
-pub said_other : (p r : Page) (x y : ℕ) (a b : List ℕ) → r ≡ typed p b → (x ≡ y → ⊥) → r ≡ typed p (when eqb x y then a else b)
+pub said_other : (p r : Page) (x y : ℕ) (a b : List ℕ) → r ≡ typed p b → (x ≡ y → ⊥) → r ≡ typed p (if eqb x y then a else b)
 said_other p r x y a b h n = h ∙ ap (typed p) (sym (if_false (eqb x y) a b (ne_eqb x y n)))
 
 -- ---- a lock, by its second byte
 
 pub lock_words : (p r : Page) (w s : ℕ) (text other ns ms os : List ℕ) → r ≡ typed p (filled text ns) → s ≡ lock_second w → s ≡ 0 → ns ≡ ms
-    → r ≡ typed p (when eqb (lock_second w) 0 then filled text ms else filled other os)
+    → r ≡ typed p (if eqb (lock_second w) 0 then filled text ms else filled other os)
 lock_words p r w s text other ns ms os h e z g = said_equal p r (lock_second w) 0 (filled text ms) (filled other os) (said_as p r text ns ms h g) (sym e ∙ z)
 
 pub lock_none : (p r : Page) (w s : ℕ) (text other ns ms os : List ℕ) → r ≡ typed p (filled other ns) → s ≡ lock_second w → (s ≡ 0 → ⊥) → ns ≡ os
-    → r ≡ typed p (when eqb (lock_second w) 0 then filled text ms else filled other os)
+    → r ≡ typed p (if eqb (lock_second w) 0 then filled text ms else filled other os)
 lock_none p r w s text other ns ms os h e z g =
     said_other p r (lock_second w) 0 (filled text ms) (filled other os) (said_as p r other ns os h g) (λ y. z (e ∙ y))
 

@@ -1,6 +1,5 @@
 -- RULES 19.9: what a call of the kernel and the refusal of an event were about. Assumes nothing.
-use Rattle.std.specs.Prelude.{List, [], ◌∷◌, ◌++◌, ℕ, eqb}
-use Rattle.rules.specs.Numbers.Choice.{when◌then◌else◌}
+use Rattle.std.specs.Prelude.{List, [], ◌∷◌, ◌++◌, ℕ, eqb, if◌then◌else◌}
 use Rattle.rules.specs.Numbers.Refusal.{number_of}
 use Rattle.rules.specs.declared.refusal.Refusal.{Refusal}
 use Rattle.page.specs.Ascii.{ascii}
@@ -11,7 +10,7 @@ use Rattle.wording.specs.declared.reason.Facts.{Facts}
 -- a call: the event's number, the task that ran before it, the lock that it names, the task that runs after it and its user word
 unfoldable pub call_line : (n before lock after user : ℕ) → List ℕ
 call_line n before lock after user =
-    when eqb after before then says "event @: task @ gave lock @ back and called the kernel; nobody had waited for task @\n" (n ∷ before ∷ lock ∷ before ∷ [])
+    if eqb after before then says "event @: task @ gave lock @ back and called the kernel; nobody had waited for task @\n" (n ∷ before ∷ lock ∷ before ∷ [])
     else says "event @: task @ gave lock @ back and called the kernel; task @ had waited for task @ and runs at @\n"
     (n ∷ before ∷ lock ∷ after ∷ before ∷ user ∷ [])
 
@@ -22,7 +21,7 @@ stop_line n why = says "event @: refused @: " (n ∷ number_of why ∷ []) ++ me
 -- the lock that was to be given back is not that of the newest of so many takes, and the work passes a limit
 unfoldable pub newest_reason : (running depth newest named : ℕ) → List ℕ
 newest_reason running depth newest named =
-    when eqb depth 0 then says "task @ has no lock open, and lock @ was to be given back\n" (running ∷ named ∷ [])
+    if eqb depth 0 then says "task @ has no lock open, and lock @ was to be given back\n" (running ∷ named ∷ [])
     else says "the newest take of task @ is of lock @, and lock @ was to be given back\n" (running ∷ newest ∷ named ∷ [])
 
 unfoldable pub past_reason : (running units limit past amount : ℕ) → List ℕ

@@ -1,7 +1,6 @@
 -- RULES 19.7, 19.8: the line of each record of a book, as a number, and of an entry of its contents. Assumes nothing.
-use Rattle.std.specs.Prelude.{List, [], ◌∷◌, ◌++◌, ℕ, eqb}
+use Rattle.std.specs.Prelude.{List, [], ◌∷◌, ◌++◌, ℕ, eqb, if◌then◌else◌}
 use Rattle.rules.specs.Numbers.Capacity.{nobody}
-use Rattle.rules.specs.Numbers.Choice.{when◌then◌else◌}
 use Rattle.rules.specs.Numbers.Refusal.{number_of}
 use Rattle.rules.specs.Books.Event.{record_kind, record_id, record_amount, number_fault, number_event}
 use Rattle.rules.specs.Books.Load.{task_base, task_maximum, lock_ceiling, lock_second, lock_limit, use_task, use_lock}
@@ -19,7 +18,7 @@ task_line k w = says "task @ @ # @\n" (task_base w ∷ task_maximum w ∷ k ∷ 
 -- a lock with something in its second byte has no words
 unfoldable pub lock_line : ℕ → ℕ → List ℕ
 lock_line k w =
-    when eqb (lock_second w) 0 then says "lock @ @ # @\n" (lock_ceiling w ∷ lock_limit w ∷ k ∷ [])
+    if eqb (lock_second w) 0 then says "lock @ @ # @\n" (lock_ceiling w ∷ lock_limit w ∷ k ∷ [])
     else says "# lock @ @ with @ in its second byte\n" (lock_ceiling w ∷ lock_limit w ∷ lock_second w ∷ [])
 
 unfoldable pub use_line : ℕ → ℕ → List ℕ
@@ -39,12 +38,12 @@ unfoldable pub no_event_line : ℕ → List ℕ
 no_event_line w = says "# kind @, id @, amount @\n" (record_kind w ∷ record_id w ∷ record_amount w ∷ [])
 
 unfoldable pub event_line : ℕ → List ℕ → List ℕ
-event_line w comment = when number_fault w then no_event_line w else event_words (number_event w) ++ comment
+event_line w comment = if number_fault w then no_event_line w else event_words (number_event w) ++ comment
 
 -- its comment: n is the number of the event, which ran, was refused or was not reached
 unfoldable pub ran_comment : (n task user : ℕ) → List ℕ
 ran_comment n task user =
-    when eqb task nobody then says " # event @: nobody runs\n" (n ∷ task ∷ user ∷ []) else says " # event @: task @ runs at @\n" (n ∷ task ∷ user ∷ [])
+    if eqb task nobody then says " # event @: nobody runs\n" (n ∷ task ∷ user ∷ []) else says " # event @: task @ runs at @\n" (n ∷ task ∷ user ∷ [])
 
 unfoldable pub refused_comment : ℕ → Refusal → List ℕ
 refused_comment n why = says " # event @: refused @: " (n ∷ number_of why ∷ []) ++ meaning_of why ++ ascii "\n"

@@ -10,7 +10,7 @@ ghost use Rattle.wording.specs.Mistakes.{form_of, wrong_word, mistake_of, refusa
 
 use crate::meaning::put_meaning;
 use page::{put_says, put_text};
-use rules::refusal::{Refusal, number};
+use rules::refusal::Refusal;
 use texts::kind::{Kind, most};
 use texts::line::Line;
 use texts::number::Mistake;
@@ -92,7 +92,7 @@ pub fn put_meaning_line(out: &mut [u8], i: usize, why: Refusal) -> usize
 pub fn number_of(why: Refusal) -> u64
     ensures { result ≡ number_of why }
 {
-    number(why) as u64
+    u8::from(why) as u64
 }
 
 // A refusal.

@@ -1,9 +1,9 @@
 -- `plan::walk::users_of` meets its contract. Each turn asks one task. Assumes nothing.
+use Rattle.std.specs.Prelude.{if◌then◌else◌}
 use Prim.Native.Nat.{◌-◌}
 use mathlib.Core.Bool.{◌&&◌}
 use lib.Dec.{ltb}
 use Rattle.rules.proofs.Numbers.Place.{GreatestSoFar, greatest_start, greatest_next, greatest_ends, AskedSoFar, asked_ends}
-use Rattle.rules.specs.Numbers.Choice.{when◌then◌else◌}
 use Rattle.rules.specs.Numbers.Mask.{has_bit}
 use Rattle.rules.specs.Numbers.Place.{at}
 use Rattle.rules.specs.Books.Plan.{maximum_fault}
@@ -15,7 +15,7 @@ use Rattle.plan.proofs.walk.users_of.Tie as tie
 
 abbrev invariant-loop : tie.invariant-loop-x
 invariant-loop n base maximum ceiling uses l room top₀ gap₀ x₀ top gap x =
-    GreatestSoFar (λ y. when has_bit (at uses y) l then at base y else 0) n x top
+    GreatestSoFar (λ y. if has_bit (at uses y) l then at base y else 0) n x top
     × AskedSoFar (λ y. has_bit (at uses y) l && maximum_fault (at maximum y) ceiling) n x (ltb room gap)
 
 abbrev decreases-loop : tie.decreases-loop-x

@@ -1,6 +1,6 @@
 -- The order of the load: each check is asked where those before it found no offender. Assumes nothing.
-use Rattle.std.specs.Prelude.{Ok, if◌then◌else◌}
-use Rattle.rules.specs.Numbers.Verdict.{Verdict, refused_at}
+use Rattle.std.specs.Prelude.{Result, Ok, Err, if◌then◌else◌}
+use Rattle.rules.specs.Numbers.Verdict.{fault_at, refused_at}
 use mathlib.Core.Path.{◌≡◌, refl, sym, ◌∙◌, ap}
 use mathlib.Core.List.{List}
 use Prim.Native.Nat.{ℕ, ◌+◌, ◌≤◌, ◌<◌}
@@ -11,10 +11,10 @@ use Rattle.rules.specs.Numbers.Place.{at, first_from, renewed, tabulate}
 use Rattle.rules.specs.Numbers.Refusal.{number_of, first_fault, check_for}
 use Rattle.rules.specs.Books.Plan.{ceiling_fault}
 use Rattle.rules.specs.Books.Load.{task_base, task_maximum, lock_ceiling, lock_limit, count_fault_of, task_fault_at, lock_fault_at, use_fault, use_above}
-use Rattle.rules.specs.Books.Load.{masks_of, plan_of, record_checks, load_checks, passed_load, refused_load, loaded_as, load_of}
+use Rattle.rules.specs.Books.Load.{masks_of, plan_of, record_checks, load_checks, passed_load, loaded_as, loaded_with, load_of}
 use Rattle.rules.specs.declared.plan.Plan.{Plan}
-use Rattle.rules.specs.Books.Load.{Loaded}
 use Rattle.rules.specs.declared.refusal.Refusal.{Refusal}
+use Rattle.rules.specs.declared.answer.Fault.{Fault}
 use Rattle.rules.specs.declared.refusal.Refusal.TheVariants.{WrongCount, WrongTask, WrongLock, WrongUse, WrongCeiling, AboveMaximum}
 use Rattle.rules.proofs.Numbers.Place.{first_same, renewed_table, none_past}
 use Rattle.rules.proofs.Numbers.Checks.{Clean, clean_for, check_left, check_right, check_none, check_finds, check_passes}
@@ -84,18 +84,18 @@ module _ (tasks locks uses : List ℕ) (e : ℕ) (count : e ≡ first_from (coun
 
 -- ---- then 7 and 24
 
--- v is what the checks of the records say
-module _ (tasks locks uses : List ℕ) (v : Verdict) (said : v ≡ first_fault (record_checks tasks locks uses)) where
+module _ (tasks locks uses : List ℕ) where
   abbrev p : Plan
   p = plan_of tasks locks uses
 
-  pub refused_record_lem : (why : Refusal) (place : ℕ) (r : Loaded) → v ≡ refused_at why place → r ≡ refused_load why place → r ≡ load_of tasks locks uses
-  unfolding load_of loaded_as load_checks
-  refused_record_lem why place r e h = h ∙ ap (λ w. loaded_as w p) (sym (check_left (record_checks tasks locks uses) _ why place (sym said ∙ e)))
+  pub refused_record_lem : (r : Result Plan Fault) (f : Fault) → r ≡ Err f → Err f ≡ first_fault (record_checks tasks locks uses)
+      → loaded_with r ≡ load_of tasks locks uses
+  unfolding load_of loaded_as loaded_with load_checks
+  refused_record_lem r f h e = ap loaded_with h ∙ ap (λ w. loaded_as w p) (sym (check_left (record_checks tasks locks uses) _ f.why f.place (sym e)))
 
-  module _ (passed : v ≡ Ok tt) where
+  module _ (passed : Ok tt ≡ first_fault (record_checks tasks locks uses)) where
     clean : (why : Refusal) → Clean (check_for why (record_checks tasks locks uses))
-    clean = clean_for (record_checks tasks locks uses) (sym said ∙ passed)
+    clean = clean_for (record_checks tasks locks uses) (sym passed)
 
     pub few_tasks : length tasks ≤ max_tasks
     unfolding record_checks check_for number_of
@@ -130,27 +130,25 @@ module _ (tasks locks uses : List ℕ) (v : Verdict) (said : v ≡ first_fault (
             ceiling ∙ ap (λ w. first_from (wrong_ceiling w.tasks w.base w.ceiling w.uses) 0 w.locks) built
             ∙ first_same _ _ 0 (length locks) (λ l a h. ceiling_same p l)
 
-        pub wrong_ceiling_lem : (r : Loaded) → c < length locks → r ≡ refused_load WrongCeiling c → r ≡ load_of tasks locks uses
-        unfolding load_of loaded_as load_checks
-        wrong_ceiling_lem r h g =
-            g
-            ∙ ap (λ w. loaded_as w p)
-            (sym (check_right (record_checks tasks locks uses) _ (sym said ∙ passed) ∙ check_finds _ _ c first h
+        pub wrong_ceiling_lem : c < length locks → loaded_with (Err (fault_at WrongCeiling c)) ≡ load_of tasks locks uses
+        unfolding load_of loaded_as loaded_with load_checks
+        wrong_ceiling_lem h =
+            ap (λ w. loaded_as w p)
+            (sym (check_right (record_checks tasks locks uses) _ (sym passed) ∙ check_finds _ _ c first h
             ∙ ap (refused_at WrongCeiling) (omega arith)))
 
         -- u is the first use of a lock above its task's maximum
         module _ (right : length locks ≤ c) (u : ℕ) (above : u ≡ first_from (use_above tasks locks uses) 0 (length uses)) where
-          pub wrong_maximum : (r : Loaded) → u < length uses → r ≡ refused_load AboveMaximum u → r ≡ load_of tasks locks uses
-          unfolding load_of loaded_as load_checks
-          wrong_maximum r h g =
-              g
-              ∙ ap (λ w. loaded_as w p)
-              (sym (check_right (record_checks tasks locks uses) _ (sym said ∙ passed) ∙ check_passes _ _ c first right ∙ check_finds _ _ u above h
+          pub wrong_maximum : u < length uses → loaded_with (Err (fault_at AboveMaximum u)) ≡ load_of tasks locks uses
+          unfolding load_of loaded_as loaded_with load_checks
+          wrong_maximum h =
+              ap (λ w. loaded_as w p)
+              (sym (check_right (record_checks tasks locks uses) _ (sym passed) ∙ check_passes _ _ c first right ∙ check_finds _ _ u above h
               ∙ ap (refused_at AboveMaximum) (omega arith)))
 
-          pub all_right : (r : Loaded) → length uses ≤ u → r ≡ passed_load q → r ≡ load_of tasks locks uses
-          unfolding load_of loaded_as load_checks
-          all_right r h g =
-              g ∙ ap passed_load built
+          pub all_right : length uses ≤ u → loaded_with (Ok q) ≡ load_of tasks locks uses
+          unfolding load_of loaded_as loaded_with load_checks
+          all_right h =
+              ap passed_load built
               ∙ ap (λ w. loaded_as w p)
-              (sym (check_right (record_checks tasks locks uses) _ (sym said ∙ passed) ∙ check_passes _ _ c first right ∙ check_passes _ _ u above h ∙ check_none))
+              (sym (check_right (record_checks tasks locks uses) _ (sym passed) ∙ check_passes _ _ c first right ∙ check_passes _ _ u above h ∙ check_none))

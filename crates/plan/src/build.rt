@@ -3,34 +3,12 @@ ghost use Rattle.std.specs.Prelude.{◌≡◌, ◌≤◌, length};
 ghost use Rattle.rules.specs.Numbers.Place.{at, renewed};
 ghost use Rattle.rules.specs.Numbers.Capacity.{max_tasks, max_locks};
 ghost use Rattle.plan.specs.Placed.{Placed};
-ghost use Rattle.rules.specs.Books.Load.{task_base, task_maximum, lock_ceiling, lock_limit, masks_of, plan_of, refused_load, passed_load};
+ghost use Rattle.rules.specs.Books.Load.{task_base, task_maximum, lock_ceiling, lock_limit, masks_of, plan_of};
 
 use crate::record::{lock_ceiling, lock_limit, task_base, task_maximum, use_lock, use_task};
 use figures::mask::with_bit;
-use rules::answer::{Fault, Loaded};
 use rules::capacity::{MAX_LOCKS, MAX_TASKS};
-use rules::plan::{Plan, blank};
-use rules::refusal::Refusal;
-
-// The blank plan beside a refusal.
-pub fn refused(why: Refusal, place: usize) -> Loaded
-    ensures { result ≡ refused_load why place }
-{
-    let plan = blank();
-    Loaded {
-        verdict: Err(Fault { why, place }),
-        plan: plan,
-    }
-}
-
-pub fn loaded(plan: Plan) -> Loaded
-    ensures { result ≡ passed_load plan }
-{
-    Loaded {
-        verdict: Ok(()),
-        plan: plan,
-    }
-}
+use rules::plan::Plan;
 
 fn fill_tasks(tasks: &[u16], base: &mut [u8; MAX_TASKS], maximum: &mut [u8; MAX_TASKS])
     requires { length tasks.now ≤ max_tasks }

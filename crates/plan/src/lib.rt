@@ -12,35 +12,30 @@ mod record;
 mod walk;
 
 ghost use Rattle.std.specs.Prelude.{◌≡◌};
-ghost use Rattle.rules.specs.Books.Load.{load_of};
+ghost use Rattle.rules.specs.Books.Load.{load_of, loaded_with};
 ghost use Rattle.rules.specs.Demands.Bound.{bound_of};
 ghost use Rattle.rules.specs.Soundness.SoundTest as SoundTest;
 
-use rules::answer::{Fault, Loaded};
+use rules::answer::Fault;
 use rules::plan::Plan;
 use rules::refusal::Refusal;
 
 // One number for a record, little-endian: a task's two bytes, a lock's four, a use's two. The answer
 // is the plan, or the first offender of 2, 4 to 7 and 24.
-pub fn load(tasks: &[u16], locks: &[u32], uses: &[u16]) -> Loaded
-    ensures { result ≡ load_of tasks.now locks.now uses.now }
+pub fn load(tasks: &[u16], locks: &[u32], uses: &[u16]) -> Result<Plan, Fault>
+    ensures { loaded_with result ≡ load_of tasks.now locks.now uses.now }
 {
-    let verdict = faults::first_record(tasks, locks, uses);
-    match verdict {
-        Err(Fault { why, place }) => build::refused(why, place),
-        Ok(()) => {
-            let plan = build::built(tasks, locks, uses);
-            let c = ceilings::first_ceiling(plan);
-            if c < locks.len() {
-                return build::refused(Refusal::WrongCeiling, c);
-            }
-            let u = maxima::first_above(tasks, locks, uses);
-            if u < uses.len() {
-                return build::refused(Refusal::AboveMaximum, u);
-            }
-            build::loaded(plan)
-        }
+    faults::first_record(tasks, locks, uses)?;
+    let plan = build::built(tasks, locks, uses);
+    let c = ceilings::first_ceiling(plan);
+    if c < locks.len() {
+        return Err(Fault { why: Refusal::WrongCeiling, place: c });
     }
+    let u = maxima::first_above(tasks, locks, uses);
+    if u < uses.len() {
+        return Err(Fault { why: Refusal::AboveMaximum, place: u });
+    }
+    Ok(plan)
 }
 
 // The bound on the delay of task t: the greatest limit of a lock that may hold it up.

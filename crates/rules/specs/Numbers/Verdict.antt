@@ -15,5 +15,9 @@ Answer = Result Bool Refusal
 abbrev pub Verdict : Type 0
 Verdict = Result (Unit {0}) Fault
 
+-- a refusal at a place, and a verdict that is one
+abbrev pub fault_at : Refusal → ℕ → Fault
+fault_at why place = record { why = why; place = place }
+
 abbrev pub refused_at : Refusal → ℕ → Verdict
-refused_at why place = Err (record { why = why; place = place })
+refused_at why place = Err (fault_at why place)

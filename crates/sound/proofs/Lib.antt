@@ -1,6 +1,6 @@
 -- The ways through the test of soundness.
+mod Tests
+mod Places
 mod Rows
-mod Numbered
 mod Owners
-mod Parts
 mod Whole

@@ -1,12 +1,12 @@
 -- The ways through a row of takes. Assumes nothing.
 use mathlib.Core.Path.{◌≡◌, refl, sym, ◌∙◌, ap, ap₂, subst}
-use mathlib.Core.Bool.{Bool, true, false, not}
+use mathlib.Core.Bool.{true, false}
 use mathlib.Core.List.{List, [], ◌∷◌}
 use Prim.Native.Nat.{ℕ, suc, ◌+◌, ◌-◌, ◌%◌, ◌^◌, ◌≤◌, ◌<◌, max}
 use native.Mathlib.Nat.{lt_of_lt_of_le, zero-lt-suc, pow-le-pow_right}
 use native.Mathlib.Omega.{arith}
 use lib.Dec.{eqb, ltb}
-use borrow.Author.Tests.{eq-eqb, ne_eqb, lt-ltb, le-ltb, not-true, not-false}
+use borrow.Author.Tests.{eq-eqb, ne_eqb, lt-ltb, le-ltb}
 use Rattle.rules.specs.Numbers.Choice.{all_true}
 use Rattle.rules.specs.Numbers.Place.{at}
 use Rattle.rules.specs.Numbers.Mask.{has_bit}
@@ -33,10 +33,10 @@ module _ (ceiling : List ℕ) (base row k : ℕ) where
   pub priority_ends : k ≡ 0 → base ≡ priority (at ceiling) base row k
   priority_ends e = sym (ap (priority (at ceiling) base row) e ∙ priority_none (at ceiling) base row)
 
-  pub priority_more : (u l below top word r : ℕ) → (k ≡ 0 → ⊥) → u ≡ under row → l ≡ newest row → below ≡ priority (at ceiling) base u (k - 1)
-      → top ≡ at ceiling l → word ≡ top → r ≡ max word below → r ≡ priority (at ceiling) base row k
-  priority_more u l below top word r n d e h g w f =
-      f ∙ ap₂ max (w ∙ g ∙ ap (at ceiling) e) (h ∙ ap (λ v. priority (at ceiling) base v (k - 1)) d)
+  pub priority_more : (u l below top r : ℕ) → (k ≡ 0 → ⊥) → u ≡ under row → l ≡ newest row → below ≡ priority (at ceiling) base u (k - 1)
+      → top ≡ at ceiling l → r ≡ max top below → r ≡ priority (at ceiling) base row k
+  priority_more u l below top r n d e h g f =
+      f ∙ ap₂ max (g ∙ ap (at ceiling) e) (h ∙ ap (λ v. priority (at ceiling) base v (k - 1)) d)
       ∙ sym (ap (priority (at ceiling) base row) (one_more k n) ∙ priority_suc (at ceiling) base row (k - 1))
 
   pub saves_ends : k ≡ 0 → 0 ≡ saves (at ceiling) base row k
@@ -59,45 +59,41 @@ saves_fit k below word r n few f b w =
     subst (λ v. v < 256 ^ k) (sym (push_fits below word r (saves_room k below n few b) f))
     (subst (λ v. pushed below word < 256 ^ v) (sym (one_more k n)) (places_pushed below (k - 1) word w b))
 
--- ---- a loop along a row: what is left of it is tested as the whole row is
+-- ---- a loop along a row: what is left of it after i takes is tested as the whole row is
 
-module _ (m uses row k rest left : ℕ) (same : row_test m uses rest left ≡ row_test m uses row k) where
-  row_parts : (l u : ℕ) → (left ≡ 0 → ⊥) → l ≡ newest rest → u ≡ under rest
-      → all_true (ltb l m ∷ has_bit uses l ∷ row_test m uses u (left - 1) ∷ []) ≡ row_test m uses row k
+module _ (m uses row k rest i : ℕ) (same : row_test m uses rest (k - i) ≡ row_test m uses row k) (more : i < k) where
+  row_parts : all_true (ltb (newest rest) m ∷ has_bit uses (newest rest) ∷ row_test m uses (under rest) (k - (i + 1)) ∷ []) ≡ row_test m uses row k
   unfolding row_test
-  row_parts l u n e d = rw (e, d) (sym (ap (row_test m uses rest) (one_more left n)) ∙ same)
+  row_parts = let e : k - i ≡ suc (k - (i + 1)) = omega arith in rw e at same
 
-  pub row_unknown : (l : ℕ) → (left ≡ 0 → ⊥) → l ≡ newest rest → m ≤ l → false ≡ row_test m uses row k
-  row_unknown l n e h = all_fails (ltb l m) _ (le-ltb l m h) ∙ row_parts l (under rest) n e refl
+  pub row_unknown : m ≤ newest rest → false ≡ row_test m uses row k
+  row_unknown h = all_fails (ltb (newest rest) m) _ (le-ltb (newest rest) m h) ∙ row_parts
 
-  pub row_undeclared : (l : ℕ) (t : Bool) → (left ≡ 0 → ⊥) → l ≡ newest rest → l < m → t ≡ has_bit uses l → not t ≡ true → false ≡ row_test m uses row k
-  row_undeclared l t n e h d f =
-      all_next (ltb l m) false _ (lt-ltb l m h) (all_fails (has_bit uses l) _ (sym d ∙ not-true t f)) ∙ row_parts l (under rest) n e refl
+  pub row_undeclared : newest rest < m → has_bit uses (newest rest) ≡ false → false ≡ row_test m uses row k
+  row_undeclared h e = all_next (ltb (newest rest) m) false _ (lt-ltb (newest rest) m h) (all_fails (has_bit uses (newest rest)) _ e) ∙ row_parts
 
-  pub row_next : (l u : ℕ) (t : Bool) → (left ≡ 0 → ⊥) → l ≡ newest rest → l < m → t ≡ has_bit uses l → not t ≡ false → u ≡ under rest
-      → row_test m uses u (left - 1) ≡ row_test m uses row k
-  row_next l u t n e h d f g =
-      all_next (ltb l m) _ _ (lt-ltb l m h) (all_next (has_bit uses l) _ _ (sym d ∙ not-false t f) (all_last (row_test m uses u (left - 1)) _ refl))
-      ∙ row_parts l u n e g
+  pub row_next : newest rest < m → has_bit uses (newest rest) ≡ true → row_test m uses (under rest) (k - (i + 1)) ≡ row_test m uses row k
+  row_next h e =
+      all_next (ltb (newest rest) m) _ _ (lt-ltb (newest rest) m h)
+      (all_next (has_bit uses (newest rest)) _ _ e (all_last (row_test m uses (under rest) (k - (i + 1))) _ refl)) ∙ row_parts
 
-  pub row_ends : left ≡ 0 → eqb rest 0 ≡ row_test m uses row k
-  unfolding row_test
-  row_ends e = sym (ap (row_test m uses rest) e) ∙ same
+pub row_ends : (m uses row k rest i : ℕ) → row_test m uses rest (k - i) ≡ row_test m uses row k → k ≤ i → eqb rest 0 ≡ row_test m uses row k
+unfolding row_test
+row_ends m uses row k rest i same h = let e : k - i ≡ 0 = omega arith in sym (ap (row_test m uses rest) e) ∙ same
 
-module _ (owner : List ℕ) (x row k rest left : ℕ) (same : own_test owner x rest left ≡ own_test owner x row k) where
-  own_parts : (l u : ℕ) → (left ≡ 0 → ⊥) → l ≡ newest rest → u ≡ under rest
-      → all_true (eqb (at owner l) (x + 1) ∷ own_test owner x u (left - 1) ∷ []) ≡ own_test owner x row k
+module _ (owner : List ℕ) (x row k rest i : ℕ) (same : own_test owner x rest (k - i) ≡ own_test owner x row k) (more : i < k) where
+  own_parts : all_true (eqb (at owner (newest rest)) (x + 1) ∷ own_test owner x (under rest) (k - (i + 1)) ∷ []) ≡ own_test owner x row k
   unfolding own_test
-  own_parts l u n e d = rw (e, d) (sym (ap (own_test owner x rest) (one_more left n)) ∙ same)
+  own_parts = let e : k - i ≡ suc (k - (i + 1)) = omega arith in rw e at same
 
-  pub own_other : (l o : ℕ) → (left ≡ 0 → ⊥) → l ≡ newest rest → o ≡ at owner l → (o ≡ x + 1 → ⊥) → false ≡ own_test owner x row k
-  own_other l o n e d h = all_fails (eqb (at owner l) (x + 1)) _ (ne_eqb (at owner l) (x + 1) (λ q. h (d ∙ q))) ∙ own_parts l (under rest) n e refl
+  pub own_other : (at owner (newest rest) ≡ x + 1 → ⊥) → false ≡ own_test owner x row k
+  own_other h = all_fails (eqb (at owner (newest rest)) (x + 1)) _ (ne_eqb (at owner (newest rest)) (x + 1) h) ∙ own_parts
 
-  pub own_next : (l o u : ℕ) → (left ≡ 0 → ⊥) → l ≡ newest rest → o ≡ at owner l → o ≡ x + 1 → u ≡ under rest
-      → own_test owner x u (left - 1) ≡ own_test owner x row k
-  own_next l o u n e d h g =
-      all_next (eqb (at owner l) (x + 1)) _ _ (eq-eqb (at owner l) (x + 1) (sym d ∙ h)) (all_last (own_test owner x u (left - 1)) _ refl) ∙ own_parts l u n e g
+  pub own_next : at owner (newest rest) ≡ x + 1 → own_test owner x (under rest) (k - (i + 1)) ≡ own_test owner x row k
+  own_next h =
+      all_next (eqb (at owner (newest rest)) (x + 1)) _ _ (eq-eqb (at owner (newest rest)) (x + 1) h)
+      (all_last (own_test owner x (under rest) (k - (i + 1))) _ refl) ∙ own_parts
 
-  pub own_ends : left ≡ 0 → true ≡ own_test owner x row k
-  unfolding own_test
-  own_ends e = sym (ap (own_test owner x rest) e) ∙ same
+pub own_ends : (owner : List ℕ) (x row k rest i : ℕ) → own_test owner x rest (k - i) ≡ own_test owner x row k → k ≤ i → true ≡ own_test owner x row k
+unfolding own_test
+own_ends owner x row k rest i same h = let e : k - i ≡ 0 = omega arith in sym (ap (own_test owner x rest) e) ∙ same

@@ -1,2 +1,2 @@
--- RULES 8: what the code of this crate tells its own callers.
-pub mod Lent
+-- RULES 8: what a test of this crate rests on.
+pub mod TasksSound

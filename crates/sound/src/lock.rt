@@ -1,89 +1,46 @@
 // Whether the figures of one lock are sound. That each task has its open locks in its own name is
 // tested with the tasks; so of a lock only the task that is named for it is asked.
-ghost use Rattle.std.specs.Prelude.{◌≡◌, true, [], ◌∷◌, ◌≤◌, ◌<◌, eqb, leb, if◌then◌else◌};
-ghost use Rattle.rules.specs.Numbers.Capacity.{max_locks, max_tasks};
-ghost use Rattle.rules.specs.Numbers.Choice.{all_true};
-ghost use Rattle.rules.specs.Numbers.Place.{every};
-ghost use Rattle.sound.specs.Lent.{lock_by, owner_named};
+ghost use Rattle.std.specs.Prelude.{◌≡◌, ◌<◌, eqb};
+ghost use Rattle.rules.specs.Numbers.Capacity.{max_locks};
+ghost use Rattle.rules.specs.Numbers.Place.{at, every};
+ghost use Rattle.rules.specs.Schedulers.Figures.{figures_of};
+ghost use Rattle.rules.specs.Schedulers.Lazy.{words_of};
+ghost use Rattle.rules.specs.Soundness.Sound.{owner_of};
+ghost use Rattle.rules.specs.Soundness.SoundTest.{lock_test};
+ghost use Rattle.sound.specs.TasksSound.{TasksSound};
 
 use figures::row::has_lock;
-use rules::capacity::{MAX_LOCKS, MAX_TASKS};
+use rules::plan::Plan;
+use rules::state::State;
 
-// Nobody is named, or one of the first n tasks that has lock l open.
-fn owner_named(
-    n: usize,
-    depth: &[u8; MAX_TASKS],
-    takes: &[u64; MAX_TASKS],
-    owner: u8,
-    l: u8,
-) -> bool
-    requires { n ≤ max_tasks }
-    ensures { result ≡ owner_named n depth.now takes.now owner l }
+// Nobody is named, or one of the plan's tasks that has lock l open.
+fn owner_sound(p: &Plan, s: &State, l: usize) -> bool
+    requires tasks { TasksSound p.now s.now }
+    requires known { l < max_locks }
+    ensures { result ≡ eqb (at s.now.owner l) (owner_of (figures_of s.now) p.now.tasks l) }
 {
-    let o = owner as usize;
+    let o = s.owner[l] as usize;
     if o == 0 {
-        return true;
+        true
+    } else {
+        o <= p.tasks && has_lock(s.takes[o - 1], s.depth[o - 1], l as u8)
     }
-    if n < o {
-        return false;
-    }
-    let x = o - 1;
-    has_lock(takes[x], depth[x], l)
 }
 
 // Its owner is named rightly, and its units are within its limit, 0 where it is closed.
-fn lock_fits(named: bool, owner: u8, units: u16, limit: u16) -> bool
-    ensures { result ≡ all_true (named ∷ leb units limit ∷ (if eqb owner 0 then eqb units 0 else true) ∷ []) }
+#[tactic(auto, using(crate::proofs::Tests::turns), unfolding(rules::specs::Soundness::SoundTest::lock_test))]
+fn lock_sound(p: &Plan, s: &State, l: usize) -> bool
+    requires tasks { TasksSound p.now s.now }
+    requires known { l < max_locks }
+    ensures { result ≡ lock_test p.now (figures_of s.now) (words_of s.now) l }
 {
-    if !named {
-        return false;
-    }
-    if limit < units {
-        return false;
-    }
-    if owner == 0 {
-        return units == 0;
-    }
-    true
+    owner_sound(p, s, l) && s.units[l] <= p.limit[l] && (s.owner[l] != 0 || s.units[l] == 0)
 }
 
-fn lock_sound(
-    n: usize,
-    limit: &[u16; MAX_LOCKS],
-    depth: &[u8; MAX_TASKS],
-    takes: &[u64; MAX_TASKS],
-    units: &[u16; MAX_LOCKS],
-    owner: &[u8; MAX_LOCKS],
-    l: usize,
-) -> bool
-    requires { (n ≤ max_tasks) × (l < max_locks) }
-    ensures { result ≡ lock_by n
-        limit.now depth.now takes.now units.now owner.now l }
+// Where every task is sound.
+pub fn locks_sound(p: &Plan, s: &State) -> bool
+    requires { TasksSound p.now s.now }
+    ensures { result ≡ every (lock_test p.now (figures_of s.now) (words_of s.now)) p.now.locks }
 {
-    let o = owner[l];
-    let named = owner_named(n, depth, takes, o, l as u8);
-    lock_fits(named, o, units[l], limit[l])
-}
-
-pub fn locks_sound(
-    n: usize,
-    m: usize,
-    limit: &[u16; MAX_LOCKS],
-    depth: &[u8; MAX_TASKS],
-    takes: &[u64; MAX_TASKS],
-    units: &[u16; MAX_LOCKS],
-    owner: &[u8; MAX_LOCKS],
-) -> bool
-    requires { (n ≤ max_tasks) × (m ≤ max_locks) }
-    ensures { result ≡ every (lock_by n
-        limit.now depth.now takes.now units.now owner.now) m }
-{
-    let mut l: usize = 0;
-    while l < m {
-        if !lock_sound(n, limit, depth, takes, units, owner, l) {
-            return false;
-        }
-        l += 1;
-    }
-    true
+    (0..p.locks).all(|l| lock_sound(p, s, l))
 }

@@ -1,78 +1,50 @@
 // Whether the figures of one task are sound.
-ghost use Rattle.std.specs.Prelude.{◌≡◌, ◌&&◌, not, ◌≤◌, ◌<◌, eqb, length};
-ghost use Rattle.rules.specs.Numbers.Capacity.{max_locks, max_takes, max_tasks};
+ghost use Rattle.std.specs.Prelude.{◌≡◌, ◌≤◌, ◌<◌, eqb};
+ghost use Rattle.rules.specs.Numbers.Capacity.{max_takes, max_tasks};
 ghost use Rattle.rules.specs.Numbers.Place.{at, every};
-ghost use Rattle.rules.specs.Numbers.Row.{saves};
-ghost use Rattle.rules.specs.Soundness.SoundTest.{number_new, number_test, own_test, row_test};
-ghost use Rattle.sound.specs.Lent.{kept_by, task_by};
+ghost use Rattle.rules.specs.Schedulers.Figures.{figures_of};
+ghost use Rattle.rules.specs.Schedulers.Lazy.{words_of};
+ghost use Rattle.rules.specs.Soundness.Sound.{kept_of, saved_of};
+ghost use Rattle.rules.specs.Soundness.SoundTest.{number_new, number_test, own_test, row_test, task_test};
 
-use crate::priority::row_saves;
+use crate::priority::{at_lock, row_saves};
 use crate::rank::rank_of;
-use figures::all::all_six;
 use figures::mask::has_bit;
-use figures::number::place_of;
-use figures::priority::{kernel_of, recorded, same_record, user_of};
+use figures::priority::recorded;
 use figures::row::{newest_of, under_of};
 use rules::capacity::{MAX_DELAY, MAX_LOCKS, MAX_TAKES, MAX_TASKS};
-use rules::priority::UserPriority;
+use rules::plan::Plan;
+use rules::priority::{KernelPriority, UserPriority};
+use rules::state::State;
 
 // Each of the k newest of a row is of one of m locks, declared; after them there is 0.
 fn row_sound(m: usize, uses: u32, row: u64, k: u8) -> bool
     ensures { result ≡ row_test m uses row k }
 {
     let mut rest = row;
-    let mut left = k;
-    while left != 0 {
+    for _ in 0..k {
         let l = newest_of(rest);
-        if m <= l as usize {
-            return false;
-        }
-        if !has_bit(uses, l) {
+        if m <= l as usize || !has_bit(uses, l) {
             return false;
         }
         rest = under_of(rest);
-        left -= 1;
     }
     rest == 0
 }
 
 // Each of them has task x for its owner.
 fn own_sound(owner: &[u8; MAX_LOCKS], x: usize, row: u64, k: u8) -> bool
-    requires { (length owner.now ≡ max_locks) × (x < max_tasks) }
+    requires { x < max_tasks }
     ensures { result ≡ own_test owner.now x row k }
 {
     let mut rest = row;
-    let mut left = k;
-    while left != 0 {
-        if owner_at(owner, newest_of(rest)) != x + 1 {
+    for _ in 0..k {
+        if at_lock(owner, newest_of(rest)) as usize != x + 1 {
             return false;
         }
         rest = under_of(rest);
-        left -= 1;
     }
     true
-}
-
-// What stands at place l, and 0 where there is no such place.
-fn owner_at(owner: &[u8; MAX_LOCKS], l: u8) -> usize
-    requires { length owner.now ≡ max_locks }
-    ensures { result ≡ at owner.now l }
-{
-    let k = l as usize;
-    if k < MAX_LOCKS {
-        return place_of(owner[k]);
-    }
-    0
-}
-
-// Whether a is another number than y, where all before it are.
-fn also_new(new: bool, a: u32, y: u32) -> bool
-    ensures { result ≡ (new && not (eqb a y)) }
-{
-    if a == y {
-        return false;
-    }
-    new
 }
 
 // No task before x has the release number y. All are asked, with no way out: so the compiler asks
@@ -81,116 +53,67 @@ fn number_new(released: &[u32; MAX_TASKS], y: u32, x: usize) -> bool
     requires { x ≤ max_tasks }
     ensures { result ≡ number_new released.now y x }
 {
-    let mut new = true;
-    let mut z: usize = 0;
-    while z < x {
-        new = also_new(new, released[z], y);
-        z += 1;
-    }
-    new
+    released[..x].iter().fold(true, |new, z| new & (*z != y))
 }
 
 // A task is not released and has no takes, or its release number is in range and no earlier
 // task's.
+#[tactic(auto, using(crate::proofs::Tests::turns), unfolding(rules::specs::Soundness::SoundTest::number_test))]
 fn number_sound(accepted: u32, released: &[u32; MAX_TASKS], depth: u8, x: usize) -> bool
     requires { x < max_tasks }
     ensures { result ≡ number_test accepted released.now depth x }
 {
     let y = released[x];
     if y == 0 {
-        return depth == 0;
+        depth == 0
+    } else {
+        y <= accepted && number_new(released, y, x)
     }
-    if accepted < y {
-        return false;
-    }
-    number_new(released, y, x)
 }
 
 // What is kept for a task is its rank, and nothing while it runs.
-fn kept_sound(kept: u8, runs: bool, rank: UserPriority) -> bool
-    ensures { result ≡ eqb kept (kept_by runs rank.0) }
+#[tactic(auto, using(crate::proofs::Tests::turns), unfolding(rules::specs::Soundness::Sound::kept_of))]
+fn kept_sound(p: &Plan, s: &State, x: usize) -> bool
+    requires { x < max_tasks }
+    ensures { result ≡ eqb (at s.now.kept x) (kept_of p.now (figures_of s.now) s.now.head.running x) }
 {
-    if runs {
-        return kept == 0;
+    let kept = KernelPriority(s.kept[x]);
+    if x == s.head.running as usize {
+        kept == KernelPriority(0)
+    } else {
+        kept == recorded(rank_of(p, s, x))
     }
-    same_record(kernel_of(kept), recorded(rank))
 }
 
-// What is saved for a task of this base is what its row gives.
-fn saved_sound(ceiling: &[u8; MAX_LOCKS], base: u8, row: u64, k: u8, saved: u64) -> bool
-    requires { (length ceiling.now ≡ max_locks) × (k ≤ max_takes) }
-    ensures { result ≡ eqb saved (saves (at ceiling.now) base row k) }
+// What is saved for a task is what its row gives.
+#[tactic(auto, using(crate::proofs::Tests::turns), unfolding(rules::specs::Soundness::Sound::saved_of))]
+fn saved_sound(p: &Plan, s: &State, x: usize) -> bool
+    requires known { x < max_tasks }
+    requires short { at s.now.depth x ≤ max_takes }
+    ensures { result ≡ eqb (at s.now.saved x) (saved_of p.now (figures_of s.now) x) }
 {
-    let words = row_saves(user_of(base), ceiling, row, k);
-    saved == words
+    s.saved[x] == row_saves(UserPriority(p.base[x]), &p.ceiling, s.takes[x], s.depth[x])
 }
 
-fn task_sound(
-    accepted: u32,
-    running: u8,
-    m: usize,
-    base: &[u8; MAX_TASKS],
-    ceiling: &[u8; MAX_LOCKS],
-    uses: &[u32; MAX_TASKS],
-    released: &[u32; MAX_TASKS],
-    kept: &[u8; MAX_TASKS],
-    delay: &[u16; MAX_TASKS],
-    depth: &[u8; MAX_TASKS],
-    takes: &[u64; MAX_TASKS],
-    saved: &[u64; MAX_TASKS],
-    owner: &[u8; MAX_LOCKS],
-    x: usize,
-) -> bool
-    requires { (x < max_tasks) × (length ceiling.now ≡ max_locks) × (length owner.now ≡ max_locks) }
-    ensures { result ≡ task_by accepted running m base.now ceiling.now uses.now
-        released.now kept.now delay.now depth.now takes.now saved.now owner.now
-        x }
+#[tactic(auto, using(crate::proofs::Tests::turns), unfolding(rules::specs::Soundness::SoundTest::task_test))]
+fn task_sound(p: &Plan, s: &State, x: usize) -> bool
+    requires { x < max_tasks }
+    ensures { result ≡ task_test p.now (figures_of s.now) (words_of s.now) x }
 {
-    let k = depth[x];
-    if MAX_TAKES < k {
-        return false;
-    }
-    let row = takes[x];
-    let listed = row_sound(m, uses[x], row, k);
-    let owned = own_sound(owner, x, row, k);
-    let numbered = number_sound(accepted, released, k, x);
-    let delayed = delay[x] <= MAX_DELAY;
-    let rank = rank_of(ceiling, base[x], released[x], row, k);
-    let keeps = kept_sound(kept[x], x == running as usize, rank);
-    let saves = saved_sound(ceiling, base[x], row, k, saved[x]);
-    all_six(listed, owned, numbered, delayed, keeps, saves)
+    let k = s.depth[x];
+    let row = s.takes[x];
+    k <= MAX_TAKES
+        && row_sound(p.locks, p.uses[x], row, k)
+        && own_sound(&s.owner, x, row, k)
+        && number_sound(s.head.accepted, &s.released, k, x)
+        && s.delay[x] <= MAX_DELAY
+        && kept_sound(p, s, x)
+        && saved_sound(p, s, x)
 }
 
-pub fn tasks_sound(
-    accepted: u32,
-    running: u8,
-    n: usize,
-    m: usize,
-    base: &[u8; MAX_TASKS],
-    ceiling: &[u8; MAX_LOCKS],
-    uses: &[u32; MAX_TASKS],
-    released: &[u32; MAX_TASKS],
-    kept: &[u8; MAX_TASKS],
-    delay: &[u16; MAX_TASKS],
-    depth: &[u8; MAX_TASKS],
-    takes: &[u64; MAX_TASKS],
-    saved: &[u64; MAX_TASKS],
-    owner: &[u8; MAX_LOCKS],
-) -> bool
-    requires { (n ≤ max_tasks) × (length ceiling.now ≡ max_locks) × (length owner.now ≡ max_locks) }
-    ensures { result ≡ every (task_by accepted running m base.now ceiling.now uses.now
-        released.now kept.now delay.now depth.now takes.now saved.now owner.now)
-        n }
+pub fn tasks_sound(p: &Plan, s: &State) -> bool
+    requires { p.now.tasks ≤ max_tasks }
+    ensures { result ≡ every (task_test p.now (figures_of s.now) (words_of s.now)) p.now.tasks }
 {
-    let mut x: usize = 0;
-    while x < n {
-        if !task_sound(
-            accepted, running, m, base, ceiling, uses, released, kept, delay, depth, takes, saved,
-            owner, x,
-        ) {
-            return false;
-        }
-        x += 1;
-    }
-    true
+    (0..p.tasks).all(|x| task_sound(p, s, x))
 }

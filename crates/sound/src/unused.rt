@@ -1,34 +1,21 @@
 // Whether the places past the last task and the last lock hold 0.
 ghost use Rattle.std.specs.Prelude.{◌≡◌};
-ghost use Rattle.sound.specs.Lent.{spare_by};
+ghost use Rattle.rules.specs.Soundness.SoundTest.{spare_test};
 
-use figures::all::all_eight;
 use figures::spare::{spare8, spare16, spare32, spare64};
-use rules::capacity::{MAX_LOCKS, MAX_TASKS};
+use rules::plan::Plan;
+use rules::state::State;
 
-pub fn unused_sound(
-    n: usize,
-    m: usize,
-    released: &[u32; MAX_TASKS],
-    kept: &[u8; MAX_TASKS],
-    delay: &[u16; MAX_TASKS],
-    depth: &[u8; MAX_TASKS],
-    takes: &[u64; MAX_TASKS],
-    saved: &[u64; MAX_TASKS],
-    units: &[u16; MAX_LOCKS],
-    owner: &[u8; MAX_LOCKS],
-) -> bool
-    ensures { result ≡ spare_by n m released.now kept.now delay.now depth.now takes.now
-        saved.now units.now owner.now }
+#[tactic(auto, using(crate::proofs::Tests::turns), unfolding(rules::specs::Soundness::SoundTest::spare_test))]
+pub fn unused_sound(p: &Plan, s: &State) -> bool
+    ensures { result ≡ spare_test p.now s.now }
 {
-    all_eight(
-        spare32(released, n),
-        spare8(kept, n),
-        spare16(delay, n),
-        spare8(depth, n),
-        spare64(takes, n),
-        spare64(saved, n),
-        spare16(units, m),
-        spare8(owner, m),
-    )
+    spare32(&s.released, p.tasks)
+        && spare8(&s.kept, p.tasks)
+        && spare16(&s.delay, p.tasks)
+        && spare8(&s.depth, p.tasks)
+        && spare64(&s.takes, p.tasks)
+        && spare64(&s.saved, p.tasks)
+        && spare16(&s.units, p.locks)
+        && spare8(&s.owner, p.locks)
 }

@@ -9,22 +9,16 @@ use rules::capacity::MAX_LOCKS;
 pub fn has_bit(mask: u32, l: u8) -> bool
     ensures { result ≡ has_bit mask l }
 {
-    if MAX_LOCKS <= l as usize {
-        return false;
-    }
-    (mask >> l) % 2 == 1
+    (l as usize) < MAX_LOCKS && (mask >> l) % 2 == 1
 }
 
 // The set with lock l in it. No set has a lock past the last one.
 pub fn with_bit(mask: u32, l: u8) -> u32
     ensures { result ≡ (if ltb l max_locks then with_bit mask l else mask) }
 {
-    if MAX_LOCKS <= l as usize {
-        return mask;
+    if (l as usize) < MAX_LOCKS {
+        mask | 1 << l
+    } else {
+        mask
     }
-    if has_bit(mask, l) {
-        return mask;
-    }
-    let bit = 1u32 << l;
-    mask + bit
 }

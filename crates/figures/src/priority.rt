@@ -1,6 +1,7 @@
 // RULES 1.11: the two kinds of priority, words of user space and records of the kernel. Here alone a
 // number of the one kind becomes one of the other, meets it, or becomes a byte of a table and comes
-// back: tables are lent, and what is lent holds plain numbers.
+// back: tables are lent, and what is lent holds plain numbers. These are functions and no `From` of the
+// types, so that whoever changes the kind has to name this module.
 ghost use Rattle.std.specs.Prelude.{◌≡◌, max, eqb, leb, ltb};
 ghost use Rattle.rules.specs.Schedulers.Lazy.{calls_for, cut_to};
 
@@ -64,10 +65,11 @@ pub fn at_most(k: KernelPriority, user: UserPriority) -> bool
 pub fn exceeds(a: KernelPriority, b: KernelPriority) -> bool
     ensures { result ≡ ltb b.0 a.0 }
 {
-    b.0 < a.0
+    a > b
 }
 
 // The rule for a call: the word put back is strictly below the second word.
+#[tactic(auto, unfolding(rules::specs::Schedulers::Lazy::calls_for))]
 pub fn calls_for(back: UserPriority, next: KernelPriority) -> bool
     ensures { result ≡ calls_for back.0 next.0 }
 {
@@ -78,40 +80,31 @@ pub fn calls_for(back: UserPriority, next: KernelPriority) -> bool
 pub fn cut_to(maximum: KernelPriority, user: UserPriority) -> UserPriority
     ensures { result.0 ≡ cut_to maximum.0 user.0 }
 {
-    if maximum.0 < user.0 {
-        return UserPriority(maximum.0);
-    }
-    user
+    shown(maximum).min(user)
 }
 
 // The greater of two words, and of two records.
 pub fn raised(a: UserPriority, b: UserPriority) -> UserPriority
     ensures { result.0 ≡ max a.0 b.0 }
 {
-    if a.0 < b.0 {
-        return b;
-    }
-    a
+    a.max(b)
 }
 
 pub fn higher(a: KernelPriority, b: KernelPriority) -> KernelPriority
     ensures { result.0 ≡ max a.0 b.0 }
 {
-    if a.0 < b.0 {
-        return b;
-    }
-    a
+    a.max(b)
 }
 
 // Whether two words, or two records, are the same.
 pub fn same_word(a: UserPriority, b: UserPriority) -> bool
     ensures { result ≡ eqb a.0 b.0 }
 {
-    a.0 == b.0
+    a == b
 }
 
 pub fn same_record(a: KernelPriority, b: KernelPriority) -> bool
     ensures { result ≡ eqb a.0 b.0 }
 {
-    a.0 == b.0
+    a == b
 }

@@ -8,20 +8,20 @@ use rules::priority::UserPriority;
 pub fn newest_of(row: u64) -> u8
     ensures { result ≡ newest row }
 {
-    (row % 256) as u8
+    (row & 0xff) as u8
 }
 
 pub fn under_of(row: u64) -> u64
     ensures { result ≡ under row }
 {
-    row / 256
+    row >> 8
 }
 
 // The row with x as its newest. Of a row of eight the oldest is lost: nobody asks for that.
 pub fn push_on(row: u64, x: u8) -> u64
     ensures { (result ≡ pushed (row % 256 ^ 7) x) × (x < 256) }
 {
-    row % 72057594037927936 * 256 + x as u64
+    row << 8 | u64::from(x)
 }
 
 // Whether l is among the k newest of the row.
@@ -29,13 +29,11 @@ pub fn has_lock(row: u64, k: u8, l: u8) -> bool
     ensures { result ≡ has row k l }
 {
     let mut rest = row;
-    let mut left = k;
-    while left != 0 {
+    for _ in 0..k {
         if newest_of(rest) == l {
             return true;
         }
         rest = under_of(rest);
-        left -= 1;
     }
     false
 }

@@ -2,7 +2,7 @@
 use mathlib.Core.Path.{◌≡◌, refl, sym, ◌∙◌, ap, ap₂, subst}
 use mathlib.Core.Bool.{true, false}
 use mathlib.Core.List.{List, [], ◌∷◌}
-use Prim.Native.Nat.{ℕ, suc, ◌+◌, ◌-◌, ◌%◌, ◌^◌, ◌≤◌, ◌<◌, max}
+use Prim.Native.Nat.{ℕ, zero, suc, ◌+◌, ◌-◌, ◌%◌, ◌^◌, ◌≤◌, ◌<◌, max}
 use native.Mathlib.Nat.{lt_of_lt_of_le, zero-lt-suc, pow-le-pow_right}
 use native.Mathlib.Omega.{arith}
 use lib.Dec.{eqb, ltb}
@@ -14,7 +14,12 @@ use Rattle.rules.specs.Numbers.Row.{newest, under, pushed, priority, saves}
 use Rattle.rules.specs.Soundness.SoundTest.{row_test, own_test}
 use Rattle.rules.proofs.Numbers.Row.{priority_none, priority_suc, places_pushed}
 use Rattle.rules.proofs.Numbers.Choice.{all_fails, all_next, all_last}
-use Rattle.figures.proofs.Rows.{one_more, push_fits}
+use Rattle.figures.proofs.Rows.{push_fits}
+
+-- a number above 0 is one more than the number before it
+one_more : (k : ℕ) → (k ≡ 0 → ⊥) → k ≡ suc (k - 1)
+one_more zero n = absurd (n refl)
+one_more (suc j) n = ap suc (omega arith)
 
 powers_rise : (k : ℕ) → k ≤ 7 → 256 ^ k ≤ 256 ^ 7
 powers_rise k h = pow-le-pow_right (zero-lt-suc 255) h

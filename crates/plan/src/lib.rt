@@ -16,6 +16,8 @@ ghost use Rattle.rules.specs.Books.Load.{load_of};
 ghost use Rattle.rules.specs.Demands.Bound.{bound_of};
 ghost use Rattle.rules.specs.Soundness.SoundTest as SoundTest;
 
+use build::{built, refused};
+use count::count_fault;
 use rules::answer::{Fault, Loaded};
 use rules::plan::Plan;
 use rules::refusal::Refusal;
@@ -25,21 +27,19 @@ use rules::refusal::Refusal;
 pub fn load(tasks: &[u16], locks: &[u32], uses: &[u16]) -> Loaded
     ensures { result ≡ load_of tasks.now locks.now uses.now }
 {
-    let verdict = faults::first_record(tasks, locks, uses);
-    match verdict {
-        Err(Fault { why, place }) => build::refused(why, place),
-        Ok(()) => {
-            let plan = build::built(tasks, locks, uses);
-            let c = ceilings::first_ceiling(plan);
-            if c < locks.len() {
-                return build::refused(Refusal::WrongCeiling, c);
-            }
-            let u = maxima::first_above(tasks, locks, uses);
-            if u < uses.len() {
-                return build::refused(Refusal::AboveMaximum, u);
-            }
-            build::loaded(plan)
-        }
+    if let Err(Fault { why, place }) = faults::first_record(tasks, locks, uses) {
+        return refused(why, place);
+    }
+    let plan = built(tasks, locks, uses);
+    if let Some(l) = ceilings::first_wrong(&plan) {
+        return refused(Refusal::WrongCeiling, l);
+    }
+    if let Some(u) = maxima::first_above(tasks, locks, uses) {
+        return refused(Refusal::AboveMaximum, u);
+    }
+    Loaded {
+        verdict: Ok(()),
+        plan,
     }
 }
 
@@ -47,21 +47,17 @@ pub fn load(tasks: &[u16], locks: &[u32], uses: &[u16]) -> Loaded
 pub fn bound(p: Plan, t: usize) -> u16
     ensures { result ≡ bound_of p t }
 {
-    let b = lower::base_of(p, t);
-    lower::longest(p, b)
+    lower::longest(&p, lower::base_of(&p, t))
 }
 
-// Whether a plan that is handed in obeys the rules, test by test. Its arrays are lent where they lie.
+// Whether a plan that is handed in obeys the rules, test by test.
+#[tactic(auto, using(crate::proofs::Tests::all_and, crate::proofs::Tests::counts), unfolding(rules::specs::Soundness::SoundTest::obeys))]
 pub fn obeys(p: Plan) -> bool
     ensures { result ≡ SoundTest.obeys p }
 {
-    if count::count_fault(0, p.tasks) {
-        return false;
-    }
-    if count::count_fault(1, p.locks) {
-        return false;
-    }
-    obey::parts_obey(
-        p.tasks, p.locks, &p.base, &p.maximum, &p.ceiling, &p.limit, &p.uses,
-    )
+    !count_fault(0, p.tasks)
+        && !count_fault(1, p.locks)
+        && obey::tasks_obey(&p)
+        && obey::locks_obey(&p)
+        && obey::spare_obeys(&p)
 }

@@ -1,7 +1,9 @@
 -- The laws behind the proofs of this crate.
-mod Ways
+mod First
 mod Users
+mod Tests
+mod Places
 mod Limits
-mod Order
 mod Masks
-mod Ruled
+mod Tables
+mod Order

@@ -1,3 +1,4 @@
--- RULES 6: what the code of this crate asks of its own callers, and the tests of a plan by its arrays.
+-- RULES 6: what the code of this crate asks of its own callers, and what it answers.
 pub mod Placed
-pub mod Lent
+pub mod First
+pub mod Shared

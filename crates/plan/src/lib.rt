@@ -12,51 +12,52 @@ mod record;
 mod walk;
 
 ghost use Rattle.std.specs.Prelude.{◌≡◌};
-ghost use Rattle.rules.specs.Books.Load.{load_of, loaded_with};
+ghost use Rattle.rules.specs.Books.Load.{load_of};
 ghost use Rattle.rules.specs.Demands.Bound.{bound_of};
 ghost use Rattle.rules.specs.Soundness.SoundTest as SoundTest;
 
-use rules::answer::Fault;
+use build::{built, refused};
+use count::count_fault;
+use rules::answer::{Fault, Loaded};
 use rules::plan::Plan;
 use rules::refusal::Refusal;
 
 // One number for a record, little-endian: a task's two bytes, a lock's four, a use's two. The answer
 // is the plan, or the first offender of 2, 4 to 7 and 24.
-pub fn load(tasks: &[u16], locks: &[u32], uses: &[u16]) -> Result<Plan, Fault>
-    ensures { loaded_with result ≡ load_of tasks.now locks.now uses.now }
+pub fn load(tasks: &[u16], locks: &[u32], uses: &[u16]) -> Loaded
+    ensures { result ≡ load_of tasks.now locks.now uses.now }
 {
-    faults::first_record(tasks, locks, uses)?;
-    let plan = build::built(tasks, locks, uses);
-    let c = ceilings::first_ceiling(plan);
-    if c < locks.len() {
-        return Err(Fault { why: Refusal::WrongCeiling, place: c });
+    if let Err(Fault { why, place }) = faults::first_record(tasks, locks, uses) {
+        return refused(why, place);
     }
-    let u = maxima::first_above(tasks, locks, uses);
-    if u < uses.len() {
-        return Err(Fault { why: Refusal::AboveMaximum, place: u });
+    let plan = built(tasks, locks, uses);
+    if let Some(l) = ceilings::first_wrong(&plan) {
+        return refused(Refusal::WrongCeiling, l);
     }
-    Ok(plan)
+    if let Some(u) = maxima::first_above(tasks, locks, uses) {
+        return refused(Refusal::AboveMaximum, u);
+    }
+    Loaded {
+        verdict: Ok(()),
+        plan,
+    }
 }
 
 // The bound on the delay of task t: the greatest limit of a lock that may hold it up.
 pub fn bound(p: Plan, t: usize) -> u16
     ensures { result ≡ bound_of p t }
 {
-    let b = lower::base_of(p, t);
-    lower::longest(p, b)
+    lower::longest(&p, lower::base_of(&p, t))
 }
 
-// Whether a plan that is handed in obeys the rules, test by test. Its arrays are lent where they lie.
+// Whether a plan that is handed in obeys the rules, test by test.
+#[tactic(auto, using(crate::proofs::Tests::all_and, crate::proofs::Tests::counts), unfolding(rules::specs::Soundness::SoundTest::obeys))]
 pub fn obeys(p: Plan) -> bool
     ensures { result ≡ SoundTest.obeys p }
 {
-    if count::count_fault(0, p.tasks) {
-        return false;
-    }
-    if count::count_fault(1, p.locks) {
-        return false;
-    }
-    obey::parts_obey(
-        p.tasks, p.locks, &p.base, &p.maximum, &p.ceiling, &p.limit, &p.uses,
-    )
+    !count_fault(0, p.tasks)
+        && !count_fault(1, p.locks)
+        && obey::tasks_obey(&p)
+        && obey::locks_obey(&p)
+        && obey::spare_obeys(&p)
 }

@@ -1,148 +1,57 @@
-// Whether a plan that is handed in obeys 4 to 7 and 24, and holds 0 in its unused places. Each test is
-// lent the arrays that it asks.
-ghost use Rattle.std.specs.Prelude.{◌≡◌, not, [], ◌∷◌, ◌≤◌, ◌<◌, ◌^◌, ltb};
+// Whether a plan that is handed in obeys 4 to 7 and 24, and holds 0 in its unused places.
+ghost use Rattle.std.specs.Prelude.{◌≡◌, ◌≤◌, ◌<◌};
 ghost use Rattle.rules.specs.Numbers.Capacity.{max_locks, max_tasks};
-ghost use Rattle.rules.specs.Numbers.Choice.{all_true};
 ghost use Rattle.rules.specs.Numbers.Place.{every};
-ghost use Rattle.rules.specs.Books.Plan.{lock_fault, task_fault};
-ghost use Rattle.plan.specs.Lent.{lock_by, parts_by, shared_by, spare_by, task_by};
+ghost use Rattle.rules.specs.Soundness.SoundTest.{lock_obeys, spare_obeys, task_obeys};
+ghost use Rattle.plan.specs.Shared.{SharedLocks};
 
-use crate::ceilings::{other_ceiling, shared_locks};
+use crate::ceilings::shared_locks;
 use crate::walk::users_of;
-use figures::all::all_five;
+use figures::mask::has_bit;
 use figures::spare::{spare8, spare16, spare32};
-use rules::capacity::{MAX_LOCKS, MAX_TASKS};
+use rules::plan::Plan;
 
-fn legal_task(base: u8, maximum: u8, uses: u32, m: usize) -> bool
-    requires { m ≤ max_locks }
-    ensures { result ≡ all_true (not (task_fault base maximum) ∷ ltb base (2 ^ 8) ∷ ltb maximum (2 ^ 8) ∷ ltb uses (2 ^ m) ∷ []) }
+#[tactic(auto, using(crate::proofs::Tests::task_said))]
+fn task_obeys(p: &Plan, t: usize) -> bool
+    requires { (t < max_tasks) × (p.now.locks ≤ max_locks) }
+    ensures { result ≡ task_obeys p.now t }
 {
-    if base == 0 {
-        return false;
-    }
-    if maximum < base {
-        return false;
-    }
-    let past = 1u64 << (m as u8);
-    (uses as u64) < past
+    let (base, maximum) = (p.base[t], p.maximum[t]);
+    base != 0 && base <= maximum && u64::from(p.uses[t]) < 1u64 << p.locks
 }
 
-fn tasks_obey(
-    n: usize,
-    m: usize,
-    base: &[u8; MAX_TASKS],
-    maximum: &[u8; MAX_TASKS],
-    uses: &[u32; MAX_TASKS],
-) -> bool
-    requires { (n ≤ max_tasks) × (m ≤ max_locks) }
-    ensures { result ≡ every (task_by m base.now maximum.now uses.now) n }
+pub fn tasks_obey(p: &Plan) -> bool
+    requires { (p.now.tasks ≤ max_tasks) × (p.now.locks ≤ max_locks) }
+    ensures { result ≡ every (task_obeys p.now) p.now.tasks }
 {
-    let mut t: usize = 0;
-    while t < n {
-        if !legal_task(base[t], maximum[t], uses[t], m) {
-            return false;
-        }
-        t += 1;
-    }
-    true
+    (0..p.tasks).all(|t| task_obeys(p, t))
 }
 
-fn legal_lock(ceiling: u8, limit: u16, wrong: bool, above: bool) -> bool
-    ensures { result ≡ all_true (not (lock_fault ceiling 0 limit) ∷ ltb ceiling (2 ^ 8) ∷ ltb limit (2 ^ 16) ∷ not wrong ∷ not above ∷ []) }
+fn lock_obeys(p: &Plan, shared: u32, l: usize) -> bool
+    requires n_le_max_tasks { (p.now.tasks ≤ max_tasks) × (l < max_locks) }
+    requires shared_value { SharedLocks p.now shared }
+    ensures { result ≡ lock_obeys p.now l }
 {
-    if ceiling == 0 {
-        return false;
-    }
-    if limit == 0 {
-        return false;
-    }
-    if wrong {
-        return false;
-    }
-    !above
+    let (ceiling, limit) = (p.ceiling[l], p.limit[l]);
+    let users = users_of(p, l);
+    ceiling != 0 && limit != 0 && has_bit(shared, l as u8) && ceiling == users.top && !users.above
 }
 
-fn lock_obeys(
-    n: usize,
-    shared: u32,
-    base: &[u8; MAX_TASKS],
-    maximum: &[u8; MAX_TASKS],
-    ceiling: &[u8; MAX_LOCKS],
-    limit: &[u16; MAX_LOCKS],
-    uses: &[u32; MAX_TASKS],
-    l: usize,
-) -> bool
-    requires n_le_max_tasks { (n ≤ max_tasks) × (l < max_locks) }
-    requires shared_value { shared ≡ shared_by n uses.now }
-    ensures { result ≡ lock_by n base.now maximum.now ceiling.now limit.now uses.now l }
+pub fn locks_obey(p: &Plan) -> bool
+    requires { (p.now.tasks ≤ max_tasks) × (p.now.locks ≤ max_locks) }
+    ensures { result ≡ every (lock_obeys p.now) p.now.locks }
 {
-    let c = ceiling[l];
-    let users = users_of(n, base, maximum, c, uses, l as u8);
-    let wrong = other_ceiling(shared, c, users.top, l as u8);
-    legal_lock(c, limit[l], wrong, users.above)
+    let shared = shared_locks(p);
+    (0..p.locks).all(|l| lock_obeys(p, shared, l))
 }
 
-fn locks_obey(
-    n: usize,
-    m: usize,
-    base: &[u8; MAX_TASKS],
-    maximum: &[u8; MAX_TASKS],
-    ceiling: &[u8; MAX_LOCKS],
-    limit: &[u16; MAX_LOCKS],
-    uses: &[u32; MAX_TASKS],
-) -> bool
-    requires { (n ≤ max_tasks) × (m ≤ max_locks) }
-    ensures { result ≡ every (lock_by n base.now maximum.now ceiling.now limit.now uses.now) m }
+#[tactic(auto, using(crate::proofs::Tests::all_and), unfolding(rules::specs::Soundness::SoundTest::spare_obeys))]
+pub fn spare_obeys(p: &Plan) -> bool
+    ensures { result ≡ spare_obeys p.now }
 {
-    let shared = shared_locks(n, uses);
-    let mut l: usize = 0;
-    while l < m {
-        if !lock_obeys(n, shared, base, maximum, ceiling, limit, uses, l) {
-            return false;
-        }
-        l += 1;
-    }
-    true
-}
-
-fn spare_obeys(
-    n: usize,
-    m: usize,
-    base: &[u8; MAX_TASKS],
-    maximum: &[u8; MAX_TASKS],
-    ceiling: &[u8; MAX_LOCKS],
-    limit: &[u16; MAX_LOCKS],
-    uses: &[u32; MAX_TASKS],
-) -> bool
-    ensures { result ≡ spare_by n m base.now maximum.now ceiling.now limit.now uses.now }
-{
-    all_five(
-        spare8(base, n),
-        spare8(maximum, n),
-        spare32(uses, n),
-        spare8(ceiling, m),
-        spare16(limit, m),
-    )
-}
-
-// A plan of n tasks and m locks.
-pub fn parts_obey<'a>(
-    n: usize,
-    m: usize,
-    base: &'a [u8; MAX_TASKS],
-    maximum: &'a [u8; MAX_TASKS],
-    ceiling: &'a [u8; MAX_LOCKS],
-    limit: &'a [u16; MAX_LOCKS],
-    uses: &'a [u32; MAX_TASKS],
-) -> bool
-    requires { (n ≤ max_tasks) × (m ≤ max_locks) }
-    ensures { result ≡ parts_by n m base.now maximum.now ceiling.now limit.now uses.now }
-{
-    if !tasks_obey(n, m, base, maximum, uses) {
-        return false;
-    }
-    if !locks_obey(n, m, base, maximum, ceiling, limit, uses) {
-        return false;
-    }
-    spare_obeys(n, m, base, maximum, ceiling, limit, uses)
+    spare8(&p.base, p.tasks)
+        && spare8(&p.maximum, p.tasks)
+        && spare32(&p.uses, p.tasks)
+        && spare8(&p.ceiling, p.locks)
+        && spare16(&p.limit, p.locks)
 }

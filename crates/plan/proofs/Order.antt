@@ -4,14 +4,14 @@ use mathlib.Core.List.{List, [], ◌∷◌}
 use Prim.Native.Nat.{ℕ, ◌≤◌}
 use native.Mathlib.Omega.{arith}
 use lib.ListN.{length}
-use Rattle.std.specs.Prelude.{Some, None, Ok, if◌then◌else◌}
-use Rattle.rules.specs.Numbers.Verdict.{Verdict, refused_at}
+use Rattle.std.specs.Prelude.{Result, Some, None, Ok, Err}
+use Rattle.rules.specs.Numbers.Verdict.{Verdict, fault_at}
 use Rattle.rules.specs.Numbers.Capacity.{max_tasks, max_locks}
 use Rattle.rules.specs.Numbers.Refusal.{number_of, Check, first_fault, check_for}
 use Rattle.rules.specs.Books.Plan.{ceiling_fault}
-use Rattle.rules.specs.Books.Load.{use_above, plan_of, record_checks, load_checks, passed_load, refused_load, loaded_as, load_of}
+use Rattle.rules.specs.Books.Load.{use_above, plan_of, record_checks, load_checks, passed_load, loaded_as, loaded_with, load_of}
 use Rattle.rules.specs.declared.plan.Plan.{Plan}
-use Rattle.rules.specs.Books.Load.{Loaded}
+use Rattle.rules.specs.declared.answer.Fault.{Fault}
 use Rattle.rules.specs.declared.refusal.Refusal.{Refusal}
 use Rattle.rules.specs.declared.refusal.Refusal.TheVariants.{WrongCount, WrongUse, WrongCeiling, AboveMaximum}
 use Rattle.rules.proofs.Numbers.Checks.{Clean, clean_for, check_left, check_right, check_none}
@@ -24,10 +24,10 @@ module _ (tasks locks uses : List ℕ) where
   abbrev p : Plan
   p = plan_of tasks locks uses
 
-  pub refused_record : (why : Refusal) (place : ℕ) (r : Loaded) → refused_at why place ≡ first_fault (record_checks tasks locks uses)
-      → r ≡ refused_load why place → r ≡ load_of tasks locks uses
-  unfolding load_of loaded_as load_checks
-  refused_record why place r e h = h ∙ ap (λ w. loaded_as w p) (sym (check_left (record_checks tasks locks uses) _ why place (sym e)))
+  pub refused_record : (r : Result Plan Fault) (f : Fault) → r ≡ Err f → Err f ≡ first_fault (record_checks tasks locks uses)
+      → loaded_with r ≡ load_of tasks locks uses
+  unfolding load_of loaded_as loaded_with load_checks
+  refused_record r f h e = ap loaded_with h ∙ ap (λ w. loaded_as w p) (sym (check_left (record_checks tasks locks uses) _ f.why f.place (sym e)))
 
   module _ (passed : Ok tt ≡ first_fault (record_checks tasks locks uses)) where
     clean : (why : Refusal) → Clean (check_for why (record_checks tasks locks uses))
@@ -69,20 +69,20 @@ module _ (tasks locks uses : List ℕ) where
       unfolding plan_of
       plan_fits = rw built few_records
 
-      pub wrong_ceiling : (l : ℕ) (r : Loaded) → Some l ≡ first_place (ceiling_fault q) q.locks → r ≡ refused_load WrongCeiling l → r ≡ load_of tasks locks uses
-      unfolding plan_of loaded_as
-      wrong_ceiling l r e h = h ∙ later _ (place_refuses ceilings _ l l (e ∙ ap (λ w. first_place (ceiling_fault w) w.locks) built) (omega arith))
+      pub wrong_ceiling : (l : ℕ) → Some l ≡ first_place (ceiling_fault q) q.locks → loaded_with (Err (fault_at WrongCeiling l)) ≡ load_of tasks locks uses
+      unfolding plan_of loaded_as loaded_with
+      wrong_ceiling l e = later _ (place_refuses ceilings _ l l (e ∙ ap (λ w. first_place (ceiling_fault w) w.locks) built) (omega arith))
 
       module _ (right : None ≡ first_place (ceiling_fault q) q.locks) where
         right_there : None ≡ first_place (ceiling_fault p) (length locks)
         unfolding plan_of
         right_there = right ∙ ap (λ w. first_place (ceiling_fault w) w.locks) built
 
-        pub above_maximum : (u : ℕ) (r : Loaded) → Some u ≡ first_place (use_above tasks locks uses) (length uses) → r ≡ refused_load AboveMaximum u
-            → r ≡ load_of tasks locks uses
-        unfolding loaded_as
-        above_maximum u r e h = h ∙ later _ (place_passes ceilings _ _ right_there (place_refuses maxima _ u u e (omega arith)))
+        pub above_maximum : (u : ℕ) → Some u ≡ first_place (use_above tasks locks uses) (length uses)
+            → loaded_with (Err (fault_at AboveMaximum u)) ≡ load_of tasks locks uses
+        unfolding loaded_as loaded_with
+        above_maximum u e = later _ (place_passes ceilings _ _ right_there (place_refuses maxima _ u u e (omega arith)))
 
-        pub all_right : None ≡ first_place (use_above tasks locks uses) (length uses) → passed_load q ≡ load_of tasks locks uses
-        unfolding loaded_as
+        pub all_right : None ≡ first_place (use_above tasks locks uses) (length uses) → loaded_with (Ok q) ≡ load_of tasks locks uses
+        unfolding loaded_as loaded_with
         all_right e = ap passed_load built ∙ later _ (place_passes ceilings _ _ right_there (place_passes maxima _ _ e (sym check_none)))

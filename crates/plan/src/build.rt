@@ -2,24 +2,12 @@
 ghost use Rattle.std.specs.Prelude.{◌≡◌, ◌≤◌, length};
 ghost use Rattle.rules.specs.Numbers.Capacity.{max_tasks, max_locks};
 ghost use Rattle.plan.specs.Placed.{Placed};
-ghost use Rattle.rules.specs.Books.Load.{plan_of, refused_load};
+ghost use Rattle.rules.specs.Books.Load.{plan_of};
 
 use crate::record::{LockRecord, TaskRecord, UseRecord};
 use figures::mask::with_bit;
-use rules::answer::{Fault, Loaded};
 use rules::capacity::{MAX_LOCKS, MAX_TASKS};
-use rules::plan::{Plan, blank};
-use rules::refusal::Refusal;
-
-// The blank plan beside a refusal.
-pub fn refused(why: Refusal, place: usize) -> Loaded
-    ensures { result ≡ refused_load why place }
-{
-    Loaded {
-        verdict: Err(Fault { why, place }),
-        plan: blank(),
-    }
-}
+use rules::plan::Plan;
 
 pub fn built(tasks: &[u16], locks: &[u32], uses: &[u16]) -> Plan
     requires tasks_len_bound { (length tasks.now ≤ max_tasks) × (length locks.now ≤ max_locks) }

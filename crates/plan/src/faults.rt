@@ -56,16 +56,28 @@ pub fn first_record(tasks: &[u16], locks: &[u32], uses: &[u16]) -> Result<(), Fa
     let n = tasks.len();
     let m = locks.len();
     if let Some(e) = first_count(n, m, uses.len()) {
-        return Err(Fault { why: Refusal::WrongCount, place: e + 1 });
+        return Err(Fault {
+            why: Refusal::WrongCount,
+            place: e + 1,
+        });
     }
     if let Some(t) = first_task(tasks) {
-        return Err(Fault { why: Refusal::WrongTask, place: t });
+        return Err(Fault {
+            why: Refusal::WrongTask,
+            place: t,
+        });
     }
     if let Some(l) = first_lock(locks) {
-        return Err(Fault { why: Refusal::WrongLock, place: l });
+        return Err(Fault {
+            why: Refusal::WrongLock,
+            place: l,
+        });
     }
     if let Some(u) = first_use(n, m, uses) {
-        return Err(Fault { why: Refusal::WrongUse, place: u });
+        return Err(Fault {
+            why: Refusal::WrongUse,
+            place: u,
+        });
     }
     Ok(())
 }

@@ -12,35 +12,36 @@ mod record;
 mod walk;
 
 ghost use Rattle.std.specs.Prelude.{◌≡◌};
-ghost use Rattle.rules.specs.Books.Load.{load_of};
+ghost use Rattle.rules.specs.Books.Load.{load_of, loaded_with};
 ghost use Rattle.rules.specs.Demands.Bound.{bound_of};
 ghost use Rattle.rules.specs.Soundness.SoundTest as SoundTest;
 
-use build::{built, refused};
+use build::built;
 use count::count_fault;
-use rules::answer::{Fault, Loaded};
+use rules::answer::Fault;
 use rules::plan::Plan;
 use rules::refusal::Refusal;
 
 // One number for a record, little-endian: a task's two bytes, a lock's four, a use's two. The answer
 // is the plan, or the first offender of 2, 4 to 7 and 24.
-pub fn load(tasks: &[u16], locks: &[u32], uses: &[u16]) -> Loaded
-    ensures { result ≡ load_of tasks.now locks.now uses.now }
+pub fn load(tasks: &[u16], locks: &[u32], uses: &[u16]) -> Result<Plan, Fault>
+    ensures { loaded_with result ≡ load_of tasks.now locks.now uses.now }
 {
-    if let Err(Fault { why, place }) = faults::first_record(tasks, locks, uses) {
-        return refused(why, place);
-    }
+    faults::first_record(tasks, locks, uses)?;
     let plan = built(tasks, locks, uses);
-    if let Some(l) = ceilings::first_wrong(&plan) {
-        return refused(Refusal::WrongCeiling, l);
+    if let Some(place) = ceilings::first_wrong(&plan) {
+        return Err(Fault {
+            why: Refusal::WrongCeiling,
+            place,
+        });
     }
-    if let Some(u) = maxima::first_above(tasks, locks, uses) {
-        return refused(Refusal::AboveMaximum, u);
+    if let Some(place) = maxima::first_above(tasks, locks, uses) {
+        return Err(Fault {
+            why: Refusal::AboveMaximum,
+            place,
+        });
     }
-    Loaded {
-        verdict: Ok(()),
-        plan,
-    }
+    Ok(plan)
 }
 
 // The bound on the delay of task t: the greatest limit of a lock that may hold it up.

@@ -1,5 +1,5 @@
 -- `plan::faults::first_count` meets its contract. Each entry is asked, in turn, up to one at fault.
-use Rattle.std.proofs.Common.{rules, if◌then◌else◌}
+use Rattle.std.proofs.Common.{rules}
 use Rattle.std.proofs.iter.runs.Sources.{ranges}
 use Rattle.rules.specs.Books.Load.{count_fault_of}
 use Rattle.rules.specs.Books.Plan.{count_fault, most}

@@ -1,12 +1,12 @@
 -- The ways through the code that lays a book: numbers, bodies, entries, and the whole. Assumes nothing.
 use mathlib.Core.Path.{◌≡◌, refl, sym, ◌∙◌, ap, ap₂}
-use mathlib.Core.List.{List, [], ◌++◌, append_assoc}
+use mathlib.Core.List.{List, [], ◌∷◌, ◌++◌, append_assoc}
 use Prim.Native.Nat.{ℕ, suc, ◌+◌, ◌*◌, ◌-◌, ◌≤◌, ◌<◌}
 use native.Mathlib.Numerals.{add-one}
 use native.Mathlib.Omega.{arith}
-use lib.ListN.{length, take, drop, length-append, length-drop, take-append-drop, drop_of_length-le}
+use lib.ListN.{length, get_or, take, drop, length-append, length-drop, take-append-drop, drop_of_length-le}
 use lib.Seq.{drop-cons, drop-drop, drop-append-le, length-take-le}
-use Rattle.rules.specs.Numbers.Place.{at, stored}
+use Rattle.rules.specs.Numbers.Place.{stored}
 use Rattle.rules.specs.Books.Book.{contents}
 use Rattle.rules.specs.Books.Bytes.{two, four, word_bytes, long_bytes, entry_of, bodies_of, book_of}
 use Rattle.rules.proofs.Numbers.Stored.{length_stored, stored_on, stored_past, stored_front}
@@ -21,50 +21,46 @@ then : (goal out next rest : List ℕ) (p q : ℕ) (part : List ℕ) → stored 
 then goal out next rest p q part e h s = ap (λ o. stored o q rest) h ∙ stored_on out p q part rest s ∙ e
 
 -- a body, record by record: what is left of it, laid where the loop stands, makes the whole
-module _ (from : ℕ) (ws before : List ℕ) where
-  abbrev pub WordsSoFar : ℕ → List ℕ → Type 0
-  WordsSoFar i out = (i ≤ length ws) × (stored out (from + i * 2) (word_bytes (drop i ws)) ≡ stored before from (word_bytes ws))
+pub record LaidTo (before : List ℕ) (from : ℕ) (body : List ℕ) (place : ℕ) (rest out : List ℕ) : Type 0 where
+  pub size : length out ≡ length before
+  pub ends : place + length rest ≡ from + length body
+  pub whole : stored out place rest ≡ stored before from body
 
-  abbrev pub LongsSoFar : ℕ → List ℕ → Type 0
-  LongsSoFar i out = (i ≤ length ws) × (stored out (from + i * 4) (long_bytes (drop i ws)) ≡ stored before from (long_bytes ws))
+module _ (before : List ℕ) (from : ℕ) (body : List ℕ) where
+  pub laid_start : LaidTo before from body from body before
+  laid_start = record { size = refl; ends = refl; whole = refl }
 
-  pub words_start : WordsSoFar 0 before
-  words_start = let e : from + 0 * 2 ≡ from = omega arith in (omega arith, ap (λ p. stored before p (word_bytes ws)) e)
+  pub laid_next : (place : ℕ) (bytes rest all out next : List ℕ) → LaidTo before from body place all out → all ≡ bytes ++ rest → next ≡ stored out place bytes
+      → LaidTo before from body (place + length bytes) rest next
+  laid_next place bytes rest all out next s e w = record {
+    size = ap length w ∙ length_stored out place bytes ∙ s.size;
+    ends = omega (arith, length-append bytes rest, ap length e, s.ends);
+    whole = then (stored before from body) out next rest place (place + length bytes) bytes (ap (λ x. stored out place x) (sym e) ∙ s.whole) w refl;
+  }
 
-  pub longs_start : LongsSoFar 0 before
-  longs_start = let e : from + 0 * 4 ≡ from = omega arith in (omega arith, ap (λ p. stored before p (long_bytes ws)) e)
+  pub laid_end : (place : ℕ) (out : List ℕ) → LaidTo before from body place [] out → (place ≡ from + length body) × (out ≡ stored before from body)
+  unfolding stored
+  laid_end place out s = (omega (arith, s.ends), s.whole)
 
-  module _ (i : ℕ) (out next : List ℕ) (h : i < length ws) where
-    pub words_next : WordsSoFar i out → next ≡ stored out (from + i * 2) (two (at ws i)) → WordsSoFar (i + 1) next
-    unfolding word_bytes
-    words_next s e = (
-      omega arith,
-      rw (add-one i) (then (stored before from (word_bytes ws)) out next (word_bytes (drop (suc i) ws)) (from + i * 2)
-          (from + suc i * 2) (two (at ws i)) (ap (λ xs. stored out (from + i * 2) (word_bytes xs)) (sym (drop-cons ws i 0 h)) ∙ s.1) e (omega arith)),
-    )
+-- the records of a body, each in so many bytes
+module _ {X : Type 0} (size : ℕ) (bytes_of : X → List ℕ) (body_of : List X → List ℕ) (sized : (x : X) → length (bytes_of x) ≡ size) (none : body_of [] ≡ [])
+    (more : (x : X) (xs : List X) → body_of (x ∷ xs) ≡ bytes_of x ++ body_of xs) (before : List ℕ) (from : ℕ) (records : List X) where
+  -- the first i of them are laid
+  abbrev pub RecordsSoFar : (i place : ℕ) → List ℕ → Type 0
+  RecordsSoFar i place out = LaidTo before from (body_of records) place (body_of (drop i records)) out
 
-    pub longs_next : LongsSoFar i out → next ≡ stored out (from + i * 4) (four (at ws i)) → LongsSoFar (i + 1) next
-    unfolding long_bytes
-    longs_next s e = (
-      omega arith,
-      rw (add-one i) (then (stored before from (long_bytes ws)) out next (long_bytes (drop (suc i) ws)) (from + i * 4)
-          (from + suc i * 4) (four (at ws i)) (ap (λ xs. stored out (from + i * 4) (long_bytes xs)) (sym (drop-cons ws i 0 h)) ∙ s.1) e (omega arith)),
-    )
+  module _ (i place : ℕ) (out : List ℕ) (s : RecordsSoFar i place out) where
+    module _ (x : X) (h : i < length records) (is : x ≡ get_or records i x) where
+      left : body_of (drop i records) ≡ bytes_of x ++ body_of (drop (suc i) records)
+      left = ap body_of (drop-cons records i x h ∙ ap (λ y. y ∷ drop (suc i) records) (sym is)) ∙ more x (drop (suc i) records)
 
-  module _ (i : ℕ) (out : List ℕ) (h : length ws ≤ i) where
-    pub words_end : WordsSoFar i out → out ≡ stored before from (word_bytes ws)
-    unfolding word_bytes stored
-    words_end s = ap (λ xs. stored out (from + i * 2) (word_bytes xs)) (sym (drop_of_length-le ws h)) ∙ s.1
+      pub records_next : (next : List ℕ) → next ≡ stored out place (bytes_of x) → RecordsSoFar (i + 1) (place + size) next
+      records_next next w = rw (add-one i, ← sized x)
+          (laid_next before from (body_of records) place (bytes_of x) (body_of (drop (suc i) records)) (body_of (drop i records)) out next s left w)
 
-    pub longs_end : LongsSoFar i out → out ≡ stored before from (long_bytes ws)
-    unfolding long_bytes stored
-    longs_end s = ap (λ xs. stored out (from + i * 4) (long_bytes xs)) (sym (drop_of_length-le ws h)) ∙ s.1
-
-pub words_after_lem : (from n : ℕ) (ws : List ℕ) → n ≡ length ws → from + n * 2 ≡ from + length (word_bytes ws)
-words_after_lem from n ws e = omega (arith, e, word_size ws)
-
-pub longs_after : (from n : ℕ) (ws : List ℕ) → n ≡ length ws → from + n * 4 ≡ from + length (long_bytes ws)
-longs_after from n ws e = omega (arith, e, long_size ws)
+    pub records_end : length records ≤ i → (place ≡ from + length (body_of records)) × (out ≡ stored before from (body_of records))
+    records_end h = laid_end before from (body_of records) place out
+        (rw (ap body_of (drop_of_length-le records h) ∙ none) at s)
 
 -- an entry: kind, count, offset
 pub entry_stored : (out₀ out₁ out₂ out₃ : List ℕ) (i kind count offset : ℕ) → out₁ ≡ stored out₀ i (two kind) → out₂ ≡ stored out₁ (i + 2) (two count)
@@ -74,14 +70,6 @@ entry_stored out₀ out₁ out₂ out₃ i kind count offset a b c =
     (then (stored out₀ i (entry_of kind count offset)) out₀ out₁ (two count ++ four offset) i (i + 2) (two kind) refl a refl) b (omega arith)
 
 -- ---- part by part
-
--- what a part asks of its body and of its entry, when the body is laid
-module _ (out : List ℕ) (e from n size : ℕ) (room : PartRoom out e from n size) where
-  pub body_room : from + n * size ≤ length out
-  body_room = room.body
-
-  pub entry_room : (next : List ℕ) → length next ≡ length out → (contents ≤ length next) × (e < 4) × (n < 65536) × (from < 4294967296)
-  entry_room next h = (omega (arith, room.front, h), room.entry, omega (arith, room.count), omega (arith, room.offset))
 
 with_part_length : (out next body : List ℕ) (e from n : ℕ) → next ≡ with_part out e from n body → length next ≡ length out
 with_part_length out next body e from n w = ap length w ∙ length_stored (stored out from body) (e * 8) (entry_of (e + 1) n from) ∙ length_stored out from body
@@ -160,45 +148,41 @@ module _ (t l u e out : List ℕ) (room : Room t l u e out) where
       × (contents + length t * 2 + length l * 4 + length u * 2 + length e * 4 ≤ length out)
   sizes = (word_size t, long_size l, word_size u, long_size e, omega (arith, book_size t l u e, room.fits))
 
-  pub tasks_room : PartRoom out 0 contents (length t) 2
+  pub tasks_room : PartRoom out contents (length t) a
   tasks_room = record {
     front = omega (arith, sizes.4);
-    entry = omega arith;
-    body = omega (arith, sizes.4);
+    body = omega (arith, sizes.0, sizes.1, sizes.2, sizes.3, sizes.4);
     count = omega (arith, room.few.tasks);
     offset = omega arith;
   }
 
   module _ (p : ℕ) (after-tasks : p ≡ contents + length a) where
-    pub locks_room : (o₁ : List ℕ) → o₁ ≡ with_part out 0 contents (length t) a → PartRoom o₁ 1 p (length l) 4
+    pub locks_room : (o₁ : List ℕ) → o₁ ≡ with_part out 0 contents (length t) a → PartRoom o₁ p (length l) b
     locks_room o₁ w₁ = let h : length o₁ ≡ length out = with_part_length out o₁ a 0 contents (length t) w₁ in record {
       front = omega (arith, sizes.4);
-      entry = omega arith;
-      body = omega (arith, sizes.0, sizes.4, after-tasks);
+      body = omega (arith, sizes.0, sizes.1, sizes.2, sizes.3, sizes.4, after-tasks);
       count = omega (arith, room.few.locks);
       offset = omega (arith, sizes.0, room.few.tasks, after-tasks);
     }
 
     module _ (q : ℕ) (after-locks : q ≡ p + length b) where
-      pub uses_room : (o₁ o₂ : List ℕ) → o₁ ≡ with_part out 0 contents (length t) a → o₂ ≡ with_part o₁ 1 p (length l) b → PartRoom o₂ 2 q (length u) 2
+      pub uses_room : (o₁ o₂ : List ℕ) → o₁ ≡ with_part out 0 contents (length t) a → o₂ ≡ with_part o₁ 1 p (length l) b → PartRoom o₂ q (length u) c
       uses_room o₁ o₂ w₁ w₂ = let h : length o₂ ≡ length out = with_part_length o₁ o₂ b 1 p (length l) w₂
           ∙ with_part_length out o₁ a 0 contents (length t) w₁ in
           record {
             front = omega (arith, sizes.4);
-            entry = omega arith;
-            body = omega (arith, sizes.0, sizes.1, sizes.4, after-tasks, after-locks);
+            body = omega (arith, sizes.0, sizes.1, sizes.2, sizes.3, sizes.4, after-tasks, after-locks);
             count = omega (arith, room.few.uses);
             offset = omega (arith, sizes.0, sizes.1, room.few.tasks, room.few.locks, after-tasks, after-locks);
           }
 
       module _ (s : ℕ) (after-uses : s ≡ q + length c) where
         pub events_room : (o₁ o₂ o₃ : List ℕ) → o₁ ≡ with_part out 0 contents (length t) a → o₂ ≡ with_part o₁ 1 p (length l) b
-            → o₃ ≡ with_part o₂ 2 q (length u) c → PartRoom o₃ 3 s (length e) 4
+            → o₃ ≡ with_part o₂ 2 q (length u) c → PartRoom o₃ s (length e) d
         events_room o₁ o₂ o₃ w₁ w₂ w₃ = let h : length o₃ ≡ length out = with_part_length o₂ o₃ c 2 q (length u) w₃ ∙ with_part_length o₁ o₂ b 1 p (length l) w₂
             ∙ with_part_length out o₁ a 0 contents (length t) w₁ in record {
               front = omega (arith, sizes.4);
-              entry = omega arith;
-              body = omega (arith, sizes.0, sizes.1, sizes.2, sizes.4, after-tasks, after-locks, after-uses);
+              body = omega (arith, sizes.0, sizes.1, sizes.2, sizes.3, sizes.4, after-tasks, after-locks, after-uses);
               count = omega (arith, room.few.events);
               offset = omega (arith, sizes.0, sizes.1, sizes.2, room.few.tasks, room.few.locks, room.few.uses, after-tasks, after-locks, after-uses);
             }

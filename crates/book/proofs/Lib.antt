@@ -1,4 +1,6 @@
 -- The laws behind the proofs of this crate.
+mod Firsts
+mod Places
 mod Records
 mod LaidOut
 mod Parts
@@ -7,6 +9,7 @@ mod Order
 mod Where
 pub mod Accepted
 pub mod EventWalk
+mod FieldBytes
 mod Laying
 mod WriteOrder
 pub mod Looks

@@ -1,17 +1,18 @@
 -- The order of 1 to 7, 24, 8 and 9: each check is asked where those before it found no offender. Assumes nothing.
-use Rattle.std.specs.Prelude.{Ok, if◌then◌else◌}
-use Rattle.rules.specs.Numbers.Verdict.{Verdict, refused_at}
-use mathlib.Core.Path.{◌≡◌, sym, ◌∙◌, ap, ap₂}
-use mathlib.Core.Bool.{Bool, true, false}
+use mathlib.Core.Path.{◌≡◌, refl, sym, ◌∙◌, ap, ap₂}
+use mathlib.Core.Bool.{not}
 use mathlib.Core.List.{List, ◌++◌}
 use Prim.Native.Nat.{ℕ, ◌+◌, ◌*◌, ◌-◌, ◌/◌, ◌≤◌, ◌<◌}
 use native.Mathlib.Omega.{arith}
 use lib.Dec.{ltb, eqb}
 use lib.ListN.{length, take, drop, length-drop}
 use lib.Seq.{take_all}
-use borrow.Author.Tests.{lt-ltb, le-ltb, ltb-false, eqb-true, not-false}
+use borrow.Author.Tests.{lt-ltb, le-ltb, ltb-false, eqb-true, eq-eqb, ne_eqb, not-false}
 use Rattle.rules.specs.Numbers.Capacity.{max_tasks, max_locks, max_uses}
-use Rattle.rules.specs.Numbers.Place.{any, first_from}
+use Rattle.rules.specs.Numbers.Verdict.{Verdict, refused_at}
+use Rattle.std.proofs.Common.{Option, Some, None, Ok, if◌then◌else◌}
+use Rattle.std.specs.List.{position, range_with_len}
+use Rattle.rules.specs.Numbers.Place.{first_from}
 use Rattle.rules.specs.Numbers.Refusal.{number_of, first_fault, check_for}
 use Rattle.rules.specs.Books.Plan.{most, count_fault}
 use Rattle.rules.specs.Books.Load.{load_of, load_checks}
@@ -26,6 +27,7 @@ use Rattle.rules.proofs.Numbers.Choice.{or_false}
 use Rattle.rules.proofs.Numbers.Checks.{clean_for, check_left, check_right, check_none, check_finds, check_passes, one_finds, one_passes}
 use Rattle.rules.proofs.Books.Loaded.{load_refused, load_passed, load_plan}
 use Rattle.book.specs.Laid.{Laid}
+use Rattle.book.proofs.Firsts.{first_more, first_last, first_no_more, found_below, absent_below}
 use Rattle.book.proofs.Parts.{event_size}
 use Rattle.book.proofs.LastTests.{wrong_one, no_room, both_pass}
 
@@ -45,15 +47,32 @@ module _ (b : List ℕ) where
     unfolding contents_checks
     wrong_count h = sym (check_passes _ _ 1 one (omega arith) ∙ check_finds _ _ e count h ∙ ap (refused_at WrongCount) (omega arith))
 
-    module _ (counts : 4 ≤ e) (l : ℕ) (layout : l ≡ first_from (layout_fault b) 0 5) where
-      pub wrong_layout : l < 5 → refused_at WrongLayout (l + 1) ≡ first_fault (contents_checks b)
+    module _ (counts : 4 ≤ e) where
+      abbrev l : ℕ
+      l = first_from (layout_fault b) 0 5
+
+      wrong_layout : (k : ℕ) → k ≡ l → k < 5 → refused_at WrongLayout (k + 1) ≡ first_fault (contents_checks b)
       unfolding contents_checks
-      wrong_layout h = sym (check_passes _ _ 1 one (omega arith) ∙ check_passes _ _ e count counts ∙ check_finds _ _ l layout h
+      wrong_layout k layout h = sym (check_passes _ _ 1 one (omega arith) ∙ check_passes _ _ e count counts ∙ check_finds _ _ k layout h
           ∙ ap (refused_at WrongLayout) (omega arith))
 
-      pub no_wrong : 5 ≤ l → Ok tt ≡ first_fault (contents_checks b)
-      unfolding contents_checks
-      no_wrong h = sym (check_passes _ _ 1 one (omega arith) ∙ check_passes _ _ e count counts ∙ check_passes _ _ l layout h ∙ check_none)
+      pub wrong_part : (k : ℕ) → k < 4 → k ≡ first_from (layout_fault b) 0 4 → refused_at WrongLayout (k + 1) ≡ first_fault (contents_checks b)
+      wrong_part k h q = wrong_layout k (first_more (layout_fault b) 4 k h q) (omega arith)
+
+      -- where no entry is wrong, the end decides
+      module _ (entries : 4 ≤ first_from (layout_fault b) 0 4) (r : ℕ) (ends : r ≡ body_at b 4) where
+        last : layout_fault b 4 ≡ not (eqb r (length b))
+        unfolding layout_fault
+        last = rw ends refl
+
+        pub wrong_end : (r ≡ length b → ⊥) → refused_at WrongLayout 5 ≡ first_fault (contents_checks b)
+        wrong_end n = wrong_layout 4 (first_last (layout_fault b) 4 entries (last ∙ ap not (ne_eqb r (length b) n))) (omega arith)
+
+        pub no_wrong : r ≡ length b → Ok tt ≡ first_fault (contents_checks b)
+        unfolding contents_checks
+        no_wrong h =
+            sym (check_passes _ _ 1 one (omega arith) ∙ check_passes _ _ e count counts
+            ∙ check_passes _ _ l refl (first_no_more (layout_fault b) 4 entries (last ∙ ap not (eq-eqb r (length b) h))) ∙ check_none)
 
   pub laid_out : (v : Verdict) → v ≡ first_fault (contents_checks b) → v ≡ Ok tt → Laid b
   unfolding contents_checks check_for number_of count_fault most layout_fault
@@ -104,9 +123,9 @@ module _ (b : List ℕ) where
 
   -- ---- 8 and 9
 
-  -- the events lie from `events` on, `body` is that part of the book, and r says whether 8 refuses one of them
-  module _ (laid : Laid b) (room events : ℕ) (starts : events ≡ body_at b 3) (body : List ℕ) (r : Bool)
-      (asked : r ≡ any (record_fault body) (length body / 4)) (part : body ≡ take (length b - events) (drop events b)) where
+  -- the events lie from `events` on, `body` is that part of the book, and o is the first of them that 8 refuses
+  module _ (laid : Laid b) (room events : ℕ) (starts : events ≡ body_at b 3) (body : List ℕ) (part : body ≡ take (length b - events) (drop events b)) (o : Option ℕ)
+      (asked : o ≡ position (record_fault body) (range_with_len 0 (length body / 4))) where
     whole_part : body ≡ event_body b
     whole_part = part ∙ take_all (length b - events) (drop events b) (omega (arith, length-drop events b)) ∙ ap (λ i. drop i b) starts
 
@@ -116,23 +135,26 @@ module _ (b : List ℕ) where
     records : length body / 4 ≡ count_at b 3
     records = omega (arith, size)
 
-    said : r ≡ any (record_fault (event_body b)) (count_at b 3)
-    said = asked ∙ rw (records, whole_part)
+    first : first_from (record_fault body) 0 (length body / 4) ≡ first_from (record_fault (event_body b)) 0 (count_at b 3)
+    first = rw (records, whole_part) refl
 
-    pub wrong_event : (k : ℕ) (c : Checked) → r ≡ true → k ≡ first_from (record_fault body) 0 (length body / 4) → c ≡ refused_check WrongEvent k
-        → c ≡ checked_as (first_fault (event_checks b room)) b
+    pub wrong_event : (k : ℕ) (c : Checked) → o ≡ Some k → c ≡ refused_check WrongEvent k → c ≡ checked_as (first_fault (event_checks b room)) b
     unfolding event_checks checked_as
-    wrong_event k c e first g = g
-        ∙ ap (λ w. checked_as w b) (wrong_one (count_at b 3) (record_fault (event_body b)) ShortRows (count_at b 3 * 4) room r said k e
-        (first ∙ rw (records, whole_part)))
+    wrong_event k c e g =
+        let (l, q) = found_below (record_fault body) (length body / 4) k (sym asked ∙ e) in
+        g
+        ∙ ap (λ w. checked_as w b) (wrong_one (count_at b 3) (record_fault (event_body b)) ShortRows (count_at b 3 * 4) room k (omega (arith, l, records)) (q ∙ first))
 
-    module _ (e : r ≡ false) where
+    module _ (e : o ≡ None) where
+      none : count_at b 3 ≤ first_from (record_fault (event_body b)) 0 (count_at b 3)
+      none = omega (arith, first, records, absent_below (record_fault body) (length body / 4) (sym asked ∙ e))
+
       pub short_rows : (c : Checked) → room < length body → c ≡ refused_check ShortRows 0 → c ≡ checked_as (first_fault (event_checks b room)) b
       unfolding event_checks checked_as
       short_rows c h g = g
-          ∙ ap (λ w. checked_as w b) (no_room (count_at b 3) (record_fault (event_body b)) ShortRows (count_at b 3 * 4) room r said e (omega (arith, size, h)))
+          ∙ ap (λ w. checked_as w b) (no_room (count_at b 3) (record_fault (event_body b)) ShortRows (count_at b 3 * 4) room none (omega (arith, size, h)))
 
       pub all_right : (p : Plan) → p ≡ plan_in b → length body ≤ room → passed_check p events ≡ checked_as (first_fault (event_checks b room)) b
       unfolding event_checks checked_as
       all_right p q h = ap₂ passed_check q starts
-          ∙ ap (λ w. checked_as w b) (both_pass (count_at b 3) (record_fault (event_body b)) ShortRows (count_at b 3 * 4) room r said e (omega (arith, size, h)))
+          ∙ ap (λ w. checked_as w b) (both_pass (count_at b 3) (record_fault (event_body b)) ShortRows (count_at b 3 * 4) room none (omega (arith, size, h)))

@@ -1,13 +1,14 @@
 -- The bodies of a book that is laid out right: each lies within it, and gives its records. Assumes nothing.
-use Rattle.std.specs.Prelude.{if◌then◌else◌}
-use mathlib.Core.Path.{◌≡◌, refl, sym, ◌∙◌}
-use mathlib.Core.List.{List}
-use Prim.Native.Nat.{ℕ, ◌+◌, ◌*◌, ◌≤◌}
+use mathlib.Core.Path.{◌≡◌, refl, sym, ◌∙◌, ap, ap₂}
+use mathlib.Core.List.{List, [], ◌∷◌, ◌++◌}
+use Prim.Native.Nat.{ℕ, zero, suc, ◌+◌, ◌*◌, ◌≤◌, ◌<◌}
+use Rattle.std.proofs.Common.{zero-add, add-zero, if◌then◌else◌}
+use native.Mathlib.Numerals.{add-one}
 use native.Mathlib.Omega.{arith}
-use lib.ListN.{length, take, drop, length-drop}
-use Rattle.rules.specs.Numbers.Place.{renewed}
-use Rattle.rules.specs.Books.Book.{word, long, count_at, size_of, body_at, words_at, longs_at}
-use Rattle.rules.proofs.Numbers.Place.{renewed_front}
+use lib.ListN.{length, take, drop, set, length-drop}
+use Rattle.std.proofs.lemmas.List.{take_more_set}
+use Rattle.rules.specs.Numbers.Place.{from, tabulate}
+use Rattle.rules.specs.Books.Book.{count_at, size_of, body_at}
 use Rattle.book.specs.Laid.{Laid}
 
 module _ (b : List ℕ) (laid : Laid b) where
@@ -33,10 +34,17 @@ module _ (b : List ℕ) (laid : Laid b) where
   pub event_size : length (drop (body_at b 3) b) ≡ count_at b 3 * 4
   event_size = length-drop (body_at b 3) b ∙ omega (arith, spans.3)
 
--- what was read from the n records of entry e, from a place on, are its numbers
-module _ (b : List ℕ) (e n from : ℕ) (count : n ≡ count_at b e) (starts : from ≡ body_at b e) (xs ys : List ℕ) where
-  pub words_read : ys ≡ renewed xs (λ i. word b (from + i * 2)) n → count_at b e ≤ length xs → take n ys ≡ words_at b e
-  words_read g h = rw (g, count, starts) (renewed_front xs (λ i. word b (body_at b e + i * 2)) (count_at b e) h)
+-- a table that is filled from its front
+pub tabulate_more : {X : Type 0} (f : ℕ → X) (i n : ℕ) → from f i (suc n) ≡ from f i n ++ f (i + n) ∷ []
+unfolding from
+tabulate_more f i zero = ap (λ k. f k ∷ []) (sym (add-zero i))
+tabulate_more f i (suc n) = ap (λ xs. f i ∷ xs) (tabulate_more f (suc i) n ∙ ap (λ k. from f (suc i) n ++ f k ∷ []) (omega arith))
 
-  pub longs_read : ys ≡ renewed xs (λ i. long b (from + i * 4)) n → count_at b e ≤ length xs → take n ys ≡ longs_at b e
-  longs_read g h = rw (g, count, starts) (renewed_front xs (λ i. long b (body_at b e + i * 4)) (count_at b e) h)
+module _ {X : Type 0} (f : ℕ → X) (xs : List X) where
+  pub filled_start : take 0 xs ≡ tabulate 0 f
+  unfolding from
+  filled_start = refl
+
+  pub filled_next : (i : ℕ) (v : X) → take i xs ≡ tabulate i f → i < length xs → v ≡ f i → take (i + 1) (set xs i v) ≡ tabulate (i + 1) f
+  filled_next i v e h q =
+      take_more_set xs i v h ∙ ap₂ (λ ys y. ys ++ y ∷ []) e (q ∙ ap f (sym (zero-add i))) ∙ sym (tabulate_more f 0 i) ∙ ap (λ k. tabulate k f) (sym (add-one i))

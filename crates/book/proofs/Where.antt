@@ -1,20 +1,15 @@
 -- A body where it lies in a book. Assumes nothing.
 use Rattle.std.specs.Prelude.{if◌then◌else◌}
-use mathlib.Core.Path.{◌≡◌, refl, ◌∙◌, ap}
+use mathlib.Core.Path.{◌≡◌, refl}
 use mathlib.Core.List.{List}
-use Prim.Native.Nat.{ℕ, ◌-◌, ◌≤◌}
+use Prim.Native.Nat.{ℕ, ◌≤◌}
 use native.Mathlib.Omega.{arith}
-use lib.ListN.{length, take, drop, length-drop, drop_of_length-le}
-use lib.Seq.{take_all}
+use lib.ListN.{length, drop, drop_of_length-le}
 use borrow.Author.Tests.{le-ltb}
 use Rattle.rules.specs.Books.Book.{found_at}
 use Rattle.rules.specs.declared.answer.Found.{Found}
 
 module _ (b : List ℕ) (from k : ℕ) where
-  -- the part of the book that the code lends on is all that lies from there
-  pub found_there : (r : Found) → r ≡ found_at (take (length b - from) (drop from b)) k → r ≡ found_at (drop from b) k
-  found_there r h = h ∙ ap (λ body. found_at body k) (take_all (length b - from) (drop from b) (omega (arith, length-drop from b)))
-
   -- nothing lies past the end
   pub found_past : length b ≤ from → Found.End ≡ found_at (drop from b) k
   unfolding found_at

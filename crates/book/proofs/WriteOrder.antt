@@ -1,8 +1,6 @@
 -- The ways through the writer's tests, and through the writer. Assumes nothing.
-use Rattle.std.specs.Prelude.{Ok, if◌then◌else◌}
-use Rattle.rules.specs.Numbers.Verdict.{Verdict, refused_at}
-use mathlib.Core.Path.{◌≡◌, sym, ◌∙◌, ap, ap₂}
-use mathlib.Core.Bool.{Bool, true, false}
+use mathlib.Core.Path.{◌≡◌, refl, sym, ◌∙◌, ap, ap₂}
+use mathlib.Core.Bool.{false}
 use mathlib.Core.List.{List, [], ◌∷◌, ◌++◌, append_assoc}
 use Prim.Native.Nat.{ℕ, ◌+◌, ◌*◌, ◌≤◌, ◌<◌}
 use native.Mathlib.Omega.{arith}
@@ -10,14 +8,17 @@ use lib.Dec.{eqb}
 use lib.ListN.{length, drop}
 use borrow.Author.Tests.{ltb-false}
 use Rattle.rules.specs.Numbers.Capacity.{max_tasks, max_locks, max_uses, max_events}
-use Rattle.rules.specs.Numbers.Place.{at, any, first_from}
+use Rattle.rules.specs.Numbers.Verdict.{Verdict, refused_at}
+use Rattle.std.proofs.Common.{Option, Some, None, Ok, Err, if◌then◌else◌}
+use Rattle.std.specs.List.{position}
+use Rattle.rules.specs.Numbers.Place.{at, first_from}
 use Rattle.rules.specs.Numbers.Refusal.{number_of, first_fault, check_for}
-use Rattle.rules.specs.Books.Event.{event_fault, record_kind, record_id, record_amount, number_fault, event_of, number_event}
+use Rattle.rules.specs.Books.Event.{number_fault}
 use Rattle.rules.specs.Books.Plan.{most, count_fault}
 use Rattle.rules.specs.Books.Load.{load_checks, load_of}
 use Rattle.rules.specs.Books.Book.{contents}
 use Rattle.rules.specs.Books.Bytes.{book_of}
-use Rattle.rules.specs.Books.Write.{count_of, counts_of, whole_checks, write_checks, wrote_as, write_of, wrote_with}
+use Rattle.rules.specs.Books.Write.{counts_of, whole_checks, write_checks, wrote_as, write_of, wrote_with}
 use Rattle.rules.specs.Books.Load.{Loaded}
 use Rattle.rules.specs.declared.refusal.Refusal.{Refusal}
 use Rattle.rules.specs.declared.refusal.Refusal.TheVariants.{WrongCount, WrongEvent, ShortBuffer}
@@ -27,37 +28,26 @@ use Rattle.rules.proofs.Numbers.Checks.{clean_for, check_left, check_right, chec
 use Rattle.rules.proofs.Books.Loaded.{load_refused, load_passed}
 use Rattle.rules.proofs.Books.ReadBack.{book_size}
 use Rattle.book.proofs.LastTests.{wrong_one, no_room, both_pass}
-use Rattle.rules.specs.declared.event.Event.{Event}
+use Rattle.book.specs.Part.{index_of}
+use Rattle.book.proofs.Firsts.{found_in, absent_in}
+use Rattle.book.proofs.Places.{parts, part_found, part_absent}
 use Rattle.book.specs.Room.{Few, Room, last_checks}
-
--- an event's record, by the parts that the code takes out of it
-pub parts_fault : (w kind id amount : ℕ) (r : Bool) → kind ≡ record_kind w → id ≡ record_id w → amount ≡ record_amount w → r ≡ event_fault kind id amount
-    → r ≡ number_fault w
-unfolding number_fault
-parts_fault w kind id amount r a b c h = h ∙ rw (a, b, c)
-
-pub parts_event : (w kind id amount : ℕ) (r : Event) → kind ≡ record_kind w → id ≡ record_id w → amount ≡ record_amount w → r ≡ event_of kind id amount
-    → r ≡ number_event w
-unfolding number_event
-parts_event w kind id amount r a b c h = h ∙ rw (a, b, c)
-
--- a count, as the code has it
-pub count_told : (n m u k e c : ℕ) (r : Bool) → c ≡ count_of n m u k e → r ≡ count_fault e c → r ≡ count_fault e (count_of n m u k e)
-count_told n m u k e c r g h = rw (← g) h
 
 -- ---- 8 and 23
 
--- r says whether 8 refuses one of the events
-module _ (events : List ℕ) (size room : ℕ) (r : Bool) (said : r ≡ any (λ i. number_fault (at events i)) (length events)) where
-  pub event_refused : (k : ℕ) → r ≡ true → k ≡ first_from (λ i. number_fault (at events i)) 0 (length events)
-      → refused_at WrongEvent k ≡ first_fault (last_checks events size room)
-  event_refused = wrong_one (length events) (λ i. number_fault (at events i)) ShortBuffer size room r said
+-- o is the first event that 8 refuses
+module _ (events : List ℕ) (size room : ℕ) (o : Option ℕ) (asked : o ≡ position number_fault events) where
+  pub event_refused : (k : ℕ) → o ≡ Some k → refused_at WrongEvent k ≡ first_fault (last_checks events size room)
+  event_refused k e =
+      let (l, q) = found_in number_fault 0 events k (sym asked ∙ e) in
+      wrong_one (length events) (λ i. number_fault (at events i)) ShortBuffer size room k l q
 
-  pub buffer_short : r ≡ false → room < size → refused_at ShortBuffer 0 ≡ first_fault (last_checks events size room)
-  buffer_short = no_room (length events) (λ i. number_fault (at events i)) ShortBuffer size room r said
+  module _ (none : o ≡ None) where
+    pub buffer_short : room < size → refused_at ShortBuffer 0 ≡ first_fault (last_checks events size room)
+    buffer_short = no_room (length events) (λ i. number_fault (at events i)) ShortBuffer size room (absent_in number_fault 0 events (sym asked ∙ none))
 
-  pub last_passes : r ≡ false → size ≤ room → Ok tt ≡ first_fault (last_checks events size room)
-  last_passes = both_pass (length events) (λ i. number_fault (at events i)) ShortBuffer size room r said
+    pub last_passes : size ≤ room → Ok tt ≡ first_fault (last_checks events size room)
+    last_passes = both_pass (length events) (λ i. number_fault (at events i)) ShortBuffer size room (absent_in number_fault 0 events (sym asked ∙ none))
 
 -- ---- all of them
 
@@ -72,46 +62,68 @@ few_counts tasks locks uses events clean = record {
   events = ltb-false max_events (length events) (clean 3 (omega arith));
 }
 
-pub few_there : (tasks locks uses events : List ℕ) (e : ℕ) → e ≡ first_from (λ i. count_fault i (counts_of tasks locks uses events i)) 0 4 → 4 ≤ e
-    → Few (length tasks) (length locks) (length uses) (length events)
-few_there tasks locks uses events e counted right = few_counts tasks locks uses events
-    (λ i h. first_none (λ i. count_fault i (counts_of tasks locks uses events i)) 0 4 (omega arith) i (omega arith) (omega arith))
+-- a verdict is one or the other
+by_verdict : {P : Type 0} (v : Verdict) → (v ≡ Ok tt → P) → ((why : Refusal) (place : ℕ) → v ≡ refused_at why place → P) → P
+by_verdict (Ok _) f g = f refl
+by_verdict (Err z) f g = g z.why z.place refl
 
-module _ (tasks locks uses events : List ℕ) (room e : ℕ) (counted : e ≡ first_from (λ i. count_fault i (counts_of tasks locks uses events i)) 0 4) where
-  abbrev b : List ℕ
-  b = book_of tasks locks uses events
+-- o is the first part whose count is out of range
+module _ (tasks locks uses events : List ℕ) (o : Option ℕ)
+    (asked : o ≡ position (λ part. count_fault (index_of part) (counts_of tasks locks uses events (index_of part))) parts) where
+  abbrev place : ℕ
+  place = first_from (λ i. count_fault i (counts_of tasks locks uses events i)) 0 4
 
-  pub count_refused : e < 4 → refused_at WrongCount (e + 1) ≡ first_fault (write_checks tasks locks uses events room)
-  unfolding write_checks whole_checks
-  count_refused h = sym (check_finds _ _ e counted h ∙ ap (refused_at WrongCount) (omega arith))
+  found : (k : ℕ) → o ≡ Some k → (k < 4) × (k ≡ place)
+  found k e = part_found (λ i. count_fault i (counts_of tasks locks uses events i)) k (sym asked ∙ e)
 
-  module _ (right : 4 ≤ e) where
-    -- the counts pass, and the rest is in two parts
-    rest : first_fault (write_checks tasks locks uses events room) ≡ first_fault (load_checks tasks locks uses ++ last_checks events (length b) room)
+  absent : o ≡ None → 4 ≤ place
+  absent e = part_absent (λ i. count_fault i (counts_of tasks locks uses events i)) (sym asked ∙ e)
+
+  pub few_there : o ≡ None → Few (length tasks) (length locks) (length uses) (length events)
+  few_there e = few_counts tasks locks uses events
+      (λ i h. first_none (λ i. count_fault i (counts_of tasks locks uses events i)) 0 4 (omega (arith, absent e)) i (omega arith) (omega arith))
+
+  module _ (room : ℕ) where
+    abbrev b : List ℕ
+    b = book_of tasks locks uses events
+
+    pub count_refused : (e : ℕ) → o ≡ Some e → refused_at WrongCount (e + 1) ≡ first_fault (write_checks tasks locks uses events room)
     unfolding write_checks whole_checks
-    rest = check_passes _ _ e counted right ∙ ap first_fault (append_assoc (load_checks tasks locks uses) _ _)
+    count_refused e h = let (l, q) = found e h in sym (check_finds _ _ e q l ∙ ap (refused_at WrongCount) (omega arith))
 
-    module _ (l : Loaded) (loaded : l ≡ load_of tasks locks uses) where
-      pub plan_refused : (why : Refusal) (place : ℕ) → l.verdict ≡ refused_at why place
-          → refused_at why place ≡ first_fault (write_checks tasks locks uses events room)
-      plan_refused why place v = sym (rest ∙ check_left (load_checks tasks locks uses) _ why place
-          (load_refused tasks locks uses why place (ap (λ x. x.verdict) (sym loaded) ∙ v)))
+    module _ (right : o ≡ None) where
+      -- the counts pass, and the rest is in two parts
+      rest : first_fault (write_checks tasks locks uses events room) ≡ first_fault (load_checks tasks locks uses ++ last_checks events (length b) room)
+      unfolding write_checks whole_checks
+      rest = check_passes _ _ place refl (absent right) ∙ ap first_fault (append_assoc (load_checks tasks locks uses) _ _)
 
-      pub plan_passed : (size : ℕ) (r : Verdict) → l.verdict ≡ Ok tt
-          → size ≡ contents + length tasks * 2 + length locks * 4 + length uses * 2 + length events * 4
-          → r ≡ first_fault (last_checks events size room) → r ≡ first_fault (write_checks tasks locks uses events room)
-      plan_passed size r v s h =
-          h
-          ∙ ap (λ n. first_fault (last_checks events n room)) (s ∙ sym (book_size tasks locks uses events))
-          ∙ sym (rest ∙ check_right (load_checks tasks locks uses) _ (load_passed tasks locks uses (ap (λ x. x.verdict) (sym loaded) ∙ v)))
+      module _ (l : Loaded) (loaded : l ≡ load_of tasks locks uses) where
+        plan_refused : (why : Refusal) (place : ℕ) → l.verdict ≡ refused_at why place
+            → refused_at why place ≡ first_fault (write_checks tasks locks uses events room)
+        plan_refused why place v = sym (rest ∙ check_left (load_checks tasks locks uses) _ why place
+            (load_refused tasks locks uses why place (ap (λ x. x.verdict) (sym loaded) ∙ v)))
+
+        pub plan_stands : (l.verdict ≡ Ok tt → ⊥) → l.verdict ≡ first_fault (write_checks tasks locks uses events room)
+        plan_stands n = by_verdict l.verdict (λ e. absurd (n e)) (λ why place e. e ∙ plan_refused why place e)
+
+        pub plan_passed : (size : ℕ) (r : Verdict) → l.verdict ≡ Ok tt
+            → size ≡ contents + length tasks * 2 + length locks * 4 + length uses * 2 + length events * 4
+            → r ≡ first_fault (last_checks events size room) → r ≡ first_fault (write_checks tasks locks uses events room)
+        plan_passed size r v s h =
+            h
+            ∙ ap (λ n. first_fault (last_checks events n room)) (s ∙ sym (book_size tasks locks uses events))
+            ∙ sym (rest ∙ check_right (load_checks tasks locks uses) _ (load_passed tasks locks uses (ap (λ x. x.verdict) (sym loaded) ∙ v)))
 
 -- ---- the writer
 
 module _ (tasks locks uses events out : List ℕ) (v : Verdict) (said : v ≡ first_fault (write_checks tasks locks uses events (length out))) where
-  pub write_refused : (why : Refusal) (place : ℕ) → v ≡ refused_at why place
+  write_refused : (why : Refusal) (place : ℕ) → v ≡ refused_at why place
       → wrote_with (record { verdict = refused_at why place; length = 0 }) out ≡ write_of tasks locks uses events out
   unfolding write_of wrote_as
   write_refused why place e = ap (λ x. wrote_as x (book_of tasks locks uses events) out) (sym e ∙ said)
+
+  pub write_stands : (v ≡ Ok tt → ⊥) → wrote_with (record { verdict = v; length = 0 }) out ≡ write_of tasks locks uses events out
+  write_stands n = by_verdict v (λ e. absurd (n e)) (λ why place e. ap (λ x. wrote_with (record { verdict = x; length = 0 }) out) e ∙ write_refused why place e)
 
   module _ (e : v ≡ Ok tt) where
     passed : first_fault (write_checks tasks locks uses events (length out)) ≡ Ok tt

@@ -1,6 +1,6 @@
 -- What stands in a book, whatever its bytes are: an entry of its contents, and record k of each part as one number, 0 where the book is too short to
 -- have it. Assumes nothing.
-use Rattle.std.specs.Prelude.{List, ℕ, ◌+◌, ◌*◌, leb, ltb, length, if◌then◌else◌}
+use Rattle.std.specs.Prelude.{List, Option, Some, None, ℕ, ◌+◌, ◌*◌, leb, ltb, length, if◌then◌else◌}
 use Rattle.rules.specs.Books.Book.{contents, word, long, kind_at, count_at, offset_at, body_at}
 use Rattle.book.specs.declared.look.Entry.{Entry}
 
@@ -17,7 +17,11 @@ entry_in b e =
 unfoldable pub body_in : List ℕ → ℕ → ℕ
 body_in b e = if ltb (length b) contents then length b else if ltb 3 e then length b else body_at b e
 
--- number k of two bytes from a place on, and of four
+-- number k of so many bytes each, from a place on, where all its bytes lie in the book
+unfoldable pub record_in : {N : Type 0} (size : ℕ) → (ℕ → N) → List ℕ → (from k : ℕ) → Option N
+record_in size number_at b from k = if leb (from + k * size + size) (length b) then Some (number_at (from + k * size)) else None
+
+-- the same of two bytes and of four, and 0 where they do not
 unfoldable pub word_in : List ℕ → (from k : ℕ) → ℕ
 word_in b from k = if leb (from + k * 2 + 2) (length b) then word b (from + k * 2) else 0
 

@@ -1,5 +1,5 @@
 -- RULES 2.1, 6.6: records that a book may have, with room for their book, and a book that is laid part by part. Assumes nothing.
-use Rattle.std.specs.Prelude.{List, [], ◌∷◌, ℕ, ◌+◌, ◌*◌, ◌≤◌, ◌<◌, ltb, length}
+use Rattle.std.specs.Prelude.{List, [], ◌∷◌, ℕ, ◌+◌, ◌*◌, ◌≤◌, ltb, length}
 use Rattle.rules.specs.Numbers.Capacity.{max_tasks, max_locks, max_uses, max_events}
 use Rattle.rules.specs.Numbers.Place.{at, stored}
 use Rattle.rules.specs.Numbers.Refusal.{Check}
@@ -19,11 +19,10 @@ pub record Room (tasks locks uses events out : List ℕ) : Type 0 where
   pub few : Few (length tasks) (length locks) (length uses) (length events)
   pub fits : length (book_of tasks locks uses events) ≤ length out
 
--- a body of n records of so many bytes each, from a place on, and the contents, where its entry e goes
-pub record PartRoom (out : List ℕ) (e from n size : ℕ) : Type 0 where
+-- this body of n records, from a place on, and the contents, where its entry goes
+pub record PartRoom (out : List ℕ) (from n : ℕ) (bytes : List ℕ) : Type 0 where
   pub front : contents ≤ length out
-  pub entry : e < 4
-  pub body : from + n * size ≤ length out
+  pub body : from + length bytes ≤ length out
   pub count : n ≤ max_events
   pub offset : from ≤ largest_book
 

@@ -1,71 +1,38 @@
 // The records of the first three bodies, one number for a record, handed to the plan check.
-ghost use Rattle.std.specs.Prelude.{◌≡◌, ◌+◌, ◌*◌, ◌<◌, ◌≤◌, length, take, ◌++◌};
-ghost use Rattle.rules.specs.Numbers.Place.{renewed};
+ghost use Rattle.std.specs.Prelude.{◌≡◌, ◌+◌, ◌*◌, ◌≤◌, length, take, ◌++◌};
+ghost use Rattle.rules.specs.Numbers.Place.{tabulate};
 ghost use Rattle.rules.specs.Numbers.Refusal.{first_fault};
-ghost use Rattle.rules.specs.Books.Book.{contents, word, long, count_at, body_at, words_at, longs_at, tasks_of, locks_of, uses_of, event_checks, checked_as};
+ghost use Rattle.rules.specs.Books.Book.{contents, count_at, body_at, tasks_of, locks_of, uses_of, event_checks, checked_as};
 ghost use Rattle.rules.specs.Books.Load.{load_of, load_checks};
 ghost use Rattle.book.specs.Laid.{Laid};
+ghost use Rattle.book.specs.Part.{index_of};
 
-use crate::entry::{body_at, count_at};
+use crate::entry::{Part, body_at, count_at};
 use crate::events;
-use crate::number::{long_at, word_at};
+use crate::number::Field;
 use rules::answer::{Checked, Fault, Loaded};
 use rules::capacity::{MAX_LOCKS, MAX_TASKS, MAX_USES};
 
-// The n numbers of two bytes from a place on.
-fn fill_words(b: &[u8], from: usize, n: usize, words: &mut [u16])
-    requires { (from + n * 2 ≤ length b.now) × (n ≤ length words.old) }
-    ensures { words.new ≡ renewed words.old (λ i. word b.now (from + i * 2)) n }
+// As many numbers as there is room for, from a place on.
+fn fill<F: Field>(b: &[u8], from: usize, records: &mut [F])
+    requires { from + length records.old * F.SIZE ≤ length b.now }
+    ensures { records.new ≡ tabulate (length records.old) (λ i. F.number_at b.now (from + i * F.SIZE)) }
 {
-    let mut i: usize = 0;
-    while i < n {
-        words[i] = word_at(b, from + i * 2);
-        i += 1;
+    for (i, record) in records.iter_mut().enumerate() {
+        *record = F::read(b, from + i * F::SIZE);
     }
 }
 
-// The n numbers of four bytes from a place on.
-fn fill_longs(b: &[u8], from: usize, n: usize, longs: &mut [u32])
-    requires { (from + n * 4 ≤ length b.now) × (n ≤ length longs.old) }
-    ensures { longs.new ≡ renewed longs.old (λ i. long b.now (from + i * 4)) n }
+// The records of a part, at the front of a table that has room for them.
+fn read<'a, F: Field>(b: &[u8], part: Part, table: &'a mut [F]) -> &'a [F]
+    requires contents_in_bounds { contents ≤ length b.now }
+    requires body_in_bounds { body_at b.now (index_of part) + count_at b.now (index_of part) * F.SIZE ≤ length b.now }
+    requires table_in_bounds { count_at b.now (index_of part) ≤ length table.old }
+    ensures { result.now ≡ tabulate (count_at b.now (index_of part)) (λ i. F.number_at b.now (body_at b.now (index_of part) + i * F.SIZE)) }
 {
-    let mut i: usize = 0;
-    while i < n {
-        longs[i] = long_at(b, from + i * 4);
-        i += 1;
-    }
-}
-
-// The numbers of entry e, of two bytes each, and how many there are.
-fn read_words(b: &[u8], e: usize, words: &mut [u16]) -> usize
-    requires contents_in_bounds { (contents ≤ length b.now) × (e < 4) }
-    requires e_in_bounds { (body_at b.now e + count_at b.now e * 2 ≤ length b.now) × (count_at b.now e ≤ length words.old) }
-    ensures { (result ≡ count_at b.now e) × (take result words.new ≡ words_at b.now e) }
-{
-    let n = count_at(b, e);
-    let from = body_at(b, e);
-    fill_words(b, from, n, words);
-    n
-}
-
-// The same for four bytes each.
-fn read_longs(b: &[u8], e: usize, longs: &mut [u32]) -> usize
-    requires contents_in_bounds { (contents ≤ length b.now) × (e < 4) }
-    requires e_in_bounds { (body_at b.now e + count_at b.now e * 4 ≤ length b.now) × (count_at b.now e ≤ length longs.old) }
-    ensures { (result ≡ count_at b.now e) × (take result longs.new ≡ longs_at b.now e) }
-{
-    let n = count_at(b, e);
-    let from = body_at(b, e);
-    fill_longs(b, from, n, longs);
-    n
-}
-
-// The load of the first n tasks, m locks and u uses.
-fn load_front(tasks: &[u16], n: usize, locks: &[u32], m: usize, uses: &[u16], u: usize) -> Loaded
-    requires { (n ≤ length tasks.now) × (m ≤ length locks.now) × (u ≤ length uses.now) }
-    ensures { result ≡ load_of (take n tasks.now) (take m locks.now) (take u uses.now) }
-{
-    plan::load(&tasks[..n], &locks[..m], &uses[..u])
+    let records = &mut table[..count_at(b, part)];
+    fill(b, body_at(b, part), records);
+    records
 }
 
 fn load(b: &[u8]) -> Loaded
@@ -73,12 +40,13 @@ fn load(b: &[u8]) -> Loaded
     ensures { result ≡ load_of (tasks_of b.now) (locks_of b.now) (uses_of b.now) }
 {
     let mut tasks = [0u16; MAX_TASKS];
-    let n = read_words(b, 0, &mut tasks);
     let mut locks = [0u32; MAX_LOCKS];
-    let m = read_longs(b, 1, &mut locks);
     let mut uses = [0u16; MAX_USES];
-    let u = read_words(b, 2, &mut uses);
-    load_front(&tasks, n, &locks, m, &uses, u)
+    plan::load(
+        read(b, Part::Tasks, &mut tasks),
+        read(b, Part::Locks, &mut locks),
+        read(b, Part::Uses, &mut uses),
+    )
 }
 
 // The rest of the check of a book whose contents pass.
@@ -87,9 +55,7 @@ pub fn check(b: &[u8], room: usize) -> Checked
     ensures { result ≡ checked_as (first_fault (load_checks (tasks_of b.now) (locks_of b.now) (uses_of b.now) ++ event_checks
         b.now room)) b.now }
 {
-    let loaded = load(b);
-    let verdict = loaded.verdict;
-    let plan = loaded.plan;
+    let Loaded { verdict, plan } = load(b);
     match verdict {
         Err(Fault { why, place }) => events::refused(why, place),
         Ok(()) => events::check(b, room, plan),

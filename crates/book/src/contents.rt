@@ -1,59 +1,45 @@
 // 1 to 3: the book's length, the counts, and the layout.
-ghost use Rattle.std.specs.Prelude.{◌≡◌, ◌<◌, ◌≤◌, length};
-ghost use Rattle.rules.specs.Numbers.Place.{first_from};
+ghost use Rattle.std.specs.Prelude.{◌≡◌, ◌≤◌, length, position};
 ghost use Rattle.rules.specs.Numbers.Refusal.{first_fault};
 ghost use Rattle.rules.specs.Books.Plan.{count_fault};
 ghost use Rattle.rules.specs.Books.Book.{contents, count_at, layout_fault, contents_checks};
+ghost use Rattle.book.specs.Part.{index_of};
 
-use crate::entry::{CONTENTS, body_at, count_at, kind_at, offset_at};
+use crate::entry::{CONTENTS, PARTS, Part, bodies_end, body_at, count_at, kind_at, offset_at};
 use plan::count::count_fault;
 use rules::answer::Fault;
 use rules::refusal::Refusal;
 
-// The first entry whose count is out of range; 4 where there is none.
-fn first_count(b: &[u8]) -> usize
+// Whether a part's count is out of range.
+fn wrong_count(b: &[u8], part: Part) -> bool
     requires { contents ≤ length b.now }
-    ensures { result ≡ first_from (λ e. count_fault e (count_at b.now e)) 0 4 }
+    ensures { result ≡ count_fault (index_of part) (count_at b.now (index_of part)) }
 {
-    let mut e: usize = 0;
-    while e < 4 {
-        let n = count_at(b, e);
-        if count_fault(e, n) {
-            return e;
-        }
-        e += 1;
-    }
-    e
+    count_fault(part.index(), count_at(b, part))
 }
 
-// Whether entry e has a wrong kind or offset; for 4, whether the last body ends elsewhere than the
-// book.
-fn layout_fault(b: &[u8], e: usize) -> bool
-    requires { (contents ≤ length b.now) × (e < 5) }
-    ensures { result ≡ layout_fault b.now e }
+// Whether a part's entry has a wrong kind or offset.
+fn wrong_entry(b: &[u8], part: Part) -> bool
+    requires { contents ≤ length b.now }
+    ensures { result ≡ layout_fault b.now (index_of part) }
 {
-    let place = body_at(b, e);
-    if e < 4 {
-        if kind_at(b, e) != e + 1 {
-            return true;
-        }
-        return offset_at(b, e) != place;
-    }
-    place != b.len()
+    kind_at(b, part) != part.index() + 1 || offset_at(b, part) != body_at(b, part)
 }
 
-fn first_layout(b: &[u8]) -> usize
+// The first part whose count is out of range, by its place.
+fn first_count(b: &[u8]) -> Option<usize>
     requires { contents ≤ length b.now }
-    ensures { result ≡ first_from (layout_fault b.now) 0 5 }
+    ensures { result ≡ position (λ part. count_fault (index_of part) (count_at b.now (index_of part))) PARTS }
 {
-    let mut e: usize = 0;
-    while e < 5 {
-        if layout_fault(b, e) {
-            return e;
-        }
-        e += 1;
-    }
-    e
+    PARTS.iter().position(|&part| wrong_count(b, part))
+}
+
+// The first part with a wrong entry.
+fn first_entry(b: &[u8]) -> Option<usize>
+    requires { contents ≤ length b.now }
+    ensures { result ≡ position (λ part. layout_fault b.now (index_of part)) PARTS }
+{
+    PARTS.iter().position(|&part| wrong_entry(b, part))
 }
 
 // 1 (place 0), 2 (the entry, 1 to 4), 3 (the entry, or 5 for the end), in this order.
@@ -63,13 +49,14 @@ pub fn first_fault(b: &[u8]) -> Result<(), Fault>
     if b.len() < CONTENTS {
         return Err(Fault { why: Refusal::ShortBook, place: 0 });
     }
-    let c = first_count(b);
-    if c < 4 {
-        return Err(Fault { why: Refusal::WrongCount, place: c + 1 });
+    if let Some(e) = first_count(b) {
+        return Err(Fault { why: Refusal::WrongCount, place: e + 1 });
     }
-    let l = first_layout(b);
-    if l < 5 {
-        return Err(Fault { why: Refusal::WrongLayout, place: l + 1 });
+    if let Some(e) = first_entry(b) {
+        return Err(Fault { why: Refusal::WrongLayout, place: e + 1 });
+    }
+    if bodies_end(b) != b.len() {
+        return Err(Fault { why: Refusal::WrongLayout, place: 5 });
     }
     Ok(())
 }

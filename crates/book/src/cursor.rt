@@ -2,7 +2,7 @@
 ghost use Rattle.std.specs.Prelude.{◌≡◌};
 ghost use Rattle.rules.specs.Books.Book.{found_at};
 
-use crate::number::word_at;
+use crate::number::Field;
 use crate::record::{event_fault, event_of};
 use rules::answer::Found;
 use rules::refusal::Refusal;
@@ -11,16 +11,16 @@ use rules::refusal::Refusal;
 pub fn cursor(body: &[u8], k: usize) -> Found
     ensures { result ≡ found_at body.now k }
 {
-    if k < body.len() / 4 {
-        let i = k * 4;
-        let kind = body[i];
-        let id = body[i + 1];
-        let amount = word_at(body, i + 2);
-        if event_fault(kind, id, amount) {
-            return Found::Refused(Refusal::WrongEvent, k);
-        }
-        let event = event_of(kind, id, amount);
-        return Found::Got(event, k + 1);
+    if k >= body.len() / 4 {
+        return Found::End;
     }
-    Found::End
+    let i = k * 4;
+    let kind = body[i];
+    let id = body[i + 1];
+    let amount = u16::read(body, i + 2);
+    if event_fault(kind, id, amount) {
+        Found::Refused(Refusal::WrongEvent, k)
+    } else {
+        Found::Got(event_of(kind, id, amount), k + 1)
+    }
 }

@@ -1,67 +1,103 @@
-// The four entries of the contents: 0 tasks, 1 locks, 2 uses, 3 events.
-ghost use Rattle.std.specs.Prelude.{◌≡◌, ◌*◌, ◌<◌, ◌≤◌, length};
+// The four parts of a book, in the order of their entries and of their bodies, and what the contents say of each.
+ghost use Rattle.std.specs.Prelude.{◌≡◌, ◌*◌, ◌<◌, ◌≤◌, length, slice_get};
 ghost use Rattle.rules.specs.Books.Book.{contents, kind_at, count_at, offset_at, size_of, body_at};
+ghost use Rattle.book.specs.Part.{index_of};
 
-use crate::number::{long_at, word_at};
+use crate::number::Field;
 
 // The length of the contents, and the place of the first body.
 pub const CONTENTS: usize = 32;
 
-pub fn kind_at(b: &[u8], e: usize) -> usize
-    requires { (contents ≤ length b.now) × (e < 4) }
-    ensures { result ≡ kind_at b.now e }
-{
-    word_at(b, e * 8) as usize
+#[derive(Clone, Copy)]
+pub enum Part {
+    Tasks,
+    Locks,
+    Uses,
+    Events,
 }
 
-pub fn count_at(b: &[u8], e: usize) -> usize
-    requires { (contents ≤ length b.now) × (e < 4) }
-    ensures { (result ≡ count_at b.now e) × (result < 65536) }
-{
-    word_at(b, e * 8 + 2) as usize
-}
+// All of them, in order.
+pub const PARTS: [Part; 4] = [Part::Tasks, Part::Locks, Part::Uses, Part::Events];
 
-pub fn offset_at(b: &[u8], e: usize) -> usize
-    requires { (contents ≤ length b.now) × (e < 4) }
-    ensures { result ≡ offset_at b.now e }
-{
-    long_at(b, e * 8 + 4) as usize
-}
-
-// The bytes of one record.
-fn size_of(e: usize) -> usize
-    ensures { (result ≡ size_of e) × (result ≤ 4) }
-{
-    if e == 0 {
-        return 2;
+impl Part {
+    // Its place among them, from 0.
+    pub fn index(self) -> usize
+        ensures { (result ≡ index_of self) × (result < 4) }
+    {
+        self as usize
     }
-    if e == 1 {
-        return 4;
+
+    // The part at a place.
+    pub fn at(index: usize) -> Option<Part>
+        ensures { result ≡ slice_get PARTS index }
+    {
+        PARTS.get(index).copied()
     }
-    if e == 2 {
-        return 2;
+
+    // The bytes of one record.
+    fn record_size(self) -> usize
+        ensures { (result ≡ size_of (index_of self)) × (result ≤ 4) }
+    {
+        match self {
+            Part::Tasks | Part::Uses => u16::SIZE,
+            Part::Locks | Part::Events => u32::SIZE,
+        }
     }
-    4
 }
 
-// The bytes of entry e's records.
-fn body_size(b: &[u8], e: usize) -> usize
-    requires { (contents ≤ length b.now) × (e < 4) }
-    ensures { (result ≡ count_at b.now e * size_of e) × (result < 262144) }
+pub fn kind_at(b: &[u8], part: Part) -> usize
+    requires { contents ≤ length b.now }
+    ensures { result ≡ kind_at b.now (index_of part) }
 {
-    count_at(b, e) * size_of(e)
+    u16::read(b, part.index() * 8) as usize
 }
 
-// Where the body of entry e starts, by the counts before it; for 4, where the last one ends.
-pub fn body_at(b: &[u8], e: usize) -> usize
-    requires { (contents ≤ length b.now) × (e ≤ 4) }
-    ensures { result ≡ body_at b.now e }
+pub fn count_at(b: &[u8], part: Part) -> usize
+    requires { contents ≤ length b.now }
+    ensures { (result ≡ count_at b.now (index_of part)) × (result < 65536) }
+{
+    u16::read(b, part.index() * 8 + 2) as usize
+}
+
+pub fn offset_at(b: &[u8], part: Part) -> usize
+    requires { contents ≤ length b.now }
+    ensures { result ≡ offset_at b.now (index_of part) }
+{
+    u32::read(b, part.index() * 8 + 4) as usize
+}
+
+// The bytes of a part's records.
+fn body_size(b: &[u8], part: Part) -> usize
+    requires { contents ≤ length b.now }
+    ensures { (result ≡ count_at b.now (index_of part) * size_of (index_of part)) × (result < 262144) }
+{
+    count_at(b, part) * part.record_size()
+}
+
+// Where the first n bodies end, by their counts.
+fn end_of(b: &[u8], n: usize) -> usize
+    requires { (contents ≤ length b.now) × (n ≤ 4) }
+    ensures { result ≡ body_at b.now n }
 {
     let mut place = CONTENTS;
-    let mut i: usize = 0;
-    while i < e {
-        place += body_size(b, i);
-        i += 1;
+    for &part in &PARTS[..n] {
+        place += body_size(b, part);
     }
     place
+}
+
+// Where the body of a part starts, by the counts before it.
+pub fn body_at(b: &[u8], part: Part) -> usize
+    requires { contents ≤ length b.now }
+    ensures { result ≡ body_at b.now (index_of part) }
+{
+    end_of(b, part.index())
+}
+
+// Where the last body ends.
+pub fn bodies_end(b: &[u8]) -> usize
+    requires { contents ≤ length b.now }
+    ensures { result ≡ body_at b.now 4 }
+{
+    end_of(b, 4)
 }

@@ -2,83 +2,83 @@
 ghost use Rattle.std.specs.Prelude.{◌≡◌, ◌++◌, ◌+◌, ◌*◌, ◌≤◌, ◌<◌, length, drop};
 ghost use Rattle.rules.specs.Numbers.Place.{stored};
 ghost use Rattle.rules.specs.Books.Book.{contents};
-ghost use Rattle.rules.specs.Books.Bytes.{word_bytes, long_bytes, entry_of, book_of};
+ghost use Rattle.rules.specs.Books.Bytes.{entry_of, book_of};
+ghost use Rattle.rules.specs.Books.Write.{counts_of};
+ghost use Rattle.book.specs.Part.{index_of};
 ghost use Rattle.book.specs.Room.{Room, PartRoom, with_part};
 
-use crate::entry::CONTENTS;
-use crate::number::{put_long, put_word};
+use crate::entry::{CONTENTS, Part};
+use crate::number::Field;
 
-// A body of records of two bytes; the answer is the place after it.
-fn put_words(out: &mut [u8], from: usize, words: &[u16]) -> usize
-    requires { from + length words.now * 2 ≤ length out.old }
-    ensures value { result ≡ from + length (word_bytes words.now) }
-    ensures out_after { out.new ≡ stored out.old from (word_bytes words.now) }
-{
-    let n = words.len();
-    let mut i: usize = 0;
-    while i < n {
-        put_word(out, from + i * 2, words[i]);
-        i += 1;
-    }
-    from + n * 2
+// The records of a book as numbers, low byte first: a task's two bytes, a lock's four, a use's two, an event's four.
+#[derive(Clone, Copy)]
+pub struct Records<'a> {
+    pub tasks: &'a [u16],
+    pub locks: &'a [u32],
+    pub uses: &'a [u16],
+    pub events: &'a [u32],
 }
 
-// One of records of four bytes.
-fn put_longs(out: &mut [u8], from: usize, longs: &[u32]) -> usize
-    requires { from + length longs.now * 4 ≤ length out.old }
-    ensures value { result ≡ from + length (long_bytes longs.now) }
-    ensures out_after { out.new ≡ stored out.old from (long_bytes longs.now) }
-{
-    let n = longs.len();
-    let mut i: usize = 0;
-    while i < n {
-        put_long(out, from + i * 4, longs[i]);
-        i += 1;
+impl Records<'_> {
+    // How many a part has.
+    pub fn count(&self, part: Part) -> usize
+        ensures { result ≡ counts_of self.now.tasks.now self.now.locks.now self.now.uses.now self.now.events.now (index_of part) }
+    {
+        match part {
+            Part::Tasks => self.tasks.len(),
+            Part::Locks => self.locks.len(),
+            Part::Uses => self.uses.len(),
+            Part::Events => self.events.len(),
+        }
     }
-    from + n * 4
 }
 
-// Entry e of the contents.
-fn put_entry(out: &mut [u8], e: usize, count: usize, offset: usize)
-    requires { (contents ≤ length out.old) × (e < 4) × (count < 65536) × (offset < 4294967296) }
-    ensures { out.new ≡ stored out.old (e * 8) (entry_of (e + 1) count offset) }
+// A body of records from a place on; the answer is the place after it.
+fn put_body<F: Field>(out: &mut [u8], from: usize, records: &[F]) -> usize
+    requires { from + length (F.body_of records.now) ≤ length out.old }
+    ensures value { result ≡ from + length (F.body_of records.now) }
+    ensures out_after { out.new ≡ stored out.old from (F.body_of records.now) }
 {
+    let mut place = from;
+    for &record in records {
+        record.write(out, place);
+        place += F::SIZE;
+    }
+    place
+}
+
+// A part's entry in the contents.
+fn put_entry(out: &mut [u8], part: Part, count: usize, offset: usize)
+    requires { (contents ≤ length out.old) × (count < 65536) × (offset < 4294967296) }
+    ensures { out.new ≡ stored out.old (index_of part * 8) (entry_of (index_of part + 1) count offset) }
+{
+    let e = part.index();
     let i = e * 8;
-    put_word(out, i, (e + 1) as u16);
-    put_word(out, i + 2, count as u16);
-    put_long(out, i + 4, offset as u32);
+    ((e + 1) as u16).write(out, i);
+    (count as u16).write(out, i + 2);
+    (offset as u32).write(out, i + 4);
 }
 
-// A body from a place on, and its entry; the answer is the place after the body.
-fn put_word_part(out: &mut [u8], e: usize, from: usize, words: &[u16]) -> usize
-    requires { PartRoom out.old e from (length words.now) 2 }
-    ensures value { result ≡ from + length (word_bytes words.now) }
-    ensures out_after { out.new ≡ with_part out.old e from (length words.now) (word_bytes words.now) }
+// A part's body from a place on, and its entry; the answer is the place after the body.
+fn put_part<F: Field>(out: &mut [u8], part: Part, from: usize, records: &[F]) -> usize
+    requires { PartRoom out.old from (length records.now) (F.body_of records.now) }
+    ensures value { result ≡ from + length (F.body_of records.now) }
+    ensures out_after { out.new ≡ with_part out.old (index_of part) from (length records.now) (F.body_of records.now) }
 {
-    let next = put_words(out, from, words);
-    put_entry(out, e, words.len(), from);
-    next
-}
-
-fn put_long_part(out: &mut [u8], e: usize, from: usize, longs: &[u32]) -> usize
-    requires { PartRoom out.old e from (length longs.now) 4 }
-    ensures value { result ≡ from + length (long_bytes longs.now) }
-    ensures out_after { out.new ≡ with_part out.old e from (length longs.now) (long_bytes longs.now) }
-{
-    let next = put_longs(out, from, longs);
-    put_entry(out, e, longs.len(), from);
+    let next = put_body(out, from, records);
+    put_entry(out, part, records.len(), from);
     next
 }
 
 // The four parts, each body where the one before it ends. The answer is the book's length.
-pub fn lay(tasks: &[u16], locks: &[u32], uses: &[u16], events: &[u32], out: &mut [u8]) -> usize
-    requires { Room tasks.now locks.now uses.now events.now out.old }
-    ensures value { result ≡ length (book_of tasks.now locks.now uses.now events.now) }
-    ensures out_after { out.new ≡ book_of tasks.now locks.now uses.now events.now
+pub fn lay(records: &Records, out: &mut [u8]) -> usize
+    requires { Room records.now.tasks.now records.now.locks.now records.now.uses.now records.now.events.now out.old }
+    ensures value { result ≡ length (book_of records.now.tasks.now records.now.locks.now records.now.uses.now records.now.events.now) }
+    ensures out_after { out.new ≡ book_of records.now.tasks.now records.now.locks.now records.now.uses.now records.now.events.now
         ++ drop result out.old }
 {
-    let locks_at = put_word_part(out, 0, CONTENTS, tasks);
-    let uses_at = put_long_part(out, 1, locks_at, locks);
-    let events_at = put_word_part(out, 2, uses_at, uses);
-    put_long_part(out, 3, events_at, events)
+    let locks_at = put_part(out, Part::Tasks, CONTENTS, records.tasks);
+    let uses_at = put_part(out, Part::Locks, locks_at, records.locks);
+    let events_at = put_part(out, Part::Uses, uses_at, records.uses);
+    put_part(out, Part::Events, events_at, records.events)
 }

@@ -24,8 +24,7 @@ use rules::answer::{Checked, Fault};
 pub fn check(b: &[u8], room: usize) -> Checked
     ensures { result ≡ checked_of b.now room }
 {
-    let laid = contents::first_fault(b);
-    match laid {
+    match contents::first_fault(b) {
         Err(Fault { why, place }) => events::refused(why, place),
         Ok(()) => bodies::check(b, room),
     }

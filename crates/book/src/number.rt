@@ -1,43 +1,92 @@
-// Little-endian numbers of two and of four bytes, read and written.
-ghost use Rattle.std.specs.Prelude.{◌≡◌, ◌+◌, ◌<◌, length};
+// Numbers as a book holds them, low byte first: a u16 in two bytes, a u32 in four.
+ghost use Rattle.std.specs.Prelude.{◌≡◌, ◌+◌, ◌≤◌, ℕ, List, [], ◌∷◌, ◌++◌, length};
+ghost use Rattle.std.proofs.Common.{rules};
 ghost use Rattle.rules.specs.Numbers.Place.{stored};
 ghost use Rattle.rules.specs.Books.Book.{word, long};
-ghost use Rattle.rules.specs.Books.Bytes.{two, four};
+ghost use Rattle.rules.specs.Books.Bytes.{two, four, word_bytes, long_bytes};
+ghost use Rattle.book.specs.Field.{size_of_two, size_of_four, word_bytes_none, word_bytes_more, long_bytes_none, long_bytes_more};
 
-use figures::number::wide_byte;
+pub trait Field: Copy {
+    ghost SIZE: { ℕ };
 
-pub fn word_at(b: &[u8], i: usize) -> u16
-    requires { i + 1 < length b.now }
-    ensures { result ≡ word b.now i }
-{
-    let low = wide_byte(b[i]);
-    let high = wide_byte(b[i + 1]);
-    low + high * 256
+    // The number at a place, the bytes of one, and those of a body of them.
+    ghost number_at: { List ℕ → ℕ → Self };
+
+    ghost bytes_of: { Self → List ℕ };
+
+    ghost body_of: { List Self → List ℕ };
+
+    const SIZE: usize;
+
+    fn read(b: &[u8], i: usize) -> Self
+        requires { i + SIZE ≤ length b.now }
+        ensures { result ≡ number_at b.now i };
+
+    fn write(self, out: &mut [u8], i: usize)
+        requires { i + SIZE ≤ length out.old }
+        ensures { out.new ≡ stored out.old i (bytes_of self) };
+
+    ghost some: { 1 ≤ SIZE };
+
+    ghost size: { (x : Self) → length (bytes_of x) ≡ SIZE };
+
+    ghost none: { body_of [] ≡ [] };
+
+    ghost more: { (x : Self) (xs : List Self) → body_of (x ∷ xs) ≡ bytes_of x ++ body_of xs };
 }
 
-pub fn long_at(b: &[u8], i: usize) -> u32
-    requires { i + 3 < length b.now }
-    ensures { result ≡ long b.now i }
-{
-    let low = word_at(b, i) as u32;
-    let high = word_at(b, i + 2) as u32;
-    low + high * 65536
+impl Field for u16 {
+    ghost SIZE = { 2 };
+
+    ghost number_at = { word };
+
+    ghost bytes_of = { two };
+
+    ghost body_of = { word_bytes };
+
+    const SIZE: usize = 2;
+
+    fn read(b: &[u8], i: usize) -> u16 {
+        u16::from_le_bytes([b[i], b[i + 1]])
+    }
+
+    fn write(self, out: &mut [u8], i: usize) {
+        [out[i], out[i + 1]] = self.to_le_bytes();
+    }
+
+    ghost some = { Prim.search rules };
+
+    ghost size = { size_of_two };
+
+    ghost none = { word_bytes_none };
+
+    ghost more = { word_bytes_more };
 }
 
-pub fn put_word(out: &mut [u8], i: usize, w: u16)
-    requires { i + 1 < length out.old }
-    ensures { out.new ≡ stored out.old i (two w) }
-{
-    out[i] = (w % 256) as u8;
-    out[i + 1] = (w / 256) as u8;
-}
+impl Field for u32 {
+    ghost SIZE = { 4 };
 
-pub fn put_long(out: &mut [u8], i: usize, w: u32)
-    requires { i + 3 < length out.old }
-    ensures { out.new ≡ stored out.old i (four w) }
-{
-    out[i] = (w % 256) as u8;
-    out[i + 1] = (w / 256 % 256) as u8;
-    out[i + 2] = (w / 65536 % 256) as u8;
-    out[i + 3] = (w / 16777216) as u8;
+    ghost number_at = { long };
+
+    ghost bytes_of = { four };
+
+    ghost body_of = { long_bytes };
+
+    const SIZE: usize = 4;
+
+    fn read(b: &[u8], i: usize) -> u32 {
+        u32::from_le_bytes([b[i], b[i + 1], b[i + 2], b[i + 3]])
+    }
+
+    fn write(self, out: &mut [u8], i: usize) {
+        [out[i], out[i + 1], out[i + 2], out[i + 3]] = self.to_le_bytes();
+    }
+
+    ghost some = { Prim.search rules };
+
+    ghost size = { size_of_four };
+
+    ghost none = { long_bytes_none };
+
+    ghost more = { long_bytes_more };
 }

@@ -24,10 +24,7 @@ pub fn next<'a>(r: Reader<'a>) -> Found
 pub fn moved<'a>(r: Reader<'a>, place: usize) -> Reader<'a>
     ensures { result ≡ reader_at r.entry place }
 {
-    Reader {
-        body: r.body,
-        place,
-    }
+    Reader { place, ..r }
 }
 
 // The same as `next`, with plain parameters, for every other caller.
@@ -41,8 +38,8 @@ pub fn read(body: &[u8], place: usize) -> Found
 pub fn read_in(book: &[u8], events: usize, k: usize) -> Found
     ensures { result ≡ found_at (drop events book.now) k }
 {
-    if events < book.len() {
-        return read(&book[events..], k);
+    match book.get(events..) {
+        Some(body) => read(body, k),
+        None => Found::End,
     }
-    Found::End
 }

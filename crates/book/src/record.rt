@@ -1,6 +1,6 @@
 // An event's record: kind, id, amount.
 ghost use Rattle.std.specs.Prelude.{◌≡◌};
-ghost use Rattle.rules.specs.Books.Event.{event_fault, event_of, number_fault, number_event};
+ghost use Rattle.rules.specs.Books.Event.{event_fault, event_of, record_kind, record_id, record_amount, number_fault, number_event};
 
 use rules::event::Event;
 
@@ -20,33 +20,35 @@ pub fn event_fault(kind: u8, id: u8, amount: u16) -> bool
 pub fn event_of(kind: u8, id: u8, amount: u16) -> Event
     ensures { result ≡ event_of kind id amount }
 {
-    if kind == 1 {
-        return Event::Release(id);
+    match kind {
+        1 => Event::Release(id),
+        2 => Event::Acquire(id),
+        3 => Event::Unlock(id),
+        4 => Event::Work(amount),
+        5 => Event::Finish,
+        _ => Event::Tick,
     }
-    if kind == 2 {
-        return Event::Acquire(id);
-    }
-    if kind == 3 {
-        return Event::Unlock(id);
-    }
-    if kind == 4 {
-        return Event::Work(amount);
-    }
-    if kind == 5 {
-        return Event::Finish;
-    }
-    Event::Tick
 }
 
-// The same of a record as one number, low byte first.
+// Kind, id and amount of a record as one number, low byte first.
+fn parts(w: u32) -> (u8, u8, u16)
+    ensures { (result.0 ≡ record_kind w) × (result.1 ≡ record_id w) × (result.2 ≡ record_amount w) }
+{
+    let [kind, id, low, high] = w.to_le_bytes();
+    (kind, id, u16::from_le_bytes([low, high]))
+}
+
+// The same of such a number.
 pub fn number_fault(w: u32) -> bool
     ensures { result ≡ number_fault w }
 {
-    event_fault((w % 256) as u8, (w / 256 % 256) as u8, (w / 65536) as u16)
+    let (kind, id, amount) = parts(w);
+    event_fault(kind, id, amount)
 }
 
 pub fn number_event(w: u32) -> Event
     ensures { result ≡ number_event w }
 {
-    event_of((w % 256) as u8, (w / 256 % 256) as u8, (w / 65536) as u16)
+    let (kind, id, amount) = parts(w);
+    event_of(kind, id, amount)
 }

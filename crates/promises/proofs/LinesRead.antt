@@ -1,5 +1,4 @@
 -- What the reader of a text makes of a line that is shown. Assumes nothing.
-use Rattle.std.specs.Prelude.{if◌then◌else◌}
 use mathlib.Core.Path.{◌≡◌, refl, sym, ◌∙◌, ap}
 use mathlib.Core.Bool.{Bool, true, false, not, ◌&&◌}
 use mathlib.Core.List.{List, [], ◌∷◌, ◌++◌, map, append_assoc}
@@ -18,8 +17,7 @@ use Rattle.texts.specs.Number.{number_of, value_of, digital}
 use Rattle.texts.specs.Line.{without_return, content_of, word_length, field_of, field_length, after_field, plain_line, ended, with_second, with_first, named_line, words_line, line_of}
 use Rattle.texts.specs.Lines.{longer, lines_of, read_lines}
 use Rattle.texts.specs.declared.kind.Kind.{Kind}
-use Rattle.texts.specs.declared.kind.Named.{Named}
-use Rattle.texts.specs.declared.number.Number.{Number}
+use Rattle.std.specs.Prelude.{Some, Ok, if◌then◌else◌}
 use Rattle.texts.specs.declared.line.Line.{Line}
 use Rattle.promises.proofs.Digits.{all, all_append, all_cons, until_there, until_now, digits_some, digits_all, digit_not, digits_digital, digits_value}
 
@@ -164,13 +162,13 @@ module _ (name xs y : List ℕ) where
 
 -- ---- its numbers
 
-number_read : (most v : ℕ) → v ≤ most → v < 65536 → number_of most (digits v) ≡ Number.Value v
+number_read : (most v : ℕ) → v ≤ most → v < 65536 → number_of most (digits v) ≡ Ok v
 unfolding number_of
 number_read most v l s =
     if_false (eqb (length (digits v)) 0) _ _ (ne_eqb (length (digits v)) 0 (λ e. omega (arith, e, digits_some v)))
     ∙ if_true (digital (digits v)) _ _ (digits_digital v)
     ∙ if_false (ltb most (value_of 0 (digits v))) _ _ (le-ltb most (value_of 0 (digits v)) (omega (arith, digits_value v s)))
-    ∙ ap Number.Value (digits_value v s)
+    ∙ ap Ok (digits_value v s)
 
 module _ (kind : Kind) (w v : ℕ) (more : List ℕ) (has : w < fields_of kind) (l : v ≤ most_of kind w) (s : v < 65536) (t : spaces_of more ≡ 0) where
   abbrev bytes : List ℕ
@@ -180,7 +178,7 @@ module _ (kind : Kind) (w v : ℕ) (more : List ℕ) (has : w < fields_of kind) 
   unfolding up_to
   ends = until_there (λ c. eqb c space) (digits v) space more (digits_solid v) refl
 
-  pub field_read : field_of kind w bytes ≡ Number.Value v
+  pub field_read : field_of kind w bytes ≡ Ok v
   unfolding field_of
   field_read = if_true (ltb w (fields_of kind)) _ _ (lt-ltb w (fields_of kind) has)
       ∙ ap (number_of (most_of kind w)) (ap (λ k. take k bytes) ends ∙ take-append_seam (digits v) (space ∷ more)) ∙ number_read (most_of kind w) v l s
@@ -198,7 +196,7 @@ module _ (kind : Kind) (w v : ℕ) (more : List ℕ) (has : w < fields_of kind) 
 
 -- a record that has no such number
 module _ (kind : Kind) (w : ℕ) (more : List ℕ) (not_so : fields_of kind ≤ w) where
-  no_field : field_of kind w more ≡ Number.Value 0
+  no_field : field_of kind w more ≡ Ok 0
   unfolding field_of
   no_field = if_false (ltb w (fields_of kind)) _ _ (le-ltb w (fields_of kind) not_so)
 
@@ -212,7 +210,7 @@ unfolding ended plain_line
 nothing_more kind a b z = if_false (has_items kind) _ _ z
 
 pub two_read : (kind : Kind) (a b : ℕ) → has_items kind ≡ false → fields_of kind ≡ 2 → a ≤ most_of kind 0 → b ≤ most_of kind 1 → a < 65536 → b < 65536
-    → named_line (Named.Is kind) (digits a ++ space ∷ (digits b ++ space ∷ [])) ≡ Line.Record (part_of kind) (record_of kind a b)
+    → named_line (Some kind) (digits a ++ space ∷ (digits b ++ space ∷ [])) ≡ Line.Record (part_of kind) (record_of kind a b)
 unfolding named_line with_first with_second
 two_read kind a b z e ha hb sa sb =
     let more : List ℕ = digits b ++ space ∷ [] in
@@ -222,7 +220,7 @@ two_read kind a b z e ha hb sa sb =
     ∙ ap (ended kind a b) (field_after kind 1 b [] (omega (arith, e)) hb sb nothing_trim) ∙ nothing_more kind a b z
 
 pub one_read : (kind : Kind) (a : ℕ) → has_items kind ≡ false → fields_of kind ≡ 1 → a ≤ most_of kind 0 → a < 65536
-    → named_line (Named.Is kind) (digits a ++ space ∷ []) ≡ Line.Record (part_of kind) (record_of kind a 0)
+    → named_line (Some kind) (digits a ++ space ∷ []) ≡ Line.Record (part_of kind) (record_of kind a 0)
 unfolding named_line with_first with_second
 one_read kind a z e ha sa =
     ap (λ n. with_first kind n (after_field kind 0 (digits a ++ space ∷ []))) (field_read kind 0 a [] (omega (arith, e)) ha sa nothing_trim)
@@ -230,7 +228,7 @@ one_read kind a z e ha sa =
     ∙ ap (λ n. with_second kind a n (after_field kind 1 [])) (no_field kind 1 [] (omega (arith, e)))
     ∙ ap (ended kind a 0) (no_after kind 1 [] (omega (arith, e))) ∙ nothing_more kind a 0 z
 
-pub none_read : (kind : Kind) → has_items kind ≡ false → fields_of kind ≡ 0 → named_line (Named.Is kind) [] ≡ Line.Record (part_of kind) (record_of kind 0 0)
+pub none_read : (kind : Kind) → has_items kind ≡ false → fields_of kind ≡ 0 → named_line (Some kind) [] ≡ Line.Record (part_of kind) (record_of kind 0 0)
 unfolding named_line with_first with_second
 none_read kind z e =
     ap (λ n. with_first kind n (after_field kind 0 [])) (no_field kind 0 [] (omega (arith, e)))

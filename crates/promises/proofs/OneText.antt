@@ -5,13 +5,14 @@ use mathlib.Core.Bool.{Bool}
 use mathlib.Core.List.{List}
 use Prim.Native.Nat.{ℕ}
 use contract.Lifetimes.{Lfts}
+use Rattle.std.specs.Prelude.{Option, Result}
 use Rattle.rules.specs.declared.event.Event.{Event}
 use Rattle.page.specs.Page.{Page, page}
 use Rattle.book.specs.declared.look.Entry.{Entry}
 use Rattle.jobs.specs.Job.{ReadInto, read_with}
 use Rattle.jobs.specs.declared.Job.{Job}
-use Rattle.texts.specs.declared.kind.Named.{Named}
-use Rattle.texts.specs.declared.number.Number.{Number}
+use Rattle.texts.specs.declared.kind.Kind.{Kind}
+use Rattle.texts.specs.declared.number.Mistake.{Mistake}
 use Rattle.texts.specs.declared.line.Line.{Line}
 use Rattle.texts.specs.declared.lines.First.{First}
 use Rattle.office.specs.Answered.{Answered, answered}
@@ -128,7 +129,7 @@ one_without_spaces κs a b c r q h k = h.0 ∙ sym k.0
 pub one_same : (κs : Lfts 2) (a : _) (b c : _) (r q : Bool) → same.Post κs a r b → same.Post κs a q c → r ≡ q
 one_same κs a b c r q h k = h ∙ sym k
 
-pub one_kind_named : (κs : Lfts 1) (a : _) (b c : _) (r q : Named) → kind-named.Post κs a r b → kind-named.Post κs a q c → r ≡ q
+pub one_kind_named : (κs : Lfts 1) (a : _) (b c : _) (r q : Option Kind) → kind-named.Post κs a r b → kind-named.Post κs a q c → r ≡ q
 one_kind_named κs a b c r q h k = h ∙ sym k
 
 pub one_fields : (a : _) (b c : _) (r q : ℕ) → fields.Post tt a r b → fields.Post tt a q c → r ≡ q
@@ -143,7 +144,7 @@ one_part a b c r q h k = h ∙ sym k
 pub one_has_items : (a : _) (b c : _) (r q : Bool) → has-items.Post tt a r b → has-items.Post tt a q c → r ≡ q
 one_has_items a b c r q h k = h ∙ sym k
 
-pub one_read_number : (κs : Lfts 1) (a : _) (b c : _) (r q : Number) → read_number.Post κs a r b → read_number.Post κs a q c → r ≡ q
+pub one_read_number : (κs : Lfts 1) (a : _) (b c : _) (r q : Result ℕ Mistake) → read_number.Post κs a r b → read_number.Post κs a q c → r ≡ q
 one_read_number κs a b c r q h k = h ∙ sym k
 
 pub one_line_of : (κs : Lfts 1) (a : _) (b c : _) (r q : Line) → Line-of.Post κs a r b → Line-of.Post κs a q c → r ≡ q

@@ -1,6 +1,4 @@
 -- Each line that is shown reads as the record that it shows, or as nothing. Assumes nothing.
-use Rattle.std.specs.Prelude.{Ok, Err, if◌then◌else◌}
-use Rattle.rules.specs.Numbers.Verdict.{Verdict}
 use mathlib.Core.Path.{◌≡◌, refl, sym, ◌∙◌, ap}
 use mathlib.Core.Bool.{Bool, true, false, not, ◌&&◌}
 use mathlib.Core.List.{List, [], ◌∷◌, ◌++◌, append_assoc, append-nil}
@@ -10,6 +8,7 @@ use lib.Dec.{eqb, leb, ltb}
 use lib.ListN.{length, drop}
 use borrow.Author.Tests.{eqb-true, not-false, ne_eqb, lt-leb}
 use Rattle.rules.specs.Numbers.Capacity.{nobody, max_tasks, max_locks, max_uses, max_events, max_accepted, max_takes}
+use Rattle.rules.specs.Numbers.Verdict.{Verdict}
 use Rattle.rules.specs.Numbers.Place.{at}
 use Rattle.rules.specs.Numbers.Refusal.{number_of}
 use Rattle.rules.specs.Books.Event.{kind_of, id_of, amount_of, event_fault, event_of, record_kind, record_id, record_amount, number_fault, number_event, event_number}
@@ -25,7 +24,7 @@ use Rattle.texts.specs.Kind.{event_named, kind_named, fields_of, most_of, part_o
 use Rattle.texts.specs.Line.{named_line}
 use Rattle.texts.specs.Lines.{read_lines}
 use Rattle.texts.specs.declared.kind.Kind.{Kind}
-use Rattle.texts.specs.declared.kind.Named.{Named}
+use Rattle.std.specs.Prelude.{Some, Ok, Err, if◌then◌else◌}
 use Rattle.texts.specs.declared.line.Line.{Line}
 use Rattle.wording.specs.Meaning.{meaning_of}
 use Rattle.wording.specs.Records.{task_line, lock_line, use_line, event_words, event_line, ran_comment, refused_comment, unreached}
@@ -114,7 +113,7 @@ reads_comment t E rest =
 
 -- a name that a record has, which is no job
 pub record Name (name : List ℕ) (kind : Kind) : Type 0 where
-  pub is : kind_named name ≡ Named.Is kind
+  pub is : kind_named name ≡ Some kind
   pub some : 0 < length name
   pub still : all quiet name ≡ true
   pub bares : all bare name ≡ true
@@ -123,7 +122,7 @@ pub record Name (name : List ℕ) (kind : Kind) : Type 0 where
 
 module _ (name : List ℕ) (kind : Kind) (N : Name name kind) (t : List ℕ) (E : Ends t) where
   -- a line with the bytes xs between its name and its comment
-  shaped : (xs : List ℕ) (l : Line) → all quiet xs ≡ true → all bare xs ≡ true → spaces_of xs ≡ 0 → named_line (Named.Is kind) xs ≡ l
+  shaped : (xs : List ℕ) (l : Line) → all quiet xs ≡ true → all bare xs ≡ true → spaces_of xs ≡ 0 → named_line (Some kind) xs ≡ l
       → Reads ((name ++ space ∷ (xs ++ hash ∷ E.front)) ++ newline ∷ []) (l ∷ [])
   shaped xs l q b s e rest =
       let whole : all quiet (name ++ space ∷ (xs ++ hash ∷ E.front)) ≡ true = all_append quiet name (space ∷ (xs ++ hash ∷ E.front)) N.still

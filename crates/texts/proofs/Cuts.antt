@@ -1,130 +1,22 @@
--- Laws of bytes that are cut, and of two words that are compared, as loops go along. Assumes nothing.
-use Rattle.std.specs.Prelude.{if◌then◌else◌}
+-- Laws of bytes that are cut, and of two words that are compared, as std's iterators count them. Assumes nothing.
 use mathlib.Core.Path.{◌≡◌, refl, sym, ◌∙◌, ap}
-use mathlib.Core.Bool.{Bool, true, false, not, ◌&&◌}
-use mathlib.Core.List.{List, [], ◌∷◌, ◌++◌}
+use mathlib.Core.Bool.{Bool, true, false, not, cond, ◌&&◌}
+use mathlib.Core.List.{List, [], ◌∷◌}
 use Prim.Native.Nat.{ℕ, zero, suc, ◌+◌, ◌-◌, ◌≤◌, ◌<◌}
-use native.Mathlib.Numerals.{add-one}
 use native.Mathlib.Omega.{arith}
-use lib.Dec.{eqb}
-use lib.ListN.{length, take, drop, length-drop, drop_of_length-le}
-use lib.Seq.{drop-cons, take_all, length-take-le}
-use borrow.Author.Tests.{eq-eqb, ne_eqb}
+use lib.Dec.{eqb, ltb}
+use lib.ListN.{length, take, drop, length-drop}
+use lib.Seq.{take_all}
+use borrow.Author.Tests.{eqb-true, eqb-false, ltb-false}
+use Rattle.std.specs.Option.{unwrap_or}
+use Rattle.std.specs.Prelude.{Some, None, reverse, if◌then◌else◌}
+use Rattle.std.specs.List.{position, position_or_len, prefix_len, suffix_len, take_while}
+use Rattle.std.proofs.lemmas.List.Folds.{length-prefix_len}
+use Rattle.std.proofs.lemmas.List.Sums.{prefix_len-le-length, suffix_len_is}
+use Rattle.std.specs.Str.{bytes_eq}
 use Rattle.rules.specs.Numbers.Place.{at}
-use Rattle.rules.proofs.Numbers.Choice.{if_true, if_false}
+use Rattle.rules.proofs.Numbers.Choice.{if_true, if_false, by_test}
 use Rattle.texts.specs.Cut.{space, until, up_to, spaces_of, without_spaces, same}
-
--- ---- the bytes before the first for which a test holds
-
-until_stop : (stop : ℕ → Bool) (bytes : List ℕ) (i : ℕ) → i < length bytes → stop (at bytes i) ≡ true → until stop (drop i bytes) ≡ 0
-unfolding until
-until_stop stop bytes i l e = ap (until stop) (drop-cons bytes i 0 l) ∙ if_true (stop (at bytes i)) _ _ e
-
-until_more : (stop : ℕ → Bool) (bytes : List ℕ) (i : ℕ) → i < length bytes → stop (at bytes i) ≡ false
-    → until stop (drop i bytes) ≡ suc (until stop (drop (suc i) bytes))
-unfolding until
-until_more stop bytes i l e = ap (until stop) (drop-cons bytes i 0 l) ∙ if_false (stop (at bytes i)) _ _ e
-
-until_end : (stop : ℕ → Bool) (bytes : List ℕ) (i : ℕ) → length bytes ≤ i → until stop (drop i bytes) ≡ 0
-unfolding until
-until_end stop bytes i l = ap (until stop) (drop_of_length-le bytes l)
-
--- no more than there are
-pub until_within : (stop : ℕ → Bool) (bytes : List ℕ) → until stop bytes ≤ length bytes
-unfolding until
-until_within stop [] = omega arith
-until_within stop (c ∷ cs) = go (stop c) (until_within stop cs)
-  where
-    go : (t : Bool) → until stop cs ≤ length cs → (if t then 0 else suc (until stop cs)) ≤ length (c ∷ cs)
-    go true h = omega arith
-    go false h = omega (arith, h)
-
--- a loop that has come to place i
-abbrev pub SoFar : (List ℕ → ℕ) → List ℕ → ℕ → Type 0
-SoFar f bytes i = (i ≤ length bytes) × (f bytes ≡ i + f (drop i bytes))
-
-pub so_start : (f : List ℕ → ℕ) (bytes : List ℕ) → SoFar f bytes 0
-so_start f bytes = (omega arith, omega arith)
-
-so_next : (stop : ℕ → Bool) (bytes : List ℕ) (i : ℕ) → until stop bytes ≡ i + until stop (drop i bytes) → i < length bytes → stop (at bytes i) ≡ false
-    → until stop bytes ≡ (i + 1) + until stop (drop (i + 1) bytes)
-so_next stop bytes i e l f = rw (add-one i) (omega (arith, e, until_more stop bytes i l f))
-
-so_found : (stop : ℕ → Bool) (bytes : List ℕ) (i : ℕ) → until stop bytes ≡ i + until stop (drop i bytes) → i < length bytes → stop (at bytes i) ≡ true
-    → i ≡ until stop bytes
-so_found stop bytes i e l f = omega (arith, e, until_stop stop bytes i l f)
-
-so_ends : (stop : ℕ → Bool) (bytes : List ℕ) (i : ℕ) → until stop bytes ≡ i + until stop (drop i bytes) → i ≤ length bytes → length bytes ≤ i
-    → length bytes ≡ until stop bytes
-so_ends stop bytes i e h l = omega (arith, e, until_end stop bytes i l)
-
--- as the two loops of the code have it
-pub find_next : (x : ℕ) (bytes : List ℕ) (i : ℕ) → up_to x bytes ≡ i + up_to x (drop i bytes) → i < length bytes → (at bytes i ≡ x → ⊥)
-    → up_to x bytes ≡ (i + 1) + up_to x (drop (i + 1) bytes)
-unfolding up_to
-find_next x bytes i h l n = so_next (λ c. eqb c x) bytes i h l (ne_eqb (at bytes i) x n)
-
-pub find_found : (x : ℕ) (bytes : List ℕ) (i : ℕ) → up_to x bytes ≡ i + up_to x (drop i bytes) → i < length bytes → at bytes i ≡ x → i ≡ up_to x bytes
-unfolding up_to
-find_found x bytes i h l e = so_found (λ c. eqb c x) bytes i h l (eq-eqb (at bytes i) x e)
-
-pub find_ends : (x : ℕ) (bytes : List ℕ) (i : ℕ) → up_to x bytes ≡ i + up_to x (drop i bytes) → i ≤ length bytes → length bytes ≤ i → length bytes ≡ up_to x bytes
-unfolding up_to
-find_ends x bytes i h m l = so_ends (λ c. eqb c x) bytes i h m l
-
-pub spaces_next : (bytes : List ℕ) (i : ℕ) → spaces_of bytes ≡ i + spaces_of (drop i bytes) → i < length bytes → at bytes i ≡ space
-    → spaces_of bytes ≡ (i + 1) + spaces_of (drop (i + 1) bytes)
-unfolding spaces_of
-spaces_next bytes i h l e = so_next (λ c. not (eqb c space)) bytes i h l (ap not (eq-eqb (at bytes i) space e))
-
-pub spaces_found : (bytes : List ℕ) (i : ℕ) → spaces_of bytes ≡ i + spaces_of (drop i bytes) → i < length bytes → (at bytes i ≡ space → ⊥) → i ≡ spaces_of bytes
-unfolding spaces_of
-spaces_found bytes i h l n = so_found (λ c. not (eqb c space)) bytes i h l (ap not (ne_eqb (at bytes i) space n))
-
-pub spaces_ends : (bytes : List ℕ) (i : ℕ) → spaces_of bytes ≡ i + spaces_of (drop i bytes) → i ≤ length bytes → length bytes ≤ i → length bytes ≡ spaces_of bytes
-unfolding spaces_of
-spaces_ends bytes i h m l = so_ends (λ c. not (eqb c space)) bytes i h m l
-
--- ---- the bytes before the spaces at the end
-
-bare_space : (xs : List ℕ) → without_spaces (xs ++ space ∷ []) ≡ without_spaces xs
-unfolding without_spaces
-bare_space [] = refl
-bare_space (x ∷ xs) = ap (λ n. if eqb n 0 then (if eqb x space then 0 else 1) else suc n) (bare_space xs)
-
-bare_other : (xs : List ℕ) (c : ℕ) → (c ≡ space → ⊥) → without_spaces (xs ++ c ∷ []) ≡ suc (length xs)
-unfolding without_spaces
-bare_other [] c n = if_false (eqb c space) 0 1 (ne_eqb c space n)
-bare_other (x ∷ xs) c n = ap (λ m. if eqb m 0 then (if eqb x space then 0 else 1) else suc m) (bare_other xs c n)
-    ∙ if_false (eqb (suc (length xs)) 0) _ _ (ne_eqb (suc (length xs)) 0 (λ e. omega arith))
-
-take_last : (xs : List ℕ) (m : ℕ) → m < length xs → take (suc m) xs ≡ take m xs ++ at xs m ∷ []
-take_last [] m l = absurd (omega arith)
-take_last (x ∷ xs) zero l = refl
-take_last (x ∷ xs) (suc m) l = ap (λ ys. x ∷ ys) (take_last xs m (omega arith))
-
--- the loop has come down to place n
-abbrev pub BareSoFar : List ℕ → ℕ → Type 0
-BareSoFar bytes n = without_spaces bytes ≡ without_spaces (take n bytes)
-
-pub bare_start : (bytes : List ℕ) → BareSoFar bytes (length bytes)
-bare_start bytes = ap without_spaces (sym (take_all (length bytes) bytes (omega arith)))
-
-one_fewer : (bytes : List ℕ) (n : ℕ) → 0 < n → n ≤ length bytes → take n bytes ≡ take (n - 1) bytes ++ at bytes (n - 1) ∷ []
-one_fewer bytes n p l = let e : n ≡ suc (n - 1) = omega arith in ap (λ k. take k bytes) e ∙ take_last bytes (n - 1) (omega arith)
-
-pub bare_next : (bytes : List ℕ) (n : ℕ) → BareSoFar bytes n → n ≤ length bytes → 0 < n → at bytes (n - 1) ≡ space → BareSoFar bytes (n - 1)
-bare_next bytes n h l p e =
-    h ∙ ap without_spaces (one_fewer bytes n p l ∙ ap (λ c. take (n - 1) bytes ++ c ∷ []) e) ∙ bare_space (take (n - 1) bytes)
-
-pub bare_found : (bytes : List ℕ) (n : ℕ) → BareSoFar bytes n → n ≤ length bytes → 0 < n → (at bytes (n - 1) ≡ space → ⊥) → n ≡ without_spaces bytes
-bare_found bytes n h l p e =
-    let k : length (take (n - 1) bytes) ≡ n - 1 = length-take-le (n - 1) bytes (omega arith) in
-    sym (h ∙ ap without_spaces (one_fewer bytes n p l) ∙ bare_other (take (n - 1) bytes) (at bytes (n - 1)) e ∙ omega (arith, k))
-
-pub bare_ends : (bytes : List ℕ) (n : ℕ) → BareSoFar bytes n → n ≤ 0 → n ≡ without_spaces bytes
-unfolding without_spaces
-bare_ends bytes n h l = let e : n ≡ 0 = omega arith in e ∙ sym (h ∙ ap (λ k. without_spaces (take k bytes)) e)
 
 -- ---- what lies from a place on, as the code lends it
 
@@ -134,35 +26,89 @@ rest n bytes = take (length bytes - n) (drop n bytes)
 pub rest_is : (n : ℕ) (bytes : List ℕ) → rest n bytes ≡ drop n bytes
 rest_is n bytes = take_all (length bytes - n) (drop n bytes) (omega (arith, length-drop n bytes))
 
--- ---- two words
+-- ---- as std's iterators count
 
-pub other_length : (xs ys : List ℕ) → (length xs ≡ length ys → ⊥) → false ≡ same xs ys
-unfolding same
-other_length [] [] n = absurd (n refl)
-other_length [] (y ∷ ys) n = refl
-other_length (x ∷ xs) [] n = refl
-other_length (x ∷ xs) (y ∷ ys) n = go (eqb x y) (other_length xs ys (λ e. n (ap suc e)))
+until_is : (stop : ℕ → Bool) (bytes : List ℕ) → until stop bytes ≡ position_or_len stop bytes
+unfolding until
+until_is stop [] = refl
+until_is stop (c ∷ cs) = go (stop c) (until_is stop cs)
   where
-    go : (t : Bool) → false ≡ same xs ys → false ≡ (t && same xs ys)
-    go true h = h
+    go : (t : Bool) → until stop cs ≡ position_or_len stop cs → (if t then 0 else suc (until stop cs)) ≡ cond (not t) (1 + position_or_len stop cs) 0
+    go true h = refl
+    go false h = omega (arith, h)
+
+until_not : (p : ℕ → Bool) (bytes : List ℕ) → until (λ c. not (p c)) bytes ≡ prefix_len p bytes
+unfolding until
+until_not p [] = refl
+until_not p (c ∷ cs) = go (p c) (until_not p cs)
+  where
+    go : (t : Bool) → until (λ c. not (p c)) cs ≡ prefix_len p cs → (if not t then 0 else suc (until (λ c. not (p c)) cs)) ≡ cond t (1 + prefix_len p cs) 0
+    go true h = omega (arith, h)
     go false h = refl
 
--- a loop that has compared the first i bytes
-abbrev pub SameSoFar : (xs ys : List ℕ) → ℕ → Type 0
-SameSoFar xs ys i = same xs ys ≡ same (drop i xs) (drop i ys)
+pub spaces_is : (bytes : List ℕ) → spaces_of bytes ≡ length (take_while (λ c. eqb c space) bytes)
+unfolding spaces_of
+spaces_is bytes = until_not (λ c. eqb c space) bytes ∙ sym (length-prefix_len (λ c. eqb c space) bytes)
 
-same_at : (xs ys : List ℕ) (i : ℕ) → i < length xs → i < length ys
-    → same (drop i xs) (drop i ys) ≡ (eqb (at xs i) (at ys i) && same (drop (suc i) xs) (drop (suc i) ys))
+found_or : (p : ℕ → Bool) (bytes : List ℕ) → position_or_len p bytes ≡ unwrap_or (position p bytes) (length bytes)
+found_or p bytes = sym (by_test (ltb (position_or_len p bytes) (length bytes))
+    (λ t. ap (λ b. unwrap_or (cond b (Some (position_or_len p bytes)) None) (length bytes)) t)
+    (λ t. ap (λ b. unwrap_or (cond b (Some (position_or_len p bytes)) None) (length bytes)) t
+    ∙ omega (arith, ltb-false (position_or_len p bytes) (length bytes) t, prefix_len-le-length (λ x. not (p x)) bytes)))
+
+-- the place of the first, or the length
+pub up_to_is : (x : ℕ) (bytes : List ℕ) → up_to x bytes ≡ unwrap_or (position (λ c. eqb c x) bytes) (length bytes)
+unfolding up_to
+up_to_is x bytes = until_is (λ c. eqb c x) bytes ∙ found_or (λ c. eqb c x) bytes
+
+-- from there on all are spaces, and the one before is none
+spaces_after : (bytes : List ℕ) (k : ℕ) → without_spaces bytes ≤ k → k < length bytes → eqb (at bytes k) space ≡ true
+unfolding without_spaces
+spaces_after [] k l h = absurd (omega arith)
+spaces_after (c ∷ cs) zero l h = go (eqb (without_spaces cs) 0) (eqb c space) l
+  where
+    go : (s t : Bool) → (if s then (if t then 0 else 1) else suc (without_spaces cs)) ≤ 0 → t ≡ true
+    go true true l = refl
+    go true false l = absurd (omega arith)
+    go false t l = absurd (omega arith)
+spaces_after (c ∷ cs) (suc k) l h = spaces_after cs k (go (eqb (without_spaces cs) 0) refl l) (omega arith)
+  where
+    go : (s : Bool) → eqb (without_spaces cs) 0 ≡ s → (if s then (if eqb c space then 0 else 1) else suc (without_spaces cs)) ≤ suc k → without_spaces cs ≤ k
+    go true e l = omega (arith, eqb-true (without_spaces cs) 0 e)
+    go false e l = omega arith
+
+none_before : (bytes : List ℕ) → 0 < without_spaces bytes → eqb (at bytes (without_spaces bytes - 1)) space ≡ false
+unfolding without_spaces
+none_before [] l = absurd (omega arith)
+none_before (c ∷ cs) l = by_test (eqb (without_spaces cs) 0)
+    (λ s. by_test (eqb c space)
+    (λ t. let e : without_spaces (c ∷ cs) ≡ 0 = if_true (eqb (without_spaces cs) 0) _ _ s ∙ if_true (eqb c space) 0 1 t in absurd (omega arith))
+    (λ t. let e : without_spaces (c ∷ cs) ≡ 1 = if_true (eqb (without_spaces cs) 0) _ _ s ∙ if_false (eqb c space) 0 1 t in ap (λ n. eqb (at (c ∷ cs) (n - 1)) space) e ∙ t))
+    (λ s. let e : without_spaces (c ∷ cs) ≡ suc (without_spaces cs) = if_false (eqb (without_spaces cs) 0) _ _ s in
+    let n : (without_spaces cs ≡ 0 → ⊥) = eqb-false (without_spaces cs) 0 s in
+    let p : 0 < without_spaces cs = omega (arith, n) in
+    let k : suc (without_spaces cs) - 1 ≡ suc (without_spaces cs - 1) = omega (arith, p) in
+    ap (λ n. eqb (at (c ∷ cs) (n - 1)) space) e ∙ ap (λ n. eqb (at (c ∷ cs) n) space) k ∙ none_before cs p)
+
+bare_within : (bytes : List ℕ) → without_spaces bytes ≤ length bytes
+unfolding without_spaces
+bare_within [] = omega arith
+bare_within (c ∷ cs) = go (eqb (without_spaces cs) 0) (eqb c space) (bare_within cs)
+  where
+    go : (s t : Bool) → without_spaces cs ≤ length cs → (if s then (if t then 0 else 1) else suc (without_spaces cs)) ≤ length (c ∷ cs)
+    go true true h = omega arith
+    go true false h = omega arith
+    go false t h = omega (arith, h)
+
+pub bare_is : (bytes : List ℕ) → without_spaces bytes ≡ length bytes - length (take_while (λ c. eqb c space) (reverse bytes))
+bare_is bytes =
+    let e : suffix_len (λ c. eqb c space) bytes ≡ length bytes - without_spaces bytes =
+    suffix_len_is (λ c. eqb c space) bytes (without_spaces bytes) 0 (bare_within bytes) (spaces_after bytes) (none_before bytes) in
+    omega (arith, e, bare_within bytes, length-prefix_len (λ c. eqb c space) (reverse bytes))
+
+pub same_is : (xs ys : List ℕ) → same xs ys ≡ bytes_eq xs ys
 unfolding same
-same_at xs ys i l m = ap (λ t. same t (drop i ys)) (drop-cons xs i 0 l) ∙ ap (same (at xs i ∷ drop (suc i) xs)) (drop-cons ys i 0 m)
-
-pub same_next : (xs ys : List ℕ) (i : ℕ) → SameSoFar xs ys i → i < length xs → length xs ≡ length ys → at xs i ≡ at ys i → SameSoFar xs ys (i + 1)
-same_next xs ys i h l m e = rw (add-one i)
-    (h ∙ same_at xs ys i l (omega arith) ∙ ap (λ t. t && same (drop (suc i) xs) (drop (suc i) ys)) (eq-eqb (at xs i) (at ys i) e))
-
-pub same_differ : (xs ys : List ℕ) (i : ℕ) → SameSoFar xs ys i → i < length xs → length xs ≡ length ys → (at xs i ≡ at ys i → ⊥) → false ≡ same xs ys
-same_differ xs ys i h l m n = sym (h ∙ same_at xs ys i l (omega arith) ∙ ap (λ t. t && same (drop (suc i) xs) (drop (suc i) ys)) (ne_eqb (at xs i) (at ys i) n))
-
-pub same_ends : (xs ys : List ℕ) (i : ℕ) → SameSoFar xs ys i → length xs ≤ i → length xs ≡ length ys → true ≡ same xs ys
-unfolding same
-same_ends xs ys i h l e = sym (h ∙ ap (λ t. same t (drop i ys)) (drop_of_length-le xs l) ∙ ap (same []) (drop_of_length-le ys {i = i} (omega arith)))
+same_is [] [] = refl
+same_is [] (y ∷ ys) = refl
+same_is (x ∷ xs) [] = refl
+same_is (x ∷ xs) (y ∷ ys) = ap (λ t. eqb x y && t) (same_is xs ys)

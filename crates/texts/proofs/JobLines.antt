@@ -1,6 +1,4 @@
 -- How many records of a part a line says is how many it has there; so the line of a record is the one that says it. Assumes nothing.
-use Rattle.std.specs.Prelude.{Ok, Err, if◌then◌else◌}
-use Rattle.rules.specs.Numbers.Verdict.{Verdict}
 use mathlib.Core.Path.{◌≡◌, refl, sym, ◌∙◌, ap}
 use mathlib.Core.Bool.{Bool, true, false}
 use mathlib.Core.List.{List, [], ◌∷◌, map}
@@ -8,6 +6,7 @@ use Prim.Native.Nat.{ℕ, suc, ◌+◌}
 use native.Mathlib.Omega.{arith}
 use lib.Dec.{eqb}
 use lib.ListN.{length, drop, length-map}
+use Rattle.rules.specs.Numbers.Verdict.{Verdict}
 use Rattle.rules.specs.Books.Event.{event_number}
 use Rattle.rules.proofs.Numbers.Choice.{if_true, if_false, by_test, untrue}
 use Rattle.jobs.specs.Job.{job_events, job_answer}
@@ -17,8 +16,8 @@ use Rattle.texts.specs.Line.{content_of, word_length, field_of, field_length, af
 use Rattle.texts.specs.Line.{line_of, items_after, items_of, item_numbers}
 use Rattle.texts.specs.Lines.{of_part, count_in}
 use Rattle.texts.specs.declared.kind.Kind.{Kind}
-use Rattle.texts.specs.declared.kind.Named.{Named}
-use Rattle.texts.specs.declared.number.Number.{Number}
+use Rattle.std.specs.Prelude.{Option, Some, None, Result, Ok, Err, if◌then◌else◌}
+use Rattle.texts.specs.declared.number.Mistake.{Mistake}
 use Rattle.texts.specs.declared.line.Line.{Line}
 
 -- a line that was found under the name of this kind, with these items: where it is a job, the kind is, and it counts its release and its events
@@ -62,15 +61,15 @@ ended_counted kind a b bytes = by_test (has_items kind)
     (λ e. rw (if_true (has_items kind) (job_line (record_of kind a b) (bare bytes)) (plain_line kind a b bytes) e) (job_counted kind (record_of kind a b) (bare bytes) (job_only kind e)))
     (λ e. rw (if_false (has_items kind) (job_line (record_of kind a b) (bare bytes)) (plain_line kind a b bytes) e) (plain_counted kind (bare bytes) a b bytes))
 
-second_counted : (kind : Kind) (a : ℕ) (n : Number) (rest : List ℕ) → Counted kind (bare rest) (with_second kind a n rest)
+second_counted : (kind : Kind) (a : ℕ) (n : Result ℕ Mistake) (rest : List ℕ) → Counted kind (bare rest) (with_second kind a n rest)
 unfolding with_second Counted
-second_counted kind a (Number.Value b) rest = ended_counted kind a b rest
-second_counted kind a (Number.Wrong m) rest = tt
+second_counted kind a (Ok b) rest = ended_counted kind a b rest
+second_counted kind a (Err m) rest = tt
 
-first_counted : (kind : Kind) (n : Number) (rest : List ℕ) → Counted kind (bare (after_field kind 1 rest)) (with_first kind n rest)
+first_counted : (kind : Kind) (n : Result ℕ Mistake) (rest : List ℕ) → Counted kind (bare (after_field kind 1 rest)) (with_first kind n rest)
 unfolding with_first Counted
-first_counted kind (Number.Value a) rest = second_counted kind a (field_of kind 1 rest) (after_field kind 1 rest)
-first_counted kind (Number.Wrong m) rest = tt
+first_counted kind (Ok a) rest = second_counted kind a (field_of kind 1 rest) (after_field kind 1 rest)
+first_counted kind (Err m) rest = tt
 
 -- a job has no second number
 no_second : (kind : Kind) (rest : List ℕ) → kind ≡ Kind.Job → bare (after_field kind 1 rest) ≡ bare rest
@@ -99,13 +98,13 @@ agrees part kind found items Line.Unknown h f = refl
 agrees part kind found items (Line.Wrong k word m) h f = refl
 agrees part kind found items (Line.Refused why place) h f = refl
 
-named_agrees : (part : ℕ) (named : Named) (rest : List ℕ) → count_in part (named_line named rest) ≡ length (of_part part (named_line named rest) (bare (after_field Kind.Job 0 rest)))
+named_agrees : (part : ℕ) (named : Option Kind) (rest : List ℕ) → count_in part (named_line named rest) ≡ length (of_part part (named_line named rest) (bare (after_field Kind.Job 0 rest)))
 unfolding named_line count_in of_part
-named_agrees part (Named.Is kind) rest =
+named_agrees part (Some kind) rest =
     agrees part kind (bare (after_field kind 1 (after_field kind 0 rest))) (bare (after_field Kind.Job 0 rest)) (with_first kind (field_of kind 0 rest) (after_field kind 0 rest))
     (first_counted kind (field_of kind 0 rest) (after_field kind 0 rest))
     (λ e. no_second kind (after_field kind 0 rest) e ∙ ap (λ k. bare (after_field k 0 rest)) e)
-named_agrees part Named.Nothing rest = refl
+named_agrees part None rest = refl
 
 words_agree : (part : ℕ) (words : List ℕ) → count_in part (words_line words) ≡ length (of_part part (words_line words) (items_after words))
 unfolding words_line count_in of_part

@@ -1,26 +1,26 @@
 -- The ways through the code that reads one line. Assumes nothing.
-use Rattle.std.specs.Prelude.{Ok}
-use Rattle.rules.specs.Numbers.Verdict.{Verdict, refused_at}
 use mathlib.Core.Path.{◌≡◌, refl, sym, ◌∙◌, ap}
 use mathlib.Core.Bool.{Bool, true, false}
 use mathlib.Core.List.{List, [], ◌∷◌}
-use Prim.Native.Nat.{ℕ, ◌+◌, ◌≤◌, ◌<◌}
+use Prim.Native.Nat.{ℕ, ◌+◌, ◌-◌, ◌≤◌, ◌<◌}
 use native.Mathlib.Omega.{arith}
-use lib.Dec.{ltb}
-use lib.ListN.{length, take, drop, length-drop}
-use borrow.Author.Tests.{lt-ltb, le-ltb}
+use lib.Dec.{eqb, ltb}
+use lib.ListN.{length, take, drop}
+use lib.Seq.{drop-drop, take_all}
+use borrow.Author.Tests.{lt-ltb, le-ltb, eq-eqb, ne_eqb, eqb-true, eqb-false}
 use Rattle.rules.specs.declared.refusal.Refusal.{Refusal}
+use Rattle.rules.specs.Numbers.Verdict.{refused_at}
 use Rattle.rules.proofs.Numbers.Choice.{if_true, if_false, by_test}
 use Rattle.jobs.specs.Job.{job_answer}
 use Rattle.jobs.specs.declared.Job.{Job}
-use Rattle.texts.specs.Cut.{space, hash, up_to, spaces_of, without_spaces, before, trimmed, bare}
+use Rattle.rules.specs.Numbers.Place.{at}
+use Rattle.texts.specs.Cut.{return, space, hash, up_to, spaces_of, without_spaces, before, trimmed, bare}
 use Rattle.texts.specs.Kind.{kind_named, fields_of, most_of, part_of, record_of, has_items}
 use Rattle.texts.specs.Number.{number_of}
 use Rattle.texts.specs.Line.{without_return, content_of, word_length, field_of, field_length, after_field, plain_line, job_room, job_said, job_line, ended, with_second, with_first, named_line, words_line, line_of, items_after, items_of}
 use Rattle.texts.specs.declared.kind.Kind.{Kind}
-use Rattle.texts.specs.declared.kind.Named.{Named}
 use Rattle.texts.specs.declared.number.Mistake.{Mistake}
-use Rattle.texts.specs.declared.number.Number.{Number}
+use Rattle.std.specs.Prelude.{Option, Some, None, Result, Ok, Err, if◌then◌else◌}
 use Rattle.texts.specs.declared.line.Line.{Line}
 use Rattle.texts.proofs.Cuts.{rest, rest_is}
 use Rattle.texts.proofs.Named.{most_within}
@@ -31,44 +31,52 @@ none : (bytes : List ℕ) → length bytes ≡ 0 → bytes ≡ []
 none [] e = refl
 none (c ∷ cs) e = absurd (omega arith)
 
--- the first word, with the spaces after it
-pub word_long : (bytes : List ℕ) (n m : ℕ) → n ≡ up_to space bytes → n ≤ length bytes → m ≡ spaces_of (rest n bytes) → m ≤ length (rest n bytes)
-    → n + m ≤ length bytes
-word_long bytes n m e l f h = omega (arith, length-drop n bytes, ap length (rest_is n bytes))
+-- the line without its carriage return, and without none
+pub return_off : (line : List ℕ) → 1 ≤ length line → at line (length line - 1) ≡ return → take (length line - 1) line ≡ take (without_return line) line
+unfolding without_return
+return_off line l e = ap (λ n. take n line) (sym (if_false (eqb (length line) 0) _ _ (ne_eqb (length line) 0 (λ z. omega arith)) ∙ if_true (eqb (at line (length line - 1)) return) _ _ (eq-eqb (at line (length line - 1)) return e)))
 
-pub word_is : (bytes : List ℕ) (n m : ℕ) → n ≡ up_to space bytes → m ≡ spaces_of (rest n bytes) → n + m ≡ word_length bytes
+pub return_none : (line : List ℕ) → (1 ≤ length line → at line (length line - 1) ≡ return → ⊥) → line ≡ take (without_return line) line
+unfolding without_return
+return_none line n = sym (ap (λ k. take k line) (by_test (eqb (length line) 0)
+    (λ t. if_true (eqb (length line) 0) _ _ t ∙ sym (eqb-true (length line) 0 t))
+    (λ t. if_false (eqb (length line) 0) _ _ t ∙ if_false (eqb (at line (length line - 1)) return) _ _ (ne_eqb (at line (length line - 1)) return (n (omega (arith, eqb-false (length line) 0 t))))))
+    ∙ take_all (length line) line (omega arith))
+
+-- what comes after the first word and its spaces
+pub word_rest : (bytes left : List ℕ) (n m : ℕ) → left ≡ drop n bytes → n ≡ up_to space bytes → m ≡ spaces_of left → rest m left ≡ drop (word_length bytes) bytes
 unfolding word_length
-word_is bytes n m e f = ap (λ k. n + k) (f ∙ ap spaces_of (rest_is n bytes)) ∙ ap (λ k. k + spaces_of (drop k bytes)) e
+word_rest bytes left n m l e f =
+    rest_is m left ∙ ap (λ k. drop k left) (f ∙ ap spaces_of l) ∙ ap (drop (spaces_of (drop n bytes))) l ∙ ap (λ k. drop (spaces_of (drop k bytes)) (drop k bytes)) e
+    ∙ drop-drop (spaces_of (drop (up_to space bytes) bytes)) (up_to space bytes) bytes
 
--- ---- a number
+-- ---- a number, and what comes after it
 
-pub field_some : (kind : Kind) (w f m n : ℕ) (bytes : List ℕ) (r : Number) → r ≡ number_of m (take n bytes) → f ≡ fields_of kind → w < f → m ≡ most_of kind w
-    → n ≡ up_to space bytes
-    → r ≡ field_of kind w bytes
-unfolding field_of
-field_some kind w f m n bytes r h e l g u =
-    h ∙ ap (λ k. number_of k (take n bytes)) g ∙ ap (λ k. number_of (most_of kind w) (take k bytes)) u
-    ∙ sym (if_true (ltb w (fields_of kind)) _ _ (lt-ltb w (fields_of kind) (omega (arith, e))))
+module _ (kind : Kind) (w f : ℕ) (bytes : List ℕ) (e : f ≡ fields_of kind) where
+  pub field_some : (m : ℕ) (word : List ℕ) (r : Result ℕ Mistake) → w < f → r ≡ number_of m word → m ≡ most_of kind w → word ≡ before space bytes → r ≡ field_of kind w bytes
+  unfolding field_of
+  field_some m word r l h g u =
+      h ∙ ap (λ k. number_of k word) g ∙ ap (number_of (most_of kind w)) u ∙ sym (if_true (ltb w (fields_of kind)) _ _ (lt-ltb w (fields_of kind) (omega (arith, e))))
 
-pub field_none : (kind : Kind) (w f : ℕ) (bytes : List ℕ) → f ≡ fields_of kind → f ≤ w → Number.Value 0 ≡ field_of kind w bytes
-unfolding field_of
-field_none kind w f bytes e l = sym (if_false (ltb w (fields_of kind)) _ _ (le-ltb w (fields_of kind) (omega (arith, e))))
+  pub field_none : f ≤ w → Ok 0 ≡ field_of kind w bytes
+  unfolding field_of
+  field_none l = sym (if_false (ltb w (fields_of kind)) _ _ (le-ltb w (fields_of kind) (omega (arith, e))))
 
-pub long_some : (kind : Kind) (w f n : ℕ) (bytes : List ℕ) → n ≡ word_length bytes → f ≡ fields_of kind → w < f → n ≡ field_length kind w bytes
-unfolding field_length
-long_some kind w f n bytes h e l = h ∙ sym (if_true (ltb w (fields_of kind)) _ _ (lt-ltb w (fields_of kind) (omega (arith, e))))
+  pub after_some : (left : List ℕ) → w < f → left ≡ drop (word_length bytes) bytes → left ≡ after_field kind w bytes
+  unfolding field_length
+  after_some left l h = h ∙ sym (ap (λ k. drop k bytes) (if_true (ltb w (fields_of kind)) _ _ (lt-ltb w (fields_of kind) (omega (arith, e)))))
 
-pub long_none : (kind : Kind) (w f : ℕ) (bytes : List ℕ) → f ≡ fields_of kind → f ≤ w → 0 ≡ field_length kind w bytes
-unfolding field_length
-long_none kind w f bytes e l = sym (if_false (ltb w (fields_of kind)) _ _ (le-ltb w (fields_of kind) (omega (arith, e))))
+  pub after_none : f ≤ w → bytes ≡ after_field kind w bytes
+  unfolding field_length
+  after_none l = sym (ap (λ k. drop k bytes) (if_false (ltb w (fields_of kind)) _ _ (le-ltb w (fields_of kind) (omega (arith, e)))))
 
 -- it fits two bytes
-pub field_within : (kind : Kind) (w v : ℕ) (bytes : List ℕ) (r : Number) → r ≡ field_of kind w bytes → r ≡ Number.Value v → v ≤ 65535
+pub field_within : (kind : Kind) (w v : ℕ) (bytes : List ℕ) (r : Result ℕ Mistake) → r ≡ field_of kind w bytes → r ≡ Ok v → v ≤ 65535
 unfolding field_of
 field_within kind w v bytes r h e = by_test (ltb w (fields_of kind))
-    (λ t. let g : number_of (most_of kind w) (before space bytes) ≡ Number.Value v = sym (if_true (ltb w (fields_of kind)) _ _ t) ∙ sym h ∙ e in
+    (λ t. let g : number_of (most_of kind w) (before space bytes) ≡ Ok v = sym (if_true (ltb w (fields_of kind)) _ _ t) ∙ sym h ∙ e in
     omega (arith, number_within (most_of kind w) (before space bytes) v g, most_within kind w))
-    (λ t. let g : Number.Value 0 ≡ Number.Value v = sym (if_false (ltb w (fields_of kind)) _ _ t) ∙ sym h ∙ e in
+    (λ t. let g : Ok 0 ≡ Ok v = sym (if_false (ltb w (fields_of kind)) _ _ t) ∙ sym h ∙ e in
     let z : 0 ≡ v = cc in omega arith)
 
 -- ---- after the numbers
@@ -94,13 +102,13 @@ ended_plain kind a b bytes t r h e f = h ∙ sym (if_false (has_items kind) _ _ 
 
 -- a job
 module _ (items : List ℕ) (w : ℕ) (job : Job) (h : job ≡ job_answer items job_room) where
-  pub job_right : (v : Verdict) → v ≡ job.verdict → v ≡ Ok tt → Line.Job w (job.events + 1) ≡ job_line w items
+  pub job_right : job.verdict ≡ Ok tt → Line.Job w (job.events + 1) ≡ job_line w items
   unfolding job_line job_said
-  job_right v e f = rw (sym h) (ap (λ x. job_said w x job.events) (sym f ∙ e))
+  job_right f = rw (sym h) (ap (λ x. job_said w x job.events) (sym f))
 
-  pub job_wrong : (v : Verdict) (why : Refusal) (place : ℕ) → v ≡ job.verdict → v ≡ refused_at why place → Line.Refused why place ≡ job_line w items
+  pub job_wrong : (why : Refusal) (place : ℕ) → job.verdict ≡ refused_at why place → Line.Refused why place ≡ job_line w items
   unfolding job_line job_said
-  job_wrong v why place e f = rw (sym h) (ap (λ x. job_said w x job.events) (sym f ∙ e))
+  job_wrong why place f = rw (sym h) (ap (λ x. job_said w x job.events) (sym f))
 
 pub ended_job : (kind : Kind) (a b n w : ℕ) (bytes : List ℕ) (t : Bool) (r : Line) → r ≡ job_line w (take n bytes) → w ≡ record_of kind a b → n ≡ without_spaces bytes
     → t ≡ has_items kind → t ≡ true
@@ -111,30 +119,23 @@ ended_job kind a b n w bytes t r h g l e f =
 
 -- ---- its two numbers
 
-pub second_value : (kind : Kind) (a b n : ℕ) (bytes : List ℕ) (second : Number) (r : Line) → r ≡ ended kind a b (rest n bytes) → second ≡ field_of kind 1 bytes
-    → n ≡ field_length kind 1 bytes → second ≡ Number.Value b
-    → r ≡ with_second kind a (field_of kind 1 bytes) (after_field kind 1 bytes)
-unfolding with_second
-second_value kind a b n bytes second r h e l v =
-    h ∙ ap (ended kind a b) (rest_is n bytes) ∙ ap (λ k. ended kind a b (drop k bytes)) l ∙ ap (λ x. with_second kind a x (after_field kind 1 bytes)) (sym v ∙ e)
+module _ (kind : Kind) (w : ℕ) (bytes left : List ℕ) (found : Result ℕ Mistake) (e : found ≡ field_of kind w bytes) (l : left ≡ after_field kind w bytes) where
+  pub second_value : (a b : ℕ) (r : Line) → w ≡ 1 → found ≡ Ok b → r ≡ ended kind a b left → r ≡ with_second kind a (field_of kind w bytes) (after_field kind w bytes)
+  unfolding with_second
+  second_value a b r q v h = h ∙ ap (ended kind a b) l ∙ ap (λ x. with_second kind a x (after_field kind w bytes)) (sym v ∙ e)
 
-pub second_wrong : (kind : Kind) (a : ℕ) (bytes : List ℕ) (second : Number) (m : Mistake) → second ≡ field_of kind 1 bytes → second ≡ Number.Wrong m
-    → Line.Wrong kind 3 m ≡ with_second kind a (field_of kind 1 bytes) (after_field kind 1 bytes)
-unfolding with_second
-second_wrong kind a bytes second m e v = ap (λ x. with_second kind a x (after_field kind 1 bytes)) (sym v ∙ e)
+  pub second_wrong : (a : ℕ) (m : Mistake) → found ≡ Err m → Line.Wrong kind 3 m ≡ with_second kind a (field_of kind w bytes) (after_field kind w bytes)
+  unfolding with_second
+  second_wrong a m v = ap (λ x. with_second kind a x (after_field kind w bytes)) (sym v ∙ e)
 
-pub first_value : (kind : Kind) (a n : ℕ) (bytes : List ℕ) (first : Number) (r : Line)
-    → r ≡ with_second kind a (field_of kind 1 (rest n bytes)) (after_field kind 1 (rest n bytes)) → first ≡ field_of kind 0 bytes
-    → n ≡ field_length kind 0 bytes → first ≡ Number.Value a
-    → r ≡ with_first kind (field_of kind 0 bytes) (after_field kind 0 bytes)
-unfolding with_first
-first_value kind a n bytes first r h e l v =
-    h ∙ ap (with_first kind (Number.Value a)) (rest_is n bytes) ∙ ap (λ k. with_first kind (Number.Value a) (drop k bytes)) l ∙ ap (λ x. with_first kind x (after_field kind 0 bytes)) (sym v ∙ e)
+  pub first_value : (a : ℕ) (r : Line) → found ≡ Ok a → r ≡ with_second kind a (field_of kind 1 left) (after_field kind 1 left)
+      → r ≡ with_first kind (field_of kind w bytes) (after_field kind w bytes)
+  unfolding with_first
+  first_value a r v h = h ∙ ap (with_first kind (Ok a)) l ∙ ap (λ x. with_first kind x (after_field kind w bytes)) (sym v ∙ e)
 
-pub first_wrong_lem : (kind : Kind) (bytes : List ℕ) (first : Number) (m : Mistake) → first ≡ field_of kind 0 bytes → first ≡ Number.Wrong m
-    → Line.Wrong kind 2 m ≡ with_first kind (field_of kind 0 bytes) (after_field kind 0 bytes)
-unfolding with_first
-first_wrong_lem kind bytes first m e v = ap (λ x. with_first kind x (after_field kind 0 bytes)) (sym v ∙ e)
+  pub first_wrong_lem : (m : Mistake) → found ≡ Err m → Line.Wrong kind 2 m ≡ with_first kind (field_of kind w bytes) (after_field kind w bytes)
+  unfolding with_first
+  first_wrong_lem m v = ap (λ x. with_first kind x (after_field kind w bytes)) (sym v ∙ e)
 
 -- ---- its name
 
@@ -147,35 +148,32 @@ unfolding words_line
 some_words [] n = absurd (n refl)
 some_words (c ∷ cs) n = refl
 
-module _ (bytes : List ℕ) (n m : ℕ) (named : Named) (some : length bytes ≡ 0 → ⊥) (g : named ≡ kind_named (take n bytes)) (e : n ≡ up_to space bytes) where
-  named_so : named ≡ kind_named (before space bytes)
-  named_so = g ∙ ap (λ k. kind_named (take k bytes)) e
+module _ (bytes word left : List ℕ) (named : Option Kind) (some : length bytes ≡ 0 → ⊥) (g : named ≡ kind_named word) (u : word ≡ before space bytes)
+    (l : left ≡ drop (word_length bytes) bytes) where
+  words_so : (n : Option Kind) → named ≡ n → named_line n left ≡ words_line bytes
+  words_so n k = ap (λ x. named_line x left) (sym k ∙ g ∙ ap kind_named u) ∙ ap (named_line (kind_named (before space bytes))) l ∙ sym (some_words bytes some)
 
-  pub words_known : (kind : Kind) (r : Line) → r ≡ with_first kind (field_of kind 0 (rest m bytes)) (after_field kind 0 (rest m bytes)) → m ≡ word_length bytes
-      → named ≡ Named.Is kind
-      → r ≡ words_line bytes
+  pub words_known : (kind : Kind) (r : Line) → named ≡ Some kind → r ≡ with_first kind (field_of kind 0 left) (after_field kind 0 left) → r ≡ words_line bytes
   unfolding named_line
-  words_known kind r h l k =
-      h ∙ ap (named_line (Named.Is kind)) (rest_is m bytes) ∙ ap (λ j. named_line (Named.Is kind) (drop j bytes)) l ∙ ap (λ x. named_line x (drop (word_length bytes) bytes)) (sym k ∙ named_so)
-      ∙ sym (some_words bytes some)
+  words_known kind r k h = h ∙ words_so (Some kind) k
 
-  pub words_unknown : named ≡ Named.Nothing → Line.Unknown ≡ words_line bytes
+  pub words_unknown : named ≡ None → Line.Unknown ≡ words_line bytes
   unfolding named_line
-  words_unknown k = ap (λ x. named_line x (drop (word_length bytes) bytes)) (sym k ∙ named_so) ∙ sym (some_words bytes some)
+  words_unknown k = words_so None k
 
 -- ---- and the line around it
 
-pub words_so : (line : List ℕ) (n m k : ℕ) → n ≡ without_return line → m ≡ up_to hash (take n line) → k ≡ spaces_of (take m (take n line))
-    → rest k (take m (take n line)) ≡ trimmed (content_of line)
-words_so line n m k e f g =
-    rest_is k (take m (take n line)) ∙ ap (λ x. drop x (take m (take n line))) g ∙ ap (λ x. trimmed (take x (take n line))) f ∙ ap (λ x. trimmed (before hash (take x line))) e
+pub content_so : (line whole : List ℕ) (m k : ℕ) → whole ≡ take (without_return line) line → m ≡ up_to hash whole → k ≡ spaces_of (take m whole)
+    → rest k (take m whole) ≡ trimmed (content_of line)
+content_so line whole m k e f g =
+    rest_is k (take m whole) ∙ ap (λ x. drop x (take m whole)) g ∙ ap (λ x. trimmed (take x whole)) f ∙ ap (λ x. trimmed (before hash x)) e
 
 pub line_so : (line bytes : List ℕ) (r : Line) → r ≡ words_line bytes → bytes ≡ trimmed (content_of line) → r ≡ line_of line
 unfolding line_of
 line_so line bytes r h e = h ∙ ap words_line e
 
-pub items_so : (line bytes : List ℕ) (n m k : ℕ) → bytes ≡ trimmed (content_of line) → n ≡ word_length bytes → m ≡ field_length Kind.Job 0 (rest n bytes)
-    → k ≡ without_spaces (rest m (rest n bytes)) → take k (rest m (rest n bytes)) ≡ items_of line
-items_so line bytes n m k b e f g =
-    ap (λ x. take x (rest m (rest n bytes))) g ∙ ap bare (rest_is m (rest n bytes) ∙ ap (λ x. drop x (rest n bytes)) f)
-    ∙ ap (λ x. bare (after_field Kind.Job 0 x)) (rest_is n bytes ∙ ap (λ x. drop x bytes) e) ∙ ap items_after b
+pub items_so : (line bytes left last : List ℕ) (k : ℕ) → bytes ≡ trimmed (content_of line) → left ≡ drop (word_length bytes) bytes → last ≡ drop (word_length left) left
+    → k ≡ without_spaces last → take k last ≡ items_of line
+unfolding field_length fields_of
+items_so line bytes left last k b l m g =
+    ap (λ x. take x last) g ∙ ap bare (m ∙ ap (λ x. drop (word_length x) x) l) ∙ ap items_after b

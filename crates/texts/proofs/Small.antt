@@ -1,6 +1,4 @@
 -- The numbers of a record that was read are at most what they may be, so that two bytes hold a task and a use. Assumes nothing.
-use Rattle.std.specs.Prelude.{Ok, Err}
-use Rattle.rules.specs.Numbers.Verdict.{Verdict}
 use mathlib.Core.Path.{◌≡◌, refl, sym, ◌∙◌}
 use mathlib.Core.List.{List, [], ◌∷◌, ◌++◌}
 use Prim.Native.Nat.{ℕ, zero, suc, ◌≤◌, ◌<◌}
@@ -9,14 +7,15 @@ use lib.Dec.{eqb, ltb}
 use lib.ListN.{drop}
 use borrow.Author.Tests.{eqb-true, ne_eqb}
 use Rattle.rules.specs.Numbers.Place.{at}
+use Rattle.rules.specs.Numbers.Verdict.{Verdict}
 use Rattle.rules.proofs.Numbers.Choice.{if_true, if_false, by_test, either}
 use Rattle.texts.specs.Cut.{space, before, trimmed}
 use Rattle.texts.specs.Kind.{kind_named, fields_of, most_of, part_of, record_of, has_items}
 use Rattle.texts.specs.Line.{word_length, field_of, after_field, content_of, plain_line, job_said, job_line, ended, with_second, with_first, named_line, words_line, line_of, items_of, item_numbers}
 use Rattle.texts.specs.Lines.{lines_of, of_part, records_of}
 use Rattle.texts.specs.declared.kind.Kind.{Kind}
-use Rattle.texts.specs.declared.kind.Named.{Named}
-use Rattle.texts.specs.declared.number.Number.{Number}
+use Rattle.std.specs.Prelude.{Option, Some, None, Result, Ok, Err}
+use Rattle.texts.specs.declared.number.Mistake.{Mistake}
 use Rattle.texts.specs.declared.line.Line.{Line}
 use Rattle.texts.proofs.Values.{number_within}
 
@@ -34,11 +33,11 @@ Kept (Line.Wrong kind word m) = Unit
 Kept (Line.Refused why place) = Unit
 
 -- a number is at most what it may be
-field_most : (kind : Kind) (w v : ℕ) (bytes : List ℕ) → field_of kind w bytes ≡ Number.Value v → v ≤ most_of kind w
+field_most : (kind : Kind) (w v : ℕ) (bytes : List ℕ) → field_of kind w bytes ≡ Ok v → v ≤ most_of kind w
 unfolding field_of
 field_most kind w v bytes e = by_test (ltb w (fields_of kind))
     (λ t. number_within (most_of kind w) (before space bytes) v (sym (if_true (ltb w (fields_of kind)) _ _ t) ∙ e))
-    (λ t. let g : Number.Value 0 ≡ Number.Value v = sym (if_false (ltb w (fields_of kind)) _ _ t) ∙ e in let z : 0 ≡ v = cc in omega arith)
+    (λ t. let g : Ok 0 ≡ Ok v = sym (if_false (ltb w (fields_of kind)) _ _ t) ∙ e in let z : 0 ≡ v = cc in omega arith)
 
 record_fits : (kind : Kind) (a b : ℕ) → a ≤ most_of kind 0 → b ≤ most_of kind 1 → Fits (part_of kind) (record_of kind a b)
 unfolding most_of part_of record_of
@@ -67,20 +66,20 @@ ended_kept : (kind : Kind) (a b : ℕ) (bytes : List ℕ) → a ≤ most_of kind
 unfolding ended job_line
 ended_kept kind a b bytes h g = either Kept (has_items kind) _ _ (said_kept (record_of kind a b) _ _) (plain_kept kind a b bytes h g)
 
-second_kept : (kind : Kind) (a : ℕ) (n : Number) (bytes rest : List ℕ) → n ≡ field_of kind 1 bytes → a ≤ most_of kind 0 → Kept (with_second kind a n rest)
+second_kept : (kind : Kind) (a : ℕ) (n : Result ℕ Mistake) (bytes rest : List ℕ) → n ≡ field_of kind 1 bytes → a ≤ most_of kind 0 → Kept (with_second kind a n rest)
 unfolding with_second Kept
-second_kept kind a (Number.Value b) bytes rest e h = ended_kept kind a b rest h (field_most kind 1 b bytes (sym e))
-second_kept kind a (Number.Wrong m) bytes rest e h = tt
+second_kept kind a (Ok b) bytes rest e h = ended_kept kind a b rest h (field_most kind 1 b bytes (sym e))
+second_kept kind a (Err m) bytes rest e h = tt
 
-first_kept : (kind : Kind) (n : Number) (bytes rest : List ℕ) → n ≡ field_of kind 0 bytes → Kept (with_first kind n rest)
+first_kept : (kind : Kind) (n : Result ℕ Mistake) (bytes rest : List ℕ) → n ≡ field_of kind 0 bytes → Kept (with_first kind n rest)
 unfolding with_first Kept
-first_kept kind (Number.Value a) bytes rest e = second_kept kind a (field_of kind 1 rest) rest (after_field kind 1 rest) refl (field_most kind 0 a bytes (sym e))
-first_kept kind (Number.Wrong m) bytes rest e = tt
+first_kept kind (Ok a) bytes rest e = second_kept kind a (field_of kind 1 rest) rest (after_field kind 1 rest) refl (field_most kind 0 a bytes (sym e))
+first_kept kind (Err m) bytes rest e = tt
 
-named_kept : (n : Named) (rest : List ℕ) → Kept (named_line n rest)
+named_kept : (n : Option Kind) (rest : List ℕ) → Kept (named_line n rest)
 unfolding named_line Kept
-named_kept (Named.Is kind) rest = first_kept kind (field_of kind 0 rest) rest (after_field kind 0 rest) refl
-named_kept Named.Nothing rest = tt
+named_kept (Some kind) rest = first_kept kind (field_of kind 0 rest) rest (after_field kind 0 rest) refl
+named_kept None rest = tt
 
 words_kept : (bytes : List ℕ) → Kept (words_line bytes)
 unfolding words_line Kept

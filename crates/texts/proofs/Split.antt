@@ -2,100 +2,108 @@
 use Rattle.std.specs.Prelude.{if◌then◌else◌}
 use mathlib.Core.Path.{◌≡◌, refl, sym, ◌∙◌, ap}
 use mathlib.Core.Bool.{Bool, true, false}
+use mathlib.Core.Logic.{◌⊎◌, inl, inr, ⊎_elim}
 use mathlib.Core.List.{List, [], ◌∷◌, ◌++◌, map}
 use Prim.Native.Nat.{ℕ, suc, ◌+◌, ◌*◌, ◌-◌, ◌≤◌, ◌<◌}
 use native.Mathlib.Numerals.{add-one}
 use native.Mathlib.Omega.{arith}
 use lib.Dec.{eqb, ltb}
-use lib.ListN.{length, take, drop, replicate, length-drop, length-map, length-replicate, drop_of_length-le}
-use lib.Seq.{drop-drop}
+use lib.ListN.{length, get_or, drop, replicate, length-map, length-replicate, drop_of_length-le}
+use lib.Seq.{drop-cons}
 use borrow.Author.Tests.{eq-eqb, ne_eqb, lt-ltb, le-ltb}
 use Rattle.rules.specs.Numbers.Place.{from, tabulate}
 use Rattle.rules.specs.Books.Bytes.{long_bytes}
 use Rattle.rules.specs.Books.Event.{event_number}
 use Rattle.rules.specs.declared.event.Event.{Event}
 use Rattle.rules.specs.declared.refusal.Refusal.{Refusal}
-use Rattle.rules.proofs.Numbers.Choice.{if_true, if_false}
+use Rattle.rules.proofs.Numbers.Choice.{if_true, if_false, by_test}
 use Rattle.page.specs.Page.{Page, typed}
 use Rattle.page.proofs.Typed.{typed_two, typed_cons}
 use Rattle.jobs.specs.Job.{job_events, job_answer, read_with, job_of}
 use Rattle.jobs.specs.Sheet.{record_in}
 use Rattle.jobs.specs.declared.Job.{Job}
 use Rattle.jobs.proofs.Sheets.{records_back}
-use Rattle.texts.proofs.Cuts.{rest, rest_is}
-use Rattle.texts.specs.Cut.{newline, until, up_to, before}
-use Rattle.texts.specs.Line.{line_of, job_room, items_of, item_numbers}
+use Rattle.texts.specs.Cut.{newline, until, up_to, spaces_of}
+use Rattle.texts.specs.Line.{without_return, words_line, line_of, job_room, items_of, item_numbers}
 use Rattle.texts.specs.Lines.{longer, lines_of, read_lines, of_part, records_of, is_wrong, first_wrong, count_in, line_of_record}
-use Rattle.texts.specs.At.{between, LineAt}
+use Rattle.std.specs.List.{slice_split, onto_first, enumerate_from}
+use Rattle.std.proofs.lemmas.List.FromFn.{length-enumerate_from, get_or-enumerate_from}
 use Rattle.texts.specs.declared.kind.Kind.{Kind}
 use Rattle.texts.specs.declared.number.Mistake.{Mistake}
 use Rattle.texts.specs.declared.line.Line.{Line}
 use Rattle.texts.specs.declared.lines.First.{First}
 
--- ---- the first line, and those after it
+-- ---- the lines, as `split` gives them: after the last newline it gives one more, without bytes
 
-abbrev FirstLine : List ℕ → Type 0
-FirstLine text = lines_of text ≡ before newline text ∷ lines_of (drop (suc (up_to newline text)) text)
+abbrev pub parts : List ℕ → List (List ℕ)
+parts text = slice_split (λ c. eqb c newline) text
 
-pub lines_first : (text : List ℕ) → 0 < length text → FirstLine text
-unfolding lines_of longer up_to until
-lines_first [] l = absurd (omega arith)
-lines_first (c ∷ []) l = go (eqb c newline)
+longer_is : (c : ℕ) (ls : List (List ℕ)) → onto_first c ls ≡ longer c ls
+unfolding longer
+longer_is c [] = refl
+longer_is c (l ∷ ls) = refl
+
+longer_more : (c : ℕ) (ls : List (List ℕ)) → (longer c (ls ++ [] ∷ []) ≡ longer c ls) ⊎ (longer c (ls ++ [] ∷ []) ≡ longer c ls ++ [] ∷ [])
+unfolding longer
+longer_more c [] = inl refl
+longer_more c (l ∷ ls) = inr refl
+
+-- the lines, or the lines and one without bytes
+AreLines : (ps ls : List (List ℕ)) → Type 0
+AreLines ps ls = (ps ≡ ls) ⊎ (ps ≡ ls ++ [] ∷ [])
+
+are_parts : (text : List ℕ) → AreLines (parts text) (lines_of text)
+unfolding lines_of AreLines
+are_parts [] = inr refl
+are_parts (c ∷ cs) = by_test (eqb c newline)
+    (λ t. rw (if_true (eqb c newline) ([] ∷ lines_of cs) (longer c (lines_of cs)) t)
+    (rw t (⊎_elim (λ (e : parts cs ≡ lines_of cs). inl (ap (λ ls. [] ∷ ls) e)) (λ (e : parts cs ≡ lines_of cs ++ [] ∷ []). inr (ap (λ ls. [] ∷ ls) e)) (are_parts cs))))
+    (λ t. rw (if_false (eqb c newline) ([] ∷ lines_of cs) (longer c (lines_of cs)) t)
+    (rw t (⊎_elim
+    (λ (e : parts cs ≡ lines_of cs). inl (longer_is c (parts cs) ∙ ap (longer c) e))
+    (λ (e : parts cs ≡ lines_of cs ++ [] ∷ []). ⊎_elim
+    (λ (f : longer c (lines_of cs ++ [] ∷ []) ≡ longer c (lines_of cs)). inl (longer_is c (parts cs) ∙ ap (longer c) e ∙ f))
+    (λ (f : longer c (lines_of cs ++ [] ∷ []) ≡ longer c (lines_of cs) ++ [] ∷ []). inr (longer_is c (parts cs) ∙ ap (longer c) e ∙ f))
+    (longer_more c (lines_of cs)))
+    (are_parts cs))))
+
+-- what does not heed a line without bytes at the end is the same of both
+same_of_parts : {A : Type 0} (f : List (List ℕ) → A) → ((ls : List (List ℕ)) → f (ls ++ [] ∷ []) ≡ f ls) → (text : List ℕ) → f (parts text) ≡ f (lines_of text)
+unfolding AreLines
+same_of_parts f h text = ⊎_elim
+    (λ (e : parts text ≡ lines_of text). ap f e)
+    (λ (e : parts text ≡ lines_of text ++ [] ∷ []). ap f e ∙ h (lines_of text))
+    (are_parts text)
+
+blank_line : line_of [] ≡ Line.Blank
+unfolding line_of words_line without_return up_to spaces_of until
+blank_line = refl
+
+pub records_parts : (part : ℕ) (text : List ℕ) → records_of part (parts text) ≡ records_of part (lines_of text)
+unfolding records_of of_part
+records_parts part text = same_of_parts (records_of part) (λ ls. go ls) text
   where
-    go : (t : Bool) → (if t then [] ∷ [] else (c ∷ []) ∷ []) ≡ take (if t then 0 else 1) (c ∷ []) ∷ lines_of (drop (suc (if t then 0 else 1)) (c ∷ []))
-    go true = refl
-    go false = refl
-lines_first (c ∷ d ∷ cs) l = go (eqb c newline) (lines_first (d ∷ cs) (omega arith))
+    go : (ls : List (List ℕ)) → records_of part (ls ++ [] ∷ []) ≡ records_of part ls
+    go [] = ap (λ l. of_part part l (items_of []) ++ []) blank_line
+    go (l ∷ ls) = ap (λ x. of_part part (line_of l) (items_of l) ++ x) (go ls)
+
+pub wrong_parts : (n : ℕ) (text : List ℕ) → first_wrong n (map line_of (parts text)) ≡ first_wrong n (read_lines text)
+unfolding first_wrong is_wrong
+wrong_parts n text = same_of_parts (λ ls. first_wrong n (map line_of ls)) (λ ls. go n ls) text
   where
-    go : (t : Bool) → FirstLine (d ∷ cs)
-        → (if t then [] ∷ lines_of (d ∷ cs) else longer c (lines_of (d ∷ cs)))
-        ≡ take (if t then 0 else suc (up_to newline (d ∷ cs))) (c ∷ d ∷ cs)
-        ∷ lines_of (drop (suc (if t then 0 else suc (up_to newline (d ∷ cs)))) (c ∷ d ∷ cs))
-    go true h = refl
-    go false h = ap (longer c) h
+    go : (n : ℕ) (ls : List (List ℕ)) → first_wrong n (map line_of (ls ++ [] ∷ [])) ≡ first_wrong n (map line_of ls)
+    go n [] = ap (λ l. if is_wrong l then First.At (suc n) l else First.None) blank_line
+    go n (l ∷ ls) = ap (λ x. if is_wrong (line_of l) then First.At (suc n) (line_of l) else x) (go (suc n) ls)
 
--- the line that starts at place i, and where the next one does: after its newline, or at the text's end
-module _ (text : List ℕ) (i n : ℕ) (l : i < length text) (fits : n ≤ length (rest i text)) where
-  inside : i + n ≤ length text
-  inside = omega (arith, length-drop i text, ap length (rest_is i text))
-
-  there : take n (rest i text) ≡ between text i (i + n)
-  there = let k : n ≡ i + n - i = omega arith in ap (take n) (rest_is i text) ∙ ap (λ x. take x (drop i text)) k
-
-  module _ (line : Line) (h : line ≡ line_of (take n (rest i text))) (e : n ≡ up_to newline (rest i text)) where
-    lines_at : lines_of (drop i text) ≡ between text i (i + n) ∷ lines_of (drop (suc n) (drop i text))
-    lines_at =
-        let f : up_to newline (drop i text) ≡ n = sym (e ∙ ap (up_to newline) (rest_is i text)) in
-        lines_first (drop i text) (omega (arith, length-drop i text)) ∙ ap (λ k. take k (drop i text) ∷ lines_of (drop (suc k) (drop i text))) f
-        ∙ ap (λ x. x ∷ lines_of (drop (suc n) (drop i text))) (sym (ap (take n) (rest_is i text)) ∙ there)
-
-    pub line_more : i + n < length text → LineAt text i line (i + n) (i + n + 1)
-    line_more m =
-        let s : i + suc n ≡ i + n + 1 = omega arith in
-        record {
-          says = h ∙ ap line_of there;
-          first = lines_at ∙ ap (λ t. between text i (i + n) ∷ lines_of t) (drop-drop (suc n) i text ∙ ap (λ k. drop k text) s);
-          starts = omega arith;
-          ends = inside;
-          further = omega arith;
-          within = omega arith;
-        }
-
-    pub line_last : length text ≤ i + n → LineAt text i line (i + n) (i + n)
-    line_last m = record {
-      says = h ∙ ap line_of there;
-      first = lines_at ∙ ap (λ t. between text i (i + n) ∷ lines_of t)
-          (drop-drop (suc n) i text ∙ drop_of_length-le text {i = i + suc n} (omega arith) ∙ sym (drop_of_length-le text {i = i + n} m));
-      starts = omega arith;
-      ends = inside;
-      further = omega arith;
-      within = inside;
-    }
+pub record_parts : (part k n : ℕ) (text : List ℕ) → line_of_record part k n (map line_of (parts text)) ≡ line_of_record part k n (read_lines text)
+unfolding line_of_record count_in
+record_parts part k n text = same_of_parts (λ ls. line_of_record part k n (map line_of ls)) (λ ls. go k n ls) text
+  where
+    go : (k n : ℕ) (ls : List (List ℕ)) → line_of_record part k n (map line_of (ls ++ [] ∷ [])) ≡ line_of_record part k n (map line_of ls)
+    go k n [] = ap (λ l. if ltb k (count_in part l) then suc n else 0) blank_line ∙ if_false (ltb k 0) (suc n) 0 (le-ltb k 0 (omega arith))
+    go k n (l ∷ ls) = ap (λ x. if ltb k (count_in part (line_of l)) then suc n else x) (go (k - count_in part (line_of l)) (suc n) ls)
 
 -- ---- what one line comes to, case by case
-
-pub wrong_known : (line case : Line) (t : Bool) → line ≡ case → t ≡ is_wrong case → t ≡ is_wrong line
-wrong_known line case t e h = h ∙ ap is_wrong (sym e)
 
 pub count_known : (part : ℕ) (line case : Line) (n : ℕ) → line ≡ case → n ≡ count_in part case → n ≡ count_in part line
 count_known part line case n e h = h ∙ ap (count_in part) (sym e)
@@ -192,63 +200,72 @@ items_put items after job p r h k = go (replicate job_room 0) h (length-replicat
         k ∙ ap (typed p) (ap (λ m. tabulate m (record_in after)) n ∙ ap (λ x. tabulate (length (map event_number es)) (record_in x)) s
         ∙ records_back (map event_number es) (drop (length es * 4) space) ∙ ap (λ m. map event_number (job_events items m)) l)
 
--- ---- loops over the lines: what is left from place i on, after what was done, makes the whole
+-- ---- loops over the lines
 
-module _ (text : List ℕ) (i end next : ℕ) (line : Line) (A : LineAt text i line end next) where
+-- the line of a turn, with its number
+pub turned : (ls : List (List ℕ)) (k i : ℕ) (b : List ℕ) → (k < length (enumerate_from 0 ls)) × ((i, b) ≡ get_or (enumerate_from 0 ls) k (i, b))
+    → (k < length ls) × (i ≡ k) × (b ≡ get_or ls k b)
+turned ls k i b (l, e) =
+    let m : k < length ls = omega (arith, l, length-enumerate_from 0 ls) in
+    let p : (i, b) ≡ (0 + k, get_or ls k b) = e ∙ get_or-enumerate_from 0 ls k (i, b) m in
+    (m, omega (arith, ap (λ (x : ℕ × List ℕ). x.0) p), ap (λ (x : ℕ × List ℕ). x.1) p)
+
+-- what is left from line k on, after what was done, makes the whole
+
+module _ (ls : List (List ℕ)) (k : ℕ) (b : List ℕ) (l : k < length ls) (e : b ≡ get_or ls k b) where
+  -- the line that comes next
+  here : drop k ls ≡ b ∷ drop (suc k) ls
+  here = drop-cons ls k b l ∙ ap (λ x. x ∷ drop (suc k) ls) (sym e)
+
   -- the records of a part
-  pub collect_next : (part : ℕ) (p q r : Page) → typed q (records_of part (lines_of (drop i text))) ≡ typed p (records_of part (lines_of text))
-      → r ≡ typed q (of_part part line (items_of (between text i end)))
-      → typed r (records_of part (lines_of (drop next text))) ≡ typed p (records_of part (lines_of text))
+  pub collect_next : (part : ℕ) (p q r : Page) → typed q (records_of part (drop k ls)) ≡ typed p (records_of part ls) → r ≡ typed q (of_part part (line_of b) (items_of b))
+      → typed r (records_of part (drop (k + 1) ls)) ≡ typed p (records_of part ls)
   unfolding records_of
-  collect_next part p q r e k =
-      typed_two q r (typed r (records_of part (lines_of (drop next text)))) (of_part part line (items_of (between text i end))) (records_of part (lines_of (drop next text))) k refl
-      ∙ ap (λ x. typed q (of_part part x (items_of (between text i end)) ++ records_of part (lines_of (drop next text)))) A.says
-      ∙ sym (ap (λ ls. typed q (records_of part ls)) A.first) ∙ e
+  collect_next part p q r h g = rw (add-one k)
+      (typed_two q r (typed r (records_of part (drop (suc k) ls))) (of_part part (line_of b) (items_of b)) (records_of part (drop (suc k) ls)) g refl
+      ∙ sym (ap (λ x. typed q (records_of part x)) here) ∙ h)
 
-  h : read_lines (drop i text) ≡ line ∷ read_lines (drop next text)
-  h = ap (map line_of) A.first ∙ ap (λ x. x ∷ read_lines (drop next text)) (sym A.says)
+  now : map line_of (drop k ls) ≡ line_of b ∷ map line_of (drop (suc k) ls)
+  now = ap (map line_of) here
 
   -- the first line with a mistake, n lines being passed
-  pub wrong_next : (n : ℕ) (t : Bool) → first_wrong n (read_lines (drop i text)) ≡ first_wrong 0 (read_lines text) → t ≡ is_wrong line → t ≡ false
-      → first_wrong (n + 1) (read_lines (drop next text)) ≡ first_wrong 0 (read_lines text)
+  pub wrong_next : (n : ℕ) (t : Bool) → first_wrong n (map line_of (drop k ls)) ≡ first_wrong 0 (map line_of ls) → t ≡ is_wrong (line_of b) → t ≡ false
+      → first_wrong (n + 1) (map line_of (drop (k + 1) ls)) ≡ first_wrong 0 (map line_of ls)
   unfolding first_wrong
-  wrong_next n t e k f = rw (add-one n) (sym (ap (first_wrong n) h ∙ if_false (is_wrong line) _ _ (sym k ∙ f)) ∙ e)
+  wrong_next n t h g f = rw (add-one n) (rw (add-one k) (sym (ap (first_wrong n) now ∙ if_false (is_wrong (line_of b)) _ _ (sym g ∙ f)) ∙ h))
 
-  pub wrong_found : (n : ℕ) (t : Bool) → first_wrong n (read_lines (drop i text)) ≡ first_wrong 0 (read_lines text) → t ≡ is_wrong line → t ≡ true
-      → First.At (n + 1) line ≡ first_wrong 0 (read_lines text)
+  pub wrong_found : (n : ℕ) (t : Bool) → first_wrong n (map line_of (drop k ls)) ≡ first_wrong 0 (map line_of ls) → t ≡ is_wrong (line_of b) → t ≡ true
+      → First.At (n + 1) (line_of b) ≡ first_wrong 0 (map line_of ls)
   unfolding first_wrong
-  wrong_found n t e k f = rw (add-one n) (sym (ap (first_wrong n) h ∙ if_true (is_wrong line) _ _ (sym k ∙ f)) ∙ e)
+  wrong_found n t h g f = rw (add-one n) (sym (ap (first_wrong n) now ∙ if_true (is_wrong (line_of b)) _ _ (sym g ∙ f)) ∙ h)
 
   -- the line of a record
-  module _ (part k left n count : ℕ) (e : line_of_record part left n (read_lines (drop i text)) ≡ line_of_record part k 0 (read_lines text))
-      (s : count ≡ count_in part line) where
-    pub record_found : left < count → n + 1 ≡ line_of_record part k 0 (read_lines text)
+  module _ (part k' left n count : ℕ) (h : line_of_record part left n (map line_of (drop k ls)) ≡ line_of_record part k' 0 (map line_of ls))
+      (s : count ≡ count_in part (line_of b)) where
+    pub record_found : left < count → n + 1 ≡ line_of_record part k' 0 (map line_of ls)
     unfolding line_of_record
-    record_found l = rw (add-one n)
-        (sym (ap (line_of_record part left n) h ∙ if_true (ltb left (count_in part line)) _ _ (lt-ltb left (count_in part line) (omega (arith, s)))) ∙ e)
+    record_found l = rw (add-one n) (sym (ap (line_of_record part left n) now ∙ if_true (ltb left (count_in part (line_of b))) _ _ (lt-ltb left (count_in part (line_of b)) (omega (arith, s)))) ∙ h)
 
-    pub record_passed : count ≤ left → line_of_record part (left - count) (n + 1) (read_lines (drop next text)) ≡ line_of_record part k 0 (read_lines text)
+    pub record_passed : count ≤ left → line_of_record part (left - count) (n + 1) (map line_of (drop (k + 1) ls)) ≡ line_of_record part k' 0 (map line_of ls)
     unfolding line_of_record
-    record_passed l = rw (add-one n)
-        (ap (λ c. line_of_record part (left - c) (suc n) (read_lines (drop next text))) s
-        ∙ sym (ap (line_of_record part left n) h ∙ if_false (ltb left (count_in part line)) _ _ (le-ltb left (count_in part line) (omega (arith, s)))) ∙ e)
+    record_passed l = rw (add-one n) (rw (add-one k)
+        (ap (λ c. line_of_record part (left - c) (suc n) (map line_of (drop (suc k) ls))) s
+        ∙ sym (ap (line_of_record part left n) now ∙ if_false (ltb left (count_in part (line_of b))) _ _ (le-ltb left (count_in part (line_of b)) (omega (arith, s)))) ∙ h))
 
 -- at the end nothing is left
-module _ (text : List ℕ) (i : ℕ) (l : length text ≤ i) where
-  none_left : lines_of (drop i text) ≡ []
-  unfolding lines_of
-  none_left = ap lines_of (drop_of_length-le text l)
+module _ (ls : List (List ℕ)) (k : ℕ) (l : k ≡ length ls) where
+  none_left : drop k ls ≡ []
+  none_left = drop_of_length-le ls (omega arith)
 
-  pub collect_ends : (part : ℕ) (p q : Page) → typed q (records_of part (lines_of (drop i text))) ≡ typed p (records_of part (lines_of text))
-      → q ≡ typed p (records_of part (lines_of text))
+  pub collect_ends : (part : ℕ) (p q : Page) → typed q (records_of part (drop k ls)) ≡ typed p (records_of part ls) → q ≡ typed p (records_of part ls)
   unfolding records_of typed
-  collect_ends part p q e = sym (ap (λ ls. typed q (records_of part ls)) none_left) ∙ e
+  collect_ends part p q e = sym (ap (λ x. typed q (records_of part x)) none_left) ∙ e
 
-  pub wrong_ends : (n : ℕ) → first_wrong n (read_lines (drop i text)) ≡ first_wrong 0 (read_lines text) → First.None ≡ first_wrong 0 (read_lines text)
+  pub wrong_ends : (n : ℕ) → first_wrong n (map line_of (drop k ls)) ≡ first_wrong 0 (map line_of ls) → First.None ≡ first_wrong 0 (map line_of ls)
   unfolding first_wrong
-  wrong_ends n e = sym (ap (λ ls. first_wrong n (map line_of ls)) none_left) ∙ e
+  wrong_ends n e = sym (ap (λ x. first_wrong n (map line_of x)) none_left) ∙ e
 
-  pub record_ends : (part k left n : ℕ) → line_of_record part left n (read_lines (drop i text)) ≡ line_of_record part k 0 (read_lines text)
-      → 0 ≡ line_of_record part k 0 (read_lines text)
+  pub record_ends : (part k' left n : ℕ) → line_of_record part left n (map line_of (drop k ls)) ≡ line_of_record part k' 0 (map line_of ls)
+      → 0 ≡ line_of_record part k' 0 (map line_of ls)
   unfolding line_of_record
-  record_ends part k left n e = sym (ap (λ ls. line_of_record part left n (map line_of ls)) none_left) ∙ e
+  record_ends part k' left n e = sym (ap (λ x. line_of_record part left n (map line_of x)) none_left) ∙ e

@@ -1,30 +1,29 @@
 -- RULES 19.2: the kinds of record, and the job, which is several: their names, how many numbers each has and how large these may be, and the record that they make. Assumes nothing.
-use Rattle.std.specs.Prelude.{Bool, true, false, List, ℕ, ◌+◌, ◌*◌, eqb, if◌then◌else◌}
+use Rattle.std.specs.Prelude.{Bool, true, false, List, ℕ, ◌+◌, ◌*◌, eqb, Option, Some, None, if◌then◌else◌}
 use Rattle.rules.specs.Books.Event.{event_number}
 use Rattle.rules.specs.declared.event.Event.{Event}
 use Rattle.page.specs.Ascii.{ascii}
 use Rattle.texts.specs.Cut.{same}
 use Rattle.texts.specs.declared.kind.Kind.{Kind}
 use Rattle.texts.specs.declared.kind.Kind.TheVariants.{Task, Lock, Use, Release, Acquire, Unlock, Work, Finish, Tick, Job}
-use Rattle.texts.specs.declared.kind.Named.{Named}
 
 -- of an event or a job, and of any record
-unfoldable pub event_named : List ℕ → Named
+unfoldable pub event_named : List ℕ → Option Kind
 event_named word =
-    if same word (ascii "release") then Named.Is Release
-    else if same word (ascii "acquire") then Named.Is Acquire
-    else if same word (ascii "unlock") then Named.Is Unlock
-    else if same word (ascii "work") then Named.Is Work
-    else if same word (ascii "finish") then Named.Is Finish
-    else if same word (ascii "tick") then Named.Is Tick
-    else if same word (ascii "job") then Named.Is Job
-    else Named.Nothing
+    if same word (ascii "release") then Some Release
+    else if same word (ascii "acquire") then Some Acquire
+    else if same word (ascii "unlock") then Some Unlock
+    else if same word (ascii "work") then Some Work
+    else if same word (ascii "finish") then Some Finish
+    else if same word (ascii "tick") then Some Tick
+    else if same word (ascii "job") then Some Job
+    else None
 
-unfoldable pub kind_named : List ℕ → Named
+unfoldable pub kind_named : List ℕ → Option Kind
 kind_named word =
-    if same word (ascii "task") then Named.Is Task
-    else if same word (ascii "lock") then Named.Is Lock
-    else if same word (ascii "use") then Named.Is Use
+    if same word (ascii "task") then Some Task
+    else if same word (ascii "lock") then Some Lock
+    else if same word (ascii "use") then Some Use
     else event_named word
 
 -- how many numbers a record has

@@ -4,4 +4,3 @@ pub mod Kind
 pub mod Number
 pub mod Line
 pub mod Lines
-pub mod At

@@ -1,5 +1,5 @@
 -- RULES 19.1 to 19.4: what one line says. Assumes nothing.
-use Rattle.std.specs.Prelude.{List, [], ◌∷◌, map, ℕ, ◌+◌, ◌*◌, ◌-◌, eqb, ltb, length, take, drop, Ok, Err, if◌then◌else◌}
+use Rattle.std.specs.Prelude.{List, [], ◌∷◌, map, ℕ, ◌+◌, ◌*◌, ◌-◌, eqb, ltb, length, take, drop, Option, Some, None, Result, Ok, Err, if◌then◌else◌}
 use Rattle.rules.specs.Numbers.Verdict.{Verdict}
 use Rattle.rules.specs.Numbers.Capacity.{max_events}
 use Rattle.rules.specs.Numbers.Place.{at}
@@ -9,9 +9,7 @@ use Rattle.texts.specs.Cut.{return, space, hash, up_to, before, spaces_of, trimm
 use Rattle.texts.specs.Kind.{kind_named, fields_of, most_of, part_of, record_of, has_items}
 use Rattle.texts.specs.Number.{number_of}
 use Rattle.texts.specs.declared.kind.Kind.{Kind}
-use Rattle.texts.specs.declared.kind.Named.{Named}
 use Rattle.texts.specs.declared.number.Mistake.{Mistake}
-use Rattle.texts.specs.declared.number.Number.{Number}
 use Rattle.texts.specs.declared.line.Line.{Line}
 
 -- ---- its bytes
@@ -31,8 +29,8 @@ word_length bytes = up_to space bytes + spaces_of (drop (up_to space bytes) byte
 -- ---- its words
 
 -- number w of a record, where the bytes start with its word; a record that has no such number takes 0, and no byte
-unfoldable pub field_of : Kind → ℕ → List ℕ → Number
-field_of kind w bytes = if ltb w (fields_of kind) then number_of (most_of kind w) (before space bytes) else Number.Value 0
+unfoldable pub field_of : Kind → ℕ → List ℕ → Result ℕ Mistake
+field_of kind w bytes = if ltb w (fields_of kind) then number_of (most_of kind w) (before space bytes) else Ok 0
 
 unfoldable pub field_length : Kind → ℕ → List ℕ → ℕ
 field_length kind w bytes = if ltb w (fields_of kind) then word_length bytes else 0
@@ -61,18 +59,18 @@ unfoldable pub ended : Kind → ℕ → ℕ → List ℕ → Line
 ended kind a b bytes = if has_items kind then job_line (record_of kind a b) (bare bytes) else plain_line kind a b bytes
 
 -- its second number, and its first: the words 3 and 2 of the line
-unfoldable pub with_second : Kind → ℕ → Number → List ℕ → Line
-with_second kind a (Number.Value b) rest = ended kind a b rest
-with_second kind a (Number.Wrong m) rest = Line.Wrong kind 3 m
+unfoldable pub with_second : Kind → ℕ → Result ℕ Mistake → List ℕ → Line
+with_second kind a (Ok b) rest = ended kind a b rest
+with_second kind a (Err m) rest = Line.Wrong kind 3 m
 
-unfoldable pub with_first : Kind → Number → List ℕ → Line
-with_first kind (Number.Value a) rest = with_second kind a (field_of kind 1 rest) (after_field kind 1 rest)
-with_first kind (Number.Wrong m) rest = Line.Wrong kind 2 m
+unfoldable pub with_first : Kind → Result ℕ Mistake → List ℕ → Line
+with_first kind (Ok a) rest = with_second kind a (field_of kind 1 rest) (after_field kind 1 rest)
+with_first kind (Err m) rest = Line.Wrong kind 2 m
 
 -- its name
-unfoldable pub named_line : Named → List ℕ → Line
-named_line (Named.Is kind) rest = with_first kind (field_of kind 0 rest) (after_field kind 0 rest)
-named_line Named.Nothing rest = Line.Unknown
+unfoldable pub named_line : Option Kind → List ℕ → Line
+named_line (Some kind) rest = with_first kind (field_of kind 0 rest) (after_field kind 0 rest)
+named_line None rest = Line.Unknown
 
 -- of bytes that start with a word, or are none
 unfoldable pub words_line : List ℕ → Line

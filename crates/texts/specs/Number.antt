@@ -1,7 +1,6 @@
 -- RULES 19.2, 19.4: a number in decimal digits, or what is wrong with the word. Assumes nothing.
-use Rattle.std.specs.Prelude.{Bool, true, false, ◌&&◌, List, [], ◌∷◌, ℕ, ◌+◌, ◌*◌, ◌-◌, min, eqb, leb, ltb, length, if◌then◌else◌}
+use Rattle.std.specs.Prelude.{Bool, true, false, ◌&&◌, List, [], ◌∷◌, ℕ, ◌+◌, ◌*◌, ◌-◌, min, eqb, leb, ltb, length, Result, Ok, Err, if◌then◌else◌}
 use Rattle.texts.specs.declared.number.Mistake.{Mistake}
-use Rattle.texts.specs.declared.number.Number.{Number}
 
 -- a byte from `0` to `9`
 unfoldable pub is_digit : ℕ → Bool
@@ -24,8 +23,8 @@ value_of v [] = v
 value_of v (c ∷ cs) = value_of (grown v c) cs
 
 -- the number that a word is, where it may be at most this
-unfoldable pub number_of : ℕ → List ℕ → Number
+unfoldable pub number_of : ℕ → List ℕ → Result ℕ Mistake
 number_of most word =
-    if eqb (length word) 0 then Number.Wrong Mistake.Missing
-    else if digital word then (if ltb most (value_of 0 word) then Number.Wrong Mistake.TooLarge else Number.Value (value_of 0 word))
-    else Number.Wrong Mistake.NoNumber
+    if eqb (length word) 0 then Err Mistake.Missing
+    else if digital word then (if ltb most (value_of 0 word) then Err Mistake.TooLarge else Ok (value_of 0 word))
+    else Err Mistake.NoNumber

@@ -3,8 +3,6 @@ ghost use Rattle.std.specs.Prelude.{◌≡◌, ◌≤◌};
 ghost use Rattle.texts.specs.declared.kind.Kind.{Kind};
 ghost use Rattle.texts.specs.Kind.{event_named, kind_named, fields_of, most_of, part_of, has_items};
 
-use crate::word::same;
-
 #[derive(Clone, Copy)]
 pub enum Kind {
     Task,
@@ -19,106 +17,73 @@ pub enum Kind {
     Job,
 }
 
-// What a word names: a kind of record, a job, or nothing.
-#[derive(Clone, Copy)]
-pub enum Named {
-    Is(Kind),
-    Nothing,
-}
-
-// Of an event or a job.
-fn event_named(word: &[u8]) -> Named
+// Of an event or a job. Not a `match` on byte strings: of each arm the prover knows the length alone.
+fn event_named(word: &[u8]) -> Option<Kind>
     ensures { result ≡ event_named word.now }
 {
-    if same(word, b"release") {
-        return Named::Is(Kind::Release);
+    if word == b"release".as_slice() {
+        Some(Kind::Release)
+    } else if word == b"acquire".as_slice() {
+        Some(Kind::Acquire)
+    } else if word == b"unlock".as_slice() {
+        Some(Kind::Unlock)
+    } else if word == b"work".as_slice() {
+        Some(Kind::Work)
+    } else if word == b"finish".as_slice() {
+        Some(Kind::Finish)
+    } else if word == b"tick".as_slice() {
+        Some(Kind::Tick)
+    } else if word == b"job".as_slice() {
+        Some(Kind::Job)
+    } else {
+        None
     }
-    if same(word, b"acquire") {
-        return Named::Is(Kind::Acquire);
-    }
-    if same(word, b"unlock") {
-        return Named::Is(Kind::Unlock);
-    }
-    if same(word, b"work") {
-        return Named::Is(Kind::Work);
-    }
-    if same(word, b"finish") {
-        return Named::Is(Kind::Finish);
-    }
-    if same(word, b"tick") {
-        return Named::Is(Kind::Tick);
-    }
-    if same(word, b"job") {
-        return Named::Is(Kind::Job);
-    }
-    Named::Nothing
 }
 
-pub fn kind_named(word: &[u8]) -> Named
+// The kind of record that a word names, or a job.
+pub fn kind_named(word: &[u8]) -> Option<Kind>
     ensures { result ≡ kind_named word.now }
 {
-    if same(word, b"task") {
-        return Named::Is(Kind::Task);
+    if word == b"task".as_slice() {
+        Some(Kind::Task)
+    } else if word == b"lock".as_slice() {
+        Some(Kind::Lock)
+    } else if word == b"use".as_slice() {
+        Some(Kind::Use)
+    } else {
+        event_named(word)
     }
-    if same(word, b"lock") {
-        return Named::Is(Kind::Lock);
-    }
-    if same(word, b"use") {
-        return Named::Is(Kind::Use);
-    }
-    event_named(word)
 }
 
 // How many numbers it has.
+#[tactic(auto, unfolding(crate::specs::Kind::fields_of))]
 pub fn fields(kind: Kind) -> u8
     ensures value { result ≡ fields_of kind }
     ensures upper_bound { result ≤ 2 }
 {
     match kind {
-        Kind::Task => 2,
-        Kind::Lock => 2,
-        Kind::Use => 2,
-        Kind::Release => 1,
-        Kind::Acquire => 1,
-        Kind::Unlock => 1,
-        Kind::Work => 1,
-        Kind::Finish => 0,
-        Kind::Tick => 0,
-        Kind::Job => 1,
+        Kind::Task | Kind::Lock | Kind::Use => 2,
+        Kind::Release | Kind::Acquire | Kind::Unlock | Kind::Work | Kind::Job => 1,
+        Kind::Finish | Kind::Tick => 0,
     }
 }
 
-// The most that a lock's number w may be: its ceiling is one byte, its limit two.
-fn lock_most(w: u8) -> u32
-    ensures value { result ≡ most_of Kind.Lock w }
-    ensures upper_bound { result ≤ 65535 }
-{
-    if w == 0 {
-        return 255;
-    }
-    65535
-}
-
-// The most that its number w may be.
+// The most that its number w may be. Of a lock's two its ceiling is one byte, its limit two.
+#[tactic(auto, unfolding(crate::specs::Kind::most_of))]
 pub fn most(kind: Kind, w: u8) -> u32
     ensures value { result ≡ most_of kind w }
     ensures upper_bound { result ≤ 65535 }
 {
     match kind {
-        Kind::Task => 255,
-        Kind::Lock => lock_most(w),
-        Kind::Use => 255,
-        Kind::Release => 255,
-        Kind::Acquire => 255,
-        Kind::Unlock => 255,
+        Kind::Lock => if w == 0 { 255 } else { 65535 },
         Kind::Work => 65535,
-        Kind::Finish => 255,
-        Kind::Tick => 255,
-        Kind::Job => 255,
+        Kind::Task | Kind::Use | Kind::Release | Kind::Acquire => 255,
+        Kind::Unlock | Kind::Finish | Kind::Tick | Kind::Job => 255,
     }
 }
 
 // The part of a book that it belongs to: 0 tasks, 1 locks, 2 uses, 3 events.
+#[tactic(auto, unfolding(crate::specs::Kind::part_of))]
 pub fn part(kind: Kind) -> u8
     ensures { result ≡ part_of kind }
 {
@@ -126,30 +91,15 @@ pub fn part(kind: Kind) -> u8
         Kind::Task => 0,
         Kind::Lock => 1,
         Kind::Use => 2,
-        Kind::Release => 3,
-        Kind::Acquire => 3,
-        Kind::Unlock => 3,
-        Kind::Work => 3,
-        Kind::Finish => 3,
-        Kind::Tick => 3,
-        Kind::Job => 3,
+        Kind::Release | Kind::Acquire | Kind::Unlock | Kind::Work => 3,
+        Kind::Finish | Kind::Tick | Kind::Job => 3,
     }
 }
 
 // Whether items stand after its numbers, or may.
+#[tactic(auto, unfolding(crate::specs::Kind::has_items))]
 pub fn has_items(kind: Kind) -> bool
     ensures { result ≡ has_items kind }
 {
-    match kind {
-        Kind::Task => false,
-        Kind::Lock => false,
-        Kind::Use => false,
-        Kind::Release => false,
-        Kind::Acquire => false,
-        Kind::Unlock => false,
-        Kind::Work => false,
-        Kind::Finish => false,
-        Kind::Tick => false,
-        Kind::Job => true,
-    }
+    matches!(kind, Kind::Job)
 }

@@ -1,10 +1,10 @@
 // RULES 19.1 to 19.4: what one line says.
-ghost use Rattle.std.specs.Prelude.{◌≡◌, ◌≤◌, length};
-ghost use Rattle.texts.specs.Cut.{trimmed};
-ghost use Rattle.texts.specs.Line.{without_return, content_of, word_length, field_of, field_length, after_field, plain_line, job_line, ended, with_second, with_first, words_line, line_of, items_of};
+ghost use Rattle.std.specs.Prelude.{◌≡◌, ◌≤◌, take, drop};
+ghost use Rattle.texts.specs.Cut.{before, space, trimmed};
+ghost use Rattle.texts.specs.Line.{without_return, content_of, word_length, field_of, after_field, plain_line, job_line, ended, with_second, with_first, words_line, line_of, items_of};
 
-use crate::kind::{Kind, Named, fields, has_items, kind_named, most, part};
-use crate::number::{Mistake, Number, read_number};
+use crate::kind::{Kind, fields, has_items, kind_named, most, part};
+use crate::number::{Mistake, read_number};
 use crate::record::record;
 use crate::word::{find, spaces, without_spaces};
 use jobs::check_job;
@@ -27,51 +27,36 @@ pub enum Line {
 // A job's items have room for all events of a book.
 pub const JOB_ROOM: usize = MAX_EVENTS * 4;
 
-// The length without a carriage return at the end.
-fn without_return(line: &[u8]) -> usize
-    ensures value { result ≡ without_return line.now }
-    ensures upper_bound { result ≤ length line.now }
+// The line without a carriage return at the end.
+fn without_return(line: &[u8]) -> &[u8]
+    ensures { result.now ≡ take (without_return line.now) line.now }
 {
-    let n = line.len();
-    if n == 0 {
-        return n;
+    match line {
+        [front @ .., b'\r'] => front,
+        _ => line,
     }
-    if line[n - 1] == 13 {
-        return n - 1;
-    }
-    n
 }
 
-// The number w of a record, where the bytes start with its word. A record that has no such number takes 0.
-fn field(kind: Kind, w: u8, bytes: &[u8]) -> Number
-    ensures { result ≡ field_of kind w bytes.now }
+// The first word, and what comes after the spaces after it.
+fn split_word(bytes: &[u8]) -> (&[u8], &[u8])
+    ensures word { result.0.now ≡ before space bytes.now }
+    ensures rest { result.1.now ≡ drop (word_length bytes.now) bytes.now }
 {
-    if w < fields(kind) {
-        let n = find(bytes, b' ');
-        return read_number(&bytes[..n], most(kind, w));
-    }
-    Number::Value(0)
+    let (word, rest) = bytes.split_at(find(bytes, b' '));
+    (word, &rest[spaces(rest)..])
 }
 
-// How many bytes the first word has, with the spaces after it.
-fn word_length(bytes: &[u8]) -> usize
-    ensures value { result ≡ word_length bytes.now }
-    ensures upper_bound { result ≤ length bytes.now }
+// The number w of a record, where the bytes start with its word, and what comes after it. A record that has no such number
+// takes 0, and no byte.
+fn field(kind: Kind, w: u8, bytes: &[u8]) -> (Result<u32, Mistake>, &[u8])
+    ensures number { result.0 ≡ field_of kind w bytes.now }
+    ensures rest { result.1.now ≡ after_field kind w bytes.now }
 {
-    let n = find(bytes, b' ');
-    let m = spaces(&bytes[n..]);
-    n + m
-}
-
-// How many bytes the number w of a record takes, with the spaces after it.
-fn field_length(kind: Kind, w: u8, bytes: &[u8]) -> usize
-    ensures value { result ≡ field_length kind w bytes.now }
-    ensures upper_bound { result ≤ length bytes.now }
-{
-    if w < fields(kind) {
-        return word_length(bytes);
+    if w >= fields(kind) {
+        return (Ok(0), bytes);
     }
-    0
+    let (word, rest) = split_word(bytes);
+    (read_number(word, most(kind, w)), rest)
 }
 
 // After the numbers of a record nothing may stand.
@@ -79,10 +64,11 @@ fn plain_line(kind: Kind, a: u32, b: u32, bytes: &[u8]) -> Line
     requires { (a ≤ 65535) × (b ≤ 65535) }
     ensures { result ≡ plain_line kind a b bytes.now }
 {
-    if bytes.len() == 0 {
-        return Line::Record(part(kind), record(kind, a, b));
+    if bytes.is_empty() {
+        Line::Record(part(kind), record(kind, a, b))
+    } else {
+        Line::Wrong(kind, fields(kind) + 2, Mistake::TooMany)
     }
-    Line::Wrong(kind, fields(kind) + 2, Mistake::TooMany)
 }
 
 // Of a job with this release and these items.
@@ -90,8 +76,7 @@ fn job_line(w: u32, items: &[u8]) -> Line
     ensures { result ≡ job_line w items.now }
 {
     let job = check_job(items, JOB_ROOM);
-    let verdict = job.verdict;
-    match verdict {
+    match job.verdict {
         Ok(()) => Line::Job(w, job.events + 1),
         Err(Fault { why, place }) => Line::Refused(why, place),
     }
@@ -103,10 +88,10 @@ fn ended(kind: Kind, a: u32, b: u32, bytes: &[u8]) -> Line
     ensures { result ≡ ended kind a b bytes.now }
 {
     if has_items(kind) {
-        let n = without_spaces(bytes);
-        return job_line(record(kind, a, b), &bytes[..n]);
+        job_line(record(kind, a, b), &bytes[..without_spaces(bytes)])
+    } else {
+        plain_line(kind, a, b, bytes)
     }
-    plain_line(kind, a, b, bytes)
 }
 
 // Its second number.
@@ -114,11 +99,9 @@ fn with_second(kind: Kind, a: u32, bytes: &[u8]) -> Line
     requires { a ≤ 65535 }
     ensures { result ≡ with_second kind a (field_of kind 1 bytes.now) (after_field kind 1 bytes.now) }
 {
-    let second = field(kind, 1, bytes);
-    let n = field_length(kind, 1, bytes);
-    match second {
-        Number::Value(b) => ended(kind, a, b, &bytes[n..]),
-        Number::Wrong(mistake) => Line::Wrong(kind, 3, mistake),
+    match field(kind, 1, bytes) {
+        (Ok(b), rest) => ended(kind, a, b, rest),
+        (Err(mistake), _) => Line::Wrong(kind, 3, mistake),
     }
 }
 
@@ -126,11 +109,9 @@ fn with_second(kind: Kind, a: u32, bytes: &[u8]) -> Line
 fn with_first(kind: Kind, bytes: &[u8]) -> Line
     ensures { result ≡ with_first kind (field_of kind 0 bytes.now) (after_field kind 0 bytes.now) }
 {
-    let first = field(kind, 0, bytes);
-    let n = field_length(kind, 0, bytes);
-    match first {
-        Number::Value(a) => with_second(kind, a, &bytes[n..]),
-        Number::Wrong(mistake) => Line::Wrong(kind, 2, mistake),
+    match field(kind, 0, bytes) {
+        (Ok(a), rest) => with_second(kind, a, rest),
+        (Err(mistake), _) => Line::Wrong(kind, 2, mistake),
     }
 }
 
@@ -138,15 +119,13 @@ fn with_first(kind: Kind, bytes: &[u8]) -> Line
 fn words_line(bytes: &[u8]) -> Line
     ensures { result ≡ words_line bytes.now }
 {
-    if bytes.len() == 0 {
+    if bytes.is_empty() {
         return Line::Blank;
     }
-    let end = find(bytes, b' ');
-    let named = kind_named(&bytes[..end]);
-    let n = word_length(bytes);
-    match named {
-        Named::Is(kind) => with_first(kind, &bytes[n..]),
-        Named::Nothing => Line::Unknown,
+    let (name, rest) = split_word(bytes);
+    match kind_named(name) {
+        Some(kind) => with_first(kind, rest),
+        None => Line::Unknown,
     }
 }
 
@@ -154,12 +133,9 @@ fn words_line(bytes: &[u8]) -> Line
 fn words(line: &[u8]) -> &[u8]
     ensures { result.now ≡ trimmed (content_of line.now) }
 {
-    let n = without_return(line);
-    let whole = &line[..n];
-    let m = find(whole, b'#');
-    let content = &whole[..m];
-    let k = spaces(content);
-    &content[k..]
+    let whole = without_return(line);
+    let content = &whole[..find(whole, b'#')];
+    &content[spaces(content)..]
 }
 
 // Of a line without its newline.
@@ -173,11 +149,7 @@ pub fn line_of(line: &[u8]) -> Line
 pub fn items(line: &[u8]) -> &[u8]
     ensures { result.now ≡ items_of line.now }
 {
-    let bytes = words(line);
-    let n = word_length(bytes);
-    let after_name = &bytes[n..];
-    let m = field_length(Kind::Job, 0, after_name);
-    let after_task = &after_name[m..];
-    let k = without_spaces(after_task);
-    &after_task[..k]
+    let (_, after_name) = split_word(words(line));
+    let (_, after_task) = split_word(after_name);
+    &after_task[..without_spaces(after_task)]
 }

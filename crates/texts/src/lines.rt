@@ -1,14 +1,12 @@
 // RULES 19.1, 19.3, 19.4: the lines of a text, read one after the other.
-ghost use Rattle.std.specs.Prelude.{◌≡◌, [], ◌∷◌, ◌<◌, length};
+ghost use Rattle.std.specs.Prelude.{◌≡◌, [], ◌∷◌};
 ghost use Rattle.page.specs.Page.{page, typed};
 ghost use Rattle.rules.specs.Numbers.Place.{tabulate};
 ghost use Rattle.jobs.specs.Sheet.{record_in};
 ghost use Rattle.texts.specs.Line.{items_of, item_numbers};
 ghost use Rattle.texts.specs.Lines.{lines_of, read_lines, of_part, records_of, is_wrong, first_wrong, count_in, line_of_record};
-ghost use Rattle.texts.specs.At.{LineAt};
 
 use crate::line::{JOB_ROOM, Line, items, line_of};
-use crate::word::find;
 use jobs::read_job;
 use jobs::record::record_at;
 
@@ -19,47 +17,14 @@ pub enum First {
     At(usize, Line),
 }
 
-// What a line says, where it ends, and where the next one starts.
-#[derive(Clone, Copy)]
-pub struct Read {
-    pub line: Line,
-    pub end: usize,
-    pub next: usize,
-}
-
-// The line that starts at place i.
-fn line_at(text: &[u8], i: usize) -> Read
-    requires { i < length text.now }
-    ensures { LineAt text.now i result.line result.end result.next }
-{
-    let rest = &text[i..];
-    let n = find(rest, 10);
-    let line = line_of(&rest[..n]);
-    let end = i + n;
-    if end < text.len() {
-        return Read {
-            line: line,
-            end,
-            next: end + 1,
-        };
-    }
-    Read {
-        line: line,
-        end,
-        next: end,
-    }
-}
-
+// Whether it has a mistake.
+#[tactic(auto, unfolding(crate::specs::Lines::is_wrong))]
 fn is_wrong(line: Line) -> bool
     ensures { result ≡ is_wrong line }
 {
     match line {
-        Line::Blank => false,
-        Line::Record(_, _) => false,
-        Line::Job(_, _) => false,
-        Line::Unknown => true,
-        Line::Wrong(_, _, _) => true,
-        Line::Refused(_, _) => true,
+        Line::Blank | Line::Record(_, _) | Line::Job(_, _) => false,
+        Line::Unknown | Line::Wrong(_, _, _) | Line::Refused(_, _) => true,
     }
 }
 
@@ -67,16 +32,11 @@ fn is_wrong(line: Line) -> bool
 pub fn first_wrong(text: &[u8]) -> First
     ensures { result ≡ first_wrong 0 (read_lines text.now) }
 {
-    let mut n: usize = 0;
-    let mut i: usize = 0;
-    while i < text.len() {
-        let read = line_at(text, i);
-        let line = read.line;
-        n += 1;
+    for (i, bytes) in text.split(|&c| c == b'\n').enumerate() {
+        let line = line_of(bytes);
         if is_wrong(line) {
-            return First::At(n, line);
+            return First::At(i + 1, line);
         }
-        i = read.next;
     }
     First::None
 }
@@ -97,10 +57,8 @@ fn put_records(out: &mut [u32], place: usize, space: &[u8], n: usize) -> usize
     ensures { page out.new result ≡ typed (page out.old place) (tabulate n (record_in space.now)) }
 {
     let mut next = place;
-    let mut i: usize = 0;
-    while i < n {
+    for i in 0..n {
         next = put(out, next, record_at(space, i));
-        i += 1;
     }
     next
 }
@@ -115,27 +73,25 @@ fn put_items(out: &mut [u32], place: usize, items: &[u8]) -> usize
 }
 
 // The numbers of a line that says records of this part.
+#[tactic(auto, using(crate::proofs::Split::keeps))]
 fn keep(out: &mut [u32], place: usize, line: Line, bytes: &[u8], part: u8) -> usize
     ensures { page out.new result ≡ typed (page out.old place) (of_part part line (items_of bytes.now)) }
 {
     match line {
-        Line::Blank => place,
-        Line::Record(p, number) => {
-            if p == part {
-                return put(out, place, number);
-            }
+        Line::Record(p, number) => if p == part {
+            put(out, place, number)
+        } else {
             place
-        }
+        },
         Line::Job(number, _) => {
             if part == 3 {
                 let next = put(out, place, number);
-                return put_items(out, next, items(bytes));
+                put_items(out, next, items(bytes))
+            } else {
+                place
             }
-            place
         }
-        Line::Unknown => place,
-        Line::Wrong(_, _, _) => place,
-        Line::Refused(_, _) => place,
+        Line::Blank | Line::Unknown | Line::Wrong(_, _, _) | Line::Refused(_, _) => place,
     }
 }
 
@@ -143,39 +99,22 @@ fn keep(out: &mut [u32], place: usize, line: Line, bytes: &[u8], part: u8) -> us
 pub fn collect(text: &[u8], part: u8, out: &mut [u32]) -> usize
     ensures { page out.new result ≡ typed (page out.old 0) (records_of part (lines_of text.now)) }
 {
-    let mut place: usize = 0;
-    let mut i: usize = 0;
-    while i < text.len() {
-        let read = line_at(text, i);
-        let line = read.line;
-        let end = read.end;
-        place = keep(out, place, line, &text[i..end], part);
-        i = read.next;
+    let mut place = 0;
+    for bytes in text.split(|&c| c == b'\n') {
+        place = keep(out, place, line_of(bytes), bytes, part);
     }
     place
 }
 
 // How many records of a part a line says.
+#[tactic(auto, unfolding(crate::specs::Lines::count_in))]
 fn count_in(line: Line, part: u8) -> usize
     ensures { result ≡ count_in part line }
 {
     match line {
-        Line::Blank => 0,
-        Line::Record(p, _) => {
-            if p == part {
-                return 1;
-            }
-            0
-        }
-        Line::Job(_, n) => {
-            if part == 3 {
-                return n;
-            }
-            0
-        }
-        Line::Unknown => 0,
-        Line::Wrong(_, _, _) => 0,
-        Line::Refused(_, _) => 0,
+        Line::Record(p, _) => if p == part { 1 } else { 0 },
+        Line::Job(_, n) => if part == 3 { n } else { 0 },
+        Line::Blank | Line::Unknown | Line::Wrong(_, _, _) | Line::Refused(_, _) => 0,
     }
 }
 
@@ -184,18 +123,12 @@ pub fn line_of_record(text: &[u8], part: u8, k: usize) -> usize
     ensures { result ≡ line_of_record part k 0 (read_lines text.now) }
 {
     let mut left = k;
-    let mut n: usize = 0;
-    let mut i: usize = 0;
-    while i < text.len() {
-        let read = line_at(text, i);
-        let line = read.line;
-        n += 1;
-        let count = count_in(line, part);
+    for (i, bytes) in text.split(|&c| c == b'\n').enumerate() {
+        let count = count_in(line_of(bytes), part);
         if left < count {
-            return n;
+            return i + 1;
         }
         left -= count;
-        i = read.next;
     }
     0
 }

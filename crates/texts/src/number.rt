@@ -1,6 +1,6 @@
 // RULES 19.2: a number in decimal digits.
-ghost use Rattle.std.specs.Prelude.{◌≡◌, ◌≤◌};
-ghost use Rattle.texts.specs.Number.{too_large, is_digit, digital, grown, value_of, number_of};
+ghost use Rattle.std.specs.Prelude.{◌≡◌};
+ghost use Rattle.texts.specs.Number.{digital, grown, value_of, number_of};
 
 // What is wrong with the word where a number stands, or after the last one.
 #[derive(Clone, Copy)]
@@ -11,78 +11,47 @@ pub enum Mistake {
     TooMany,
 }
 
-#[derive(Clone, Copy)]
-pub enum Number {
-    Value(u32),
-    Wrong(Mistake),
-}
+// More than any number of a record; all numbers from it on are alike.
+const TOO_LARGE: u32 = 65536;
 
-fn is_digit(c: u8) -> bool
-    ensures { result ≡ is_digit c }
+// A number with one digit more.
+fn with_digit(v: u32, c: u8) -> u32
+    ensures { result ≡ grown v c }
 {
-    if c < 48 {
-        return false;
+    if c < b'0' {
+        return v;
     }
-    c <= 57
+    v.saturating_mul(10)
+        .saturating_add(u32::from(c - b'0'))
+        .min(TOO_LARGE)
 }
 
 // Whether all bytes are digits.
 fn all_digits(word: &[u8]) -> bool
     ensures { result ≡ digital word.now }
 {
-    let n = word.len();
-    let mut i: usize = 0;
-    while i < n {
-        if !is_digit(word[i]) {
-            return false;
-        }
-        i += 1;
-    }
-    true
-}
-
-// A number with one digit more; all that are larger than any record takes are alike.
-fn with_digit(v: u32, c: u8) -> u32
-    requires { v ≤ too_large }
-    ensures value { result ≡ grown v c }
-    ensures upper_bound { result ≤ too_large }
-{
-    if c < 48 {
-        return v;
-    }
-    let w = v * 10 + (c - 48) as u32;
-    if w < 65536 {
-        return w;
-    }
-    65536
+    word.iter().all(|c| c.is_ascii_digit())
 }
 
 fn value(word: &[u8]) -> u32
     ensures { result ≡ value_of 0 word.now }
 {
-    let n = word.len();
-    let mut v: u32 = 0;
-    let mut i: usize = 0;
-    while i < n {
-        v = with_digit(v, word[i]);
-        i += 1;
-    }
-    v
+    word.iter().fold(0, |v, &c| with_digit(v, c))
 }
 
 // The number that a word is, where it may be at most this.
-pub fn read_number(word: &[u8], most: u32) -> Number
+pub fn read_number(word: &[u8], most: u32) -> Result<u32, Mistake>
     ensures { result ≡ number_of most word.now }
 {
-    if word.len() == 0 {
-        return Number::Wrong(Mistake::Missing);
+    if word.is_empty() {
+        return Err(Mistake::Missing);
     }
     if !all_digits(word) {
-        return Number::Wrong(Mistake::NoNumber);
+        return Err(Mistake::NoNumber);
     }
     let v = value(word);
     if v > most {
-        return Number::Wrong(Mistake::TooLarge);
+        return Err(Mistake::TooLarge);
     }
-    Number::Value(v)
+    Ok(v)
 }

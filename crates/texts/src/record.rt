@@ -5,6 +5,7 @@ ghost use Rattle.texts.specs.Kind.{record_of};
 use crate::kind::Kind;
 
 // The record as one number, low byte first, from its numbers; of a job the release that it starts with.
+#[tactic(auto, unfolding(crate::specs::Kind::record_of, rules::specs::Books::Event::kind_of, rules::specs::Books::Event::id_of, rules::specs::Books::Event::amount_of))]
 pub fn record(kind: Kind, a: u32, b: u32) -> u32
     requires { (a ≤ 65535) × (b ≤ 65535) }
     ensures { result ≡ record_of kind a b }

@@ -7,15 +7,7 @@ pub fn find(bytes: &[u8], x: u8) -> usize
     ensures value { result ≡ up_to x bytes.now }
     ensures upper_bound { result ≤ length bytes.now }
 {
-    let n = bytes.len();
-    let mut i: usize = 0;
-    while i < n {
-        if bytes[i] == x {
-            return i;
-        }
-        i += 1;
-    }
-    n
+    bytes.iter().position(|&c| c == x).unwrap_or(bytes.len())
 }
 
 // How many spaces stand at the start.
@@ -23,15 +15,7 @@ pub fn spaces(bytes: &[u8]) -> usize
     ensures value { result ≡ spaces_of bytes.now }
     ensures upper_bound { result ≤ length bytes.now }
 {
-    let n = bytes.len();
-    let mut i: usize = 0;
-    while i < n {
-        if bytes[i] != b' ' {
-            return i;
-        }
-        i += 1;
-    }
-    n
+    bytes.iter().take_while(|&&c| c == b' ').count()
 }
 
 // How many bytes stand before the spaces at the end.
@@ -39,30 +23,12 @@ pub fn without_spaces(bytes: &[u8]) -> usize
     ensures value { result ≡ without_spaces bytes.now }
     ensures upper_bound { result ≤ length bytes.now }
 {
-    let mut n = bytes.len();
-    while n > 0 {
-        if bytes[n - 1] != b' ' {
-            return n;
-        }
-        n -= 1;
-    }
-    n
+    bytes.len() - bytes.iter().rev().take_while(|&&c| c == b' ').count()
 }
 
 // Whether two words are the same.
 pub fn same(word: &[u8], name: &[u8]) -> bool
     ensures { result ≡ same word.now name.now }
 {
-    let n = word.len();
-    if n != name.len() {
-        return false;
-    }
-    let mut i: usize = 0;
-    while i < n {
-        if word[i] != name[i] {
-            return false;
-        }
-        i += 1;
-    }
-    true
+    word == name
 }

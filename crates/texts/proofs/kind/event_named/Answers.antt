@@ -2,37 +2,38 @@
 use Rattle.rules.proofs.Numbers.Choice.{flags}
 use Rattle.page.specs.Ascii.{ascii}
 use Rattle.std.proofs.Common.{rules}
+use Rattle.texts.proofs.Cuts.{same_is}
 use Rattle.texts.specs.Kind.{event_named}
 use Rattle.texts.proofs.kind.event_named.Goals as goal
 
-pub returns-then-same : goal.returns-then-same
+pub returns-then-eq : goal.returns-then-eq
 unfolding ascii event_named
-returns-then-same c = search (flags, rules)
+returns-then-eq c = simp same_is (search (flags, rules))
 
-pub returns-then-same-2 : goal.returns-then-same-2
+pub returns-then-eq-2 : goal.returns-then-eq-2
 unfolding ascii event_named
-returns-then-same-2 c = search (flags, rules)
+returns-then-eq-2 c = simp same_is (search (flags, rules))
 
-pub returns-then-same-3 : goal.returns-then-same-3
+pub returns-then-eq-3 : goal.returns-then-eq-3
 unfolding ascii event_named
-returns-then-same-3 c = search (flags, rules)
+returns-then-eq-3 c = simp same_is (search (flags, rules))
 
-pub returns-then-same-4 : goal.returns-then-same-4
+pub returns-then-eq-4 : goal.returns-then-eq-4
 unfolding ascii event_named
-returns-then-same-4 c = search (flags, rules)
+returns-then-eq-4 c = simp same_is (search (flags, rules))
 
-pub returns-then-same-5 : goal.returns-then-same-5
+pub returns-then-eq-5 : goal.returns-then-eq-5
 unfolding ascii event_named
-returns-then-same-5 c = search (flags, rules)
+returns-then-eq-5 c = simp same_is (search (flags, rules))
 
-pub returns-then-same-6 : goal.returns-then-same-6
+pub returns-then-eq-6 : goal.returns-then-eq-6
 unfolding ascii event_named
-returns-then-same-6 c = search (flags, rules)
+returns-then-eq-6 c = simp same_is (search (flags, rules))
 
-pub returns-then-same-7 : goal.returns-then-same-7
+pub returns-then-eq-7 : goal.returns-then-eq-7
 unfolding ascii event_named
-returns-then-same-7 c = search (flags, rules)
+returns-then-eq-7 c = simp same_is (search (flags, rules))
 
-pub returns : goal.returns
+pub returns-else-eq-7 : goal.returns-else-eq-7
 unfolding ascii event_named
-returns c = search (flags, rules)
+returns-else-eq-7 c = simp same_is (search (flags, rules))

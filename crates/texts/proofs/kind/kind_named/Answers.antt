@@ -2,21 +2,22 @@
 use Rattle.rules.proofs.Numbers.Choice.{flags}
 use Rattle.page.specs.Ascii.{ascii}
 use Rattle.std.proofs.Common.{rules}
+use Rattle.texts.proofs.Cuts.{same_is}
 use Rattle.texts.specs.Kind.{kind_named}
 use Rattle.texts.proofs.kind.kind_named.Goals as goal
 
-pub returns-then-same : goal.returns-then-same
+pub returns-then-eq : goal.returns-then-eq
 unfolding ascii kind_named
-returns-then-same c = search (flags, rules)
+returns-then-eq c = simp same_is (search (flags, rules))
 
-pub returns-then-same-2 : goal.returns-then-same-2
+pub returns-then-eq-2 : goal.returns-then-eq-2
 unfolding ascii kind_named
-returns-then-same-2 c = search (flags, rules)
+returns-then-eq-2 c = simp same_is (search (flags, rules))
 
-pub returns-then-same-3 : goal.returns-then-same-3
+pub returns-then-eq-3 : goal.returns-then-eq-3
 unfolding ascii kind_named
-returns-then-same-3 c = search (flags, rules)
+returns-then-eq-3 c = simp same_is (search (flags, rules))
 
-pub returns : goal.returns
+pub returns-else-eq-3 : goal.returns-else-eq-3
 unfolding ascii kind_named
-returns c = search (flags, rules)
+returns-else-eq-3 c = simp same_is (search (flags, rules))

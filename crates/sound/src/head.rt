@@ -8,7 +8,7 @@ ghost use Rattle.sound.specs.TasksSound.{TasksSound};
 
 use crate::rank::{greatest_kept, rank_of};
 use figures::priority::at_most;
-use rules::capacity::{MAX_ACCEPTED, MAX_TASKS, NOBODY};
+use rules::capacity::{MAX_ACCEPTED, NOBODY};
 use rules::plan::Plan;
 use rules::priority::{KernelPriority, UserPriority};
 use rules::protocol::Protocol;
@@ -16,14 +16,15 @@ use rules::state::State;
 
 // Nobody runs and none is released, or a released task runs.
 #[tactic(auto, using(crate::proofs::Tests::turns), unfolding(rules::specs::Soundness::SoundTest::runs_test))]
-fn runs_sound(released: &[u32; MAX_TASKS], n: usize, r: u8) -> bool
-    requires { n ≤ max_tasks }
-    ensures { result ≡ runs_test released.now n r }
+fn runs_sound(p: &Plan, s: &State) -> bool
+    requires { p.now.tasks ≤ max_tasks }
+    ensures { result ≡ runs_test s.now.released p.now.tasks s.now.head.running }
 {
-    if r == NOBODY {
-        released[..n].iter().all(|y| *y == 0)
+    if s.head.running == NOBODY {
+        s.released[..p.tasks].iter().all(|y| *y == 0)
     } else {
-        (r as usize) < n && 0 < released[r as usize]
+        let x = s.head.running as usize;
+        x < p.tasks && 0 < s.released[x]
     }
 }
 
@@ -53,7 +54,7 @@ pub fn head_sound(protocol: Protocol, p: &Plan, s: &State) -> bool
     h.accepted <= MAX_ACCEPTED
         && h.eager <= h.accepted
         && h.lazy <= h.accepted
-        && runs_sound(&s.released, p.tasks, h.running)
+        && runs_sound(p, s)
         && h.user == rank_of(p, s, h.running as usize)
         && second_sound(protocol, h.next, h.user, greatest_kept(p.tasks, &s.kept))
 }

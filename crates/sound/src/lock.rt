@@ -20,11 +20,7 @@ fn owner_sound(p: &Plan, s: &State, l: usize) -> bool
     ensures { result ≡ eqb (at s.now.owner l) (owner_of (figures_of s.now) p.now.tasks l) }
 {
     let o = s.owner[l] as usize;
-    if o == 0 {
-        true
-    } else {
-        o <= p.tasks && has_lock(s.takes[o - 1], s.depth[o - 1], l as u8)
-    }
+    o == 0 || (o <= p.tasks && has_lock(s.takes[o - 1], s.depth[o - 1], l as u8))
 }
 
 // Its owner is named rightly, and its units are within its limit, 0 where it is closed.

@@ -59,15 +59,15 @@ fn number_new(released: &[u32; MAX_TASKS], y: u32, x: usize) -> bool
 // A task is not released and has no takes, or its release number is in range and no earlier
 // task's.
 #[tactic(auto, using(crate::proofs::Tests::turns), unfolding(rules::specs::Soundness::SoundTest::number_test))]
-fn number_sound(accepted: u32, released: &[u32; MAX_TASKS], depth: u8, x: usize) -> bool
+fn number_sound(s: &State, x: usize) -> bool
     requires { x < max_tasks }
-    ensures { result ≡ number_test accepted released.now depth x }
+    ensures { result ≡ number_test s.now.head.accepted s.now.released (at s.now.depth x) x }
 {
-    let y = released[x];
+    let y = s.released[x];
     if y == 0 {
-        depth == 0
+        s.depth[x] == 0
     } else {
-        y <= accepted && number_new(released, y, x)
+        y <= s.head.accepted && number_new(&s.released, y, x)
     }
 }
 
@@ -105,7 +105,7 @@ fn task_sound(p: &Plan, s: &State, x: usize) -> bool
     k <= MAX_TAKES
         && row_sound(p.locks, p.uses[x], row, k)
         && own_sound(&s.owner, x, row, k)
-        && number_sound(s.head.accepted, &s.released, k, x)
+        && number_sound(s, x)
         && s.delay[x] <= MAX_DELAY
         && kept_sound(p, s, x)
         && saved_sound(p, s, x)

@@ -10,12 +10,12 @@ use Rattle.sound.proofs.Places.{every_lists}
 use Rattle.sound.proofs.Tests.{turns}
 use Rattle.sound.proofs.head.runs_sound.Goals as goal
 
-pub returns-then-r-eq-NOBODY : goal.returns-then-r-eq-NOBODY
+pub returns-then-s : goal.returns-then-s
 unfolding runs_test
-returns-then-r-eq-NOBODY c =
-    let listed : c.all.result ≡ list_all (λ y. eqb y 0) (take c.args.n c.args.released.now) =
+returns-then-s c =
+    let listed : c.all.result ≡ list_all (λ y. eqb y 0) (take c.args.p.now.tasks c.args.s.now.released) =
     all_from_yields_List (λ y. eqb y 0) _ _ c.all.result c.all.ensures.ran
-    (YieldsList-from_slice (take c.args.n c.args.released.now) (search rules)) (λ x b q k. search (rules, tests)) in
-    let asked : c.all.result ≡ every (λ x. eqb (at c.args.released.now x) 0) c.args.n =
-    listed ∙ every_lists c.args.released.now (λ y. eqb y 0) c.args.n (omega arith) in
+    (YieldsList-from_slice (take c.args.p.now.tasks c.args.s.now.released) (search rules)) (λ x b q k. search (rules, tests)) in
+    let asked : c.all.result ≡ every (λ x. eqb (at c.args.s.now.released x) 0) c.args.p.now.tasks =
+    listed ∙ every_lists c.args.s.now.released (λ y. eqb y 0) c.args.p.now.tasks (omega arith) in
     grind (arith, turns, asked)

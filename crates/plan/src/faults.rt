@@ -40,7 +40,7 @@ fn use_fault(n: usize, m: usize, uses: &[u16], i: usize) -> bool
     let u = UseRecord::from(uses[i]);
     n <= usize::from(u.task)
         || m <= usize::from(u.lock)
-        || (0 < i && u <= UseRecord::from(uses[i - 1]))
+        || (0 < i && u.key() <= UseRecord::from(uses[i - 1]).key())
 }
 
 fn first_use(n: usize, m: usize, uses: &[u16]) -> Option<usize>

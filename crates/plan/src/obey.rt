@@ -16,8 +16,8 @@ fn task_obeys(p: &Plan, t: usize) -> bool
     requires { (t < max_tasks) × (p.now.locks ≤ max_locks) }
     ensures { result ≡ task_obeys p.now t }
 {
-    let (base, maximum) = (p.base[t], p.maximum[t]);
-    base != 0 && base <= maximum && u64::from(p.uses[t]) < 1u64 << p.locks
+    let (base, maximum, uses) = (p.base[t], p.maximum[t], p.uses[t]);
+    base != 0 && base <= maximum && u64::from(uses) < 1u64 << p.locks
 }
 
 pub fn tasks_obey(p: &Plan) -> bool

@@ -1,5 +1,5 @@
 // The records of a plan, each from its number, low byte first.
-ghost use Rattle.std.specs.Prelude.{◌≡◌};
+ghost use Rattle.std.specs.Prelude.{◌≡◌, ◌+◌, ◌*◌};
 ghost use Rattle.rules.specs.Books.Load.{task_base, task_maximum, lock_ceiling, lock_second, lock_limit, use_task, use_lock};
 ghost use Rattle.rules.specs.Books.Plan.{lock_fault, task_fault};
 
@@ -59,8 +59,7 @@ impl LockRecord {
     }
 }
 
-// Uses are in order by task, and by lock where the task is the same.
-#[derive(Clone, Copy, PartialEq, Eq, PartialOrd, Ord)]
+#[derive(Clone, Copy)]
 pub struct UseRecord {
     pub task: u8,
     pub lock: u8,
@@ -72,5 +71,15 @@ impl From<u16> for UseRecord {
     fn from(w: u16) -> Self {
         let [task, lock] = w.to_le_bytes();
         UseRecord { task, lock }
+    }
+}
+
+impl UseRecord {
+    // Uses are in order by task, and by lock where the task is the same. The order is of one number, and not
+    // derived, which would ask twice and make a load of many uses take half as long again.
+    pub fn key(self) -> u16
+        ensures { result ≡ self.task * 256 + self.lock }
+    {
+        u16::from_be_bytes([self.task, self.lock])
     }
 }

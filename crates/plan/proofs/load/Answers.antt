@@ -1,15 +1,12 @@
 -- `plan::load` meets its contract. Each check is asked where those before it found no offender.
-use Rattle.std.specs.Prelude.{Err}
-use Rattle.std.proofs.Common.{rules, ap, ◌∙◌}
-use Rattle.std.proofs.lemmas.Result.{err_from_is_err_and}
-use Rattle.rules.specs.declared.answer.Fault.{Fault}
+use Rattle.std.proofs.Common.{rules}
+use Rattle.rules.proofs.Numbers.Checks.{handed_on}
 use Rattle.plan.proofs.Order.{refused_record, few_records, known, placed, plan_fits, wrong_ceiling, above_maximum, all_right}
 use Rattle.plan.proofs.load.Goals as goal
 
 pub returns-in_err-first_record : goal.returns-in_err-first_record
 returns-in_err-first_record c =
-    let (f, is, same) = err_from_is_err_and c.from_residual.result c.from_residual.ensures.1 in
-    refused_record _ _ _ _ f is (ap (λ (g : Fault). Err g) same ∙ c.in_err-first_record.ensures)
+    refused_record _ _ _ _ _ (handed_on _ _ c.from_residual.ensures.1) c.in_err-first_record.ensures
 
 pub built-plan-requires-clause-tasks_len_bound : goal.built-plan-requires-clause-tasks_len_bound
 built-plan-requires-clause-tasks_len_bound c = few_records _ _ _ c.in_ok-first_record.ensures

@@ -1,5 +1,7 @@
 -- Checks in order, each by the name of its refusal: what the first that finds an offender says, and what is known where none does. Assumes nothing.
-use Rattle.std.specs.Prelude.{Ok, Err}
+use Rattle.std.specs.Result.{IsErrAnd}
+use Rattle.std.proofs.lemmas.Result.{err_from_is_err_and}
+use Rattle.std.specs.Prelude.{Result, Ok, Err}
 use Rattle.rules.specs.Numbers.Verdict.{Verdict, refused_at}
 use mathlib.Core.Path.{◌≡◌, refl, sym, ◌∙◌, ap, ap₂}
 use mathlib.Core.Logic.{◌↔◌, ⊎_elim}
@@ -33,6 +35,10 @@ same_refused : (a b : Refusal) (i j : ℕ) → refused_at a i ≡ refused_at b j
 same_refused a b i j e =
     let same : ◌≡◌ {A = Fault} (record { why = a; place = i }) (record { why = b; place = j }) = cc in
     (ap (λ (f : Fault). f.why) same, ap (λ (f : Fault). f.place) same)
+
+-- what `?` hands on is the fault that it met
+pub handed_on : {T : Type 0} (r : Result T Fault) (g : Fault) → IsErrAnd r (λ f. f ≡ g) → r ≡ Err g
+handed_on r g h = let (f, is, same) = err_from_is_err_and r h in is ∙ ap (λ (x : Fault). Err x) same
 
 pub check_none : first_fault [] ≡ Ok tt
 unfolding first_fault

@@ -9,18 +9,18 @@ use lib.ListN.{length, take, drop, length-drop}
 use lib.Seq.{take_all}
 use borrow.Author.Tests.{lt-ltb, le-ltb, ltb-false, eqb-true, eq-eqb, ne_eqb, not-false}
 use Rattle.rules.specs.Numbers.Capacity.{max_tasks, max_locks, max_uses}
-use Rattle.rules.specs.Numbers.Verdict.{Verdict, refused_at}
-use Rattle.std.proofs.Common.{Option, Some, None, Ok, if◌then◌else◌}
+use Rattle.rules.specs.Numbers.Verdict.{Verdict, fault_at, refused_at}
+use Rattle.std.proofs.Common.{Option, Some, None, Result, Ok, Err, if◌then◌else◌}
 use Rattle.std.specs.List.{position, range_with_len}
 use Rattle.rules.specs.Numbers.Place.{first_from}
 use Rattle.rules.specs.Numbers.Refusal.{number_of, first_fault, check_for}
 use Rattle.rules.specs.Books.Plan.{most, count_fault}
-use Rattle.rules.specs.Books.Load.{load_of, load_checks}
+use Rattle.rules.specs.Books.Load.{Loaded, load_of, loaded_with, load_checks}
 use Rattle.rules.specs.Books.Book.{contents, count_at, body_at, layout_fault, tasks_of, locks_of, uses_of, plan_in, event_body, record_fault}
-use Rattle.rules.specs.Books.Book.{contents_checks, event_checks, check_of, passed_check, refused_check, checked_as, checked_of}
+use Rattle.rules.specs.Books.Book.{contents_checks, event_checks, check_of, passed_check, checked_as, checked_of, checked_with}
 use Rattle.rules.specs.declared.plan.Plan.{Plan}
-use Rattle.rules.specs.Books.Load.{Loaded}
-use Rattle.rules.specs.Books.Book.{Checked}
+use Rattle.rules.specs.declared.answer.Fault.{Fault}
+use Rattle.rules.specs.declared.answer.Opened.{Opened}
 use Rattle.rules.specs.declared.refusal.Refusal.{Refusal}
 use Rattle.rules.specs.declared.refusal.Refusal.TheVariants.{ShortBook, WrongCount, WrongLayout, WrongEvent, ShortRows}
 use Rattle.rules.proofs.Numbers.Choice.{or_false}
@@ -74,10 +74,10 @@ module _ (b : List ℕ) where
             sym (check_passes _ _ 1 one (omega arith) ∙ check_passes _ _ e count counts
             ∙ check_passes _ _ l refl (first_no_more (layout_fault b) 4 entries (last ∙ ap not (eq-eqb r (length b) h))) ∙ check_none)
 
-  pub laid_out : (v : Verdict) → v ≡ first_fault (contents_checks b) → v ≡ Ok tt → Laid b
+  pub laid_out : Ok tt ≡ first_fault (contents_checks b) → Laid b
   unfolding contents_checks check_for number_of count_fault most layout_fault
-  laid_out v said passed =
-      let clean = clean_for (contents_checks b) (sym said ∙ passed) in
+  laid_out passed =
+      let clean = clean_for (contents_checks b) (sym passed) in
       record {
         whole = ltb-false (length b) contents (clean ShortBook 0 (omega arith));
         tasks = ltb-false max_tasks (count_at b 0) (or_false (eqb (count_at b 0) 0) _ (clean WrongCount 0 (omega arith))).1;
@@ -86,40 +86,45 @@ module _ (b : List ℕ) where
         ends = eqb-true (body_at b 4) (length b) (not-false (eqb (body_at b 4) (length b)) (clean WrongLayout 4 (omega arith)));
       }
 
-  -- a verdict of the contents is the book's, and where they pass the rest decides
-  module _ (room : ℕ) (v : Verdict) (said : v ≡ first_fault (contents_checks b)) where
-    pub refused_contents : (why : Refusal) (place : ℕ) (r : Checked) → v ≡ refused_at why place → r ≡ refused_check why place → r ≡ checked_of b room
-    unfolding check_of checked_as
-    refused_contents why place r e h = h ∙ ap (λ w. checked_as w b) (sym (check_left (contents_checks b) _ why place (sym said ∙ e)))
+  -- a refusal of the contents is the book's, and where they pass the rest decides
+  module _ (room : ℕ) (r : Result Opened Fault) where
+    pub refused_contents : (f : Fault) → r ≡ Err f → Err f ≡ first_fault (contents_checks b) → checked_with r ≡ checked_of b room
+    unfolding check_of checked_as checked_with
+    refused_contents f h e = ap checked_with h ∙ ap (λ w. checked_as w b) (sym (check_left (contents_checks b) _ f.why f.place (sym e)))
 
-    pub passed_contents : (r : Checked) → v ≡ Ok tt
-        → r ≡ checked_as (first_fault (load_checks (tasks_of b) (locks_of b) (uses_of b) ++ event_checks b room)) b → r ≡ checked_of b room
+    pub passed_contents : Ok tt ≡ first_fault (contents_checks b)
+        → checked_with r ≡ checked_as (first_fault (load_checks (tasks_of b) (locks_of b) (uses_of b) ++ event_checks b room)) b
+        → checked_with r ≡ checked_of b room
     unfolding check_of
-    passed_contents r e h = h ∙ ap (λ w. checked_as w b) (sym (check_right (contents_checks b) _ (sym said ∙ e)))
+    passed_contents e h = h ∙ ap (λ w. checked_as w b) (sym (check_right (contents_checks b) _ (sym e)))
 
   -- ---- 4 to 7 and 24
 
-  module _ (room : ℕ) (l : Loaded) (loaded : l ≡ load_of (tasks_of b) (locks_of b) (uses_of b)) where
+  module _ (room : ℕ) (r : Result Opened Fault) where
     abbrev rest : Verdict
     rest = first_fault (load_checks (tasks_of b) (locks_of b) (uses_of b) ++ event_checks b room)
 
-    pub refused_plan : (why : Refusal) (place : ℕ) (r : Checked) → l.verdict ≡ refused_at why place → r ≡ refused_check why place → r ≡ checked_as rest b
-    unfolding checked_as
-    refused_plan why place r e h =
-        h
+    pub refused_plan : (f : Fault) → r ≡ Err f → loaded_with (Err f) ≡ load_of (tasks_of b) (locks_of b) (uses_of b) → checked_with r ≡ checked_as rest b
+    unfolding checked_as checked_with loaded_with
+    refused_plan f h e =
+        ap checked_with h
         ∙ ap (λ w. checked_as w b)
-        (sym (check_left (load_checks (tasks_of b) (locks_of b) (uses_of b)) (event_checks b room) why place
-        (load_refused (tasks_of b) (locks_of b) (uses_of b) why place (ap (λ v. v.verdict) (sym loaded) ∙ e))))
+        (sym (check_left (load_checks (tasks_of b) (locks_of b) (uses_of b)) (event_checks b room) f.why f.place
+        (load_refused (tasks_of b) (locks_of b) (uses_of b) f.why f.place (ap (λ (l : Loaded). l.verdict) (sym e)))))
 
-    pub passed_plan : (r : Checked) → l.verdict ≡ Ok tt → r ≡ checked_as (first_fault (event_checks b room)) b → r ≡ checked_as rest b
-    passed_plan r e h =
+    pub passed_plan : (p : Plan) → loaded_with (Ok p) ≡ load_of (tasks_of b) (locks_of b) (uses_of b)
+        → checked_with r ≡ checked_as (first_fault (event_checks b room)) b → checked_with r ≡ checked_as rest b
+    unfolding loaded_with
+    passed_plan p e h =
         h
         ∙ ap (λ w. checked_as w b)
         (sym (check_right (load_checks (tasks_of b) (locks_of b) (uses_of b)) (event_checks b room)
-        (load_passed (tasks_of b) (locks_of b) (uses_of b) (ap (λ v. v.verdict) (sym loaded) ∙ e))))
+        (load_passed (tasks_of b) (locks_of b) (uses_of b) (ap (λ (l : Loaded). l.verdict) (sym e)))))
 
-    pub plan_read : l.verdict ≡ Ok tt → l.plan ≡ plan_in b
-    plan_read e = ap (λ v. v.plan) loaded ∙ load_plan (tasks_of b) (locks_of b) (uses_of b) (ap (λ v. v.verdict) (sym loaded) ∙ e)
+  pub plan_read : (p : Plan) → loaded_with (Ok p) ≡ load_of (tasks_of b) (locks_of b) (uses_of b) → p ≡ plan_in b
+  unfolding loaded_with
+  plan_read p e = ap (λ (l : Loaded). l.plan) e
+      ∙ load_plan (tasks_of b) (locks_of b) (uses_of b) (ap (λ (l : Loaded). l.verdict) (sym e))
 
   -- ---- 8 and 9
 
@@ -138,23 +143,22 @@ module _ (b : List ℕ) where
     first : first_from (record_fault body) 0 (length body / 4) ≡ first_from (record_fault (event_body b)) 0 (count_at b 3)
     first = rw (records, whole_part) refl
 
-    pub wrong_event : (k : ℕ) (c : Checked) → o ≡ Some k → c ≡ refused_check WrongEvent k → c ≡ checked_as (first_fault (event_checks b room)) b
-    unfolding event_checks checked_as
-    wrong_event k c e g =
+    pub wrong_event : (k : ℕ) → o ≡ Some k → checked_with (Err (fault_at WrongEvent k)) ≡ checked_as (first_fault (event_checks b room)) b
+    unfolding event_checks checked_as checked_with
+    wrong_event k e =
         let (l, q) = found_below (record_fault body) (length body / 4) k (sym asked ∙ e) in
-        g
-        ∙ ap (λ w. checked_as w b) (wrong_one (count_at b 3) (record_fault (event_body b)) ShortRows (count_at b 3 * 4) room k (omega (arith, l, records)) (q ∙ first))
+        ap (λ w. checked_as w b) (wrong_one (count_at b 3) (record_fault (event_body b)) ShortRows (count_at b 3 * 4) room k (omega (arith, l, records)) (q ∙ first))
 
     module _ (e : o ≡ None) where
       none : count_at b 3 ≤ first_from (record_fault (event_body b)) 0 (count_at b 3)
       none = omega (arith, first, records, absent_below (record_fault body) (length body / 4) (sym asked ∙ e))
 
-      pub short_rows : (c : Checked) → room < length body → c ≡ refused_check ShortRows 0 → c ≡ checked_as (first_fault (event_checks b room)) b
-      unfolding event_checks checked_as
-      short_rows c h g = g
-          ∙ ap (λ w. checked_as w b) (no_room (count_at b 3) (record_fault (event_body b)) ShortRows (count_at b 3 * 4) room none (omega (arith, size, h)))
+      pub short_rows : room < length body → checked_with (Err (fault_at ShortRows 0)) ≡ checked_as (first_fault (event_checks b room)) b
+      unfolding event_checks checked_as checked_with
+      short_rows h = ap (λ w. checked_as w b) (no_room (count_at b 3) (record_fault (event_body b)) ShortRows (count_at b 3 * 4) room none (omega (arith, size, h)))
 
-      pub all_right : (p : Plan) → p ≡ plan_in b → length body ≤ room → passed_check p events ≡ checked_as (first_fault (event_checks b room)) b
-      unfolding event_checks checked_as
+      pub all_right : (p : Plan) → p ≡ plan_in b → length body ≤ room
+          → checked_with (Ok (record { plan = p; events = events })) ≡ checked_as (first_fault (event_checks b room)) b
+      unfolding event_checks checked_as checked_with
       all_right p q h = ap₂ passed_check q starts
           ∙ ap (λ w. checked_as w b) (both_pass (count_at b 3) (record_fault (event_body b)) ShortRows (count_at b 3 * 4) room none (omega (arith, size, h)))

@@ -9,17 +9,18 @@ use lib.ListN.{length, drop}
 use borrow.Author.Tests.{ltb-false}
 use Rattle.rules.specs.Numbers.Capacity.{max_tasks, max_locks, max_uses, max_events}
 use Rattle.rules.specs.Numbers.Verdict.{Verdict, refused_at}
-use Rattle.std.proofs.Common.{Option, Some, None, Ok, Err, if◌then◌else◌}
+use Rattle.std.proofs.Common.{Option, Some, None, Result, Ok, Err, if◌then◌else◌}
 use Rattle.std.specs.List.{position}
 use Rattle.rules.specs.Numbers.Place.{at, first_from}
 use Rattle.rules.specs.Numbers.Refusal.{number_of, first_fault, check_for}
 use Rattle.rules.specs.Books.Event.{number_fault}
 use Rattle.rules.specs.Books.Plan.{most, count_fault}
-use Rattle.rules.specs.Books.Load.{load_checks, load_of}
+use Rattle.rules.specs.Books.Load.{Loaded, load_checks, load_of, loaded_with}
 use Rattle.rules.specs.Books.Book.{contents}
 use Rattle.rules.specs.Books.Bytes.{book_of}
 use Rattle.rules.specs.Books.Write.{counts_of, whole_checks, write_checks, wrote_as, write_of, wrote_with}
-use Rattle.rules.specs.Books.Load.{Loaded}
+use Rattle.rules.specs.declared.plan.Plan.{Plan}
+use Rattle.rules.specs.declared.answer.Fault.{Fault}
 use Rattle.rules.specs.declared.refusal.Refusal.{Refusal}
 use Rattle.rules.specs.declared.refusal.Refusal.TheVariants.{WrongCount, WrongEvent, ShortBuffer}
 use Rattle.rules.proofs.Numbers.Choice.{or_false}
@@ -62,11 +63,6 @@ few_counts tasks locks uses events clean = record {
   events = ltb-false max_events (length events) (clean 3 (omega arith));
 }
 
--- a verdict is one or the other
-by_verdict : {P : Type 0} (v : Verdict) → (v ≡ Ok tt → P) → ((why : Refusal) (place : ℕ) → v ≡ refused_at why place → P) → P
-by_verdict (Ok _) f g = f refl
-by_verdict (Err z) f g = g z.why z.place refl
-
 -- o is the first part whose count is out of range
 module _ (tasks locks uses events : List ℕ) (o : Option ℕ)
     (asked : o ≡ position (λ part. count_fault (index_of part) (counts_of tasks locks uses events (index_of part))) parts) where
@@ -97,49 +93,41 @@ module _ (tasks locks uses events : List ℕ) (o : Option ℕ)
       unfolding write_checks whole_checks
       rest = check_passes _ _ place refl (absent right) ∙ ap first_fault (append_assoc (load_checks tasks locks uses) _ _)
 
-      module _ (l : Loaded) (loaded : l ≡ load_of tasks locks uses) where
-        plan_refused : (why : Refusal) (place : ℕ) → l.verdict ≡ refused_at why place
-            → refused_at why place ≡ first_fault (write_checks tasks locks uses events room)
-        plan_refused why place v = sym (rest ∙ check_left (load_checks tasks locks uses) _ why place
-            (load_refused tasks locks uses why place (ap (λ x. x.verdict) (sym loaded) ∙ v)))
+      pub plan_refused : (r : Verdict) (f : Fault) → r ≡ Err f → loaded_with (Err f) ≡ load_of tasks locks uses
+          → r ≡ first_fault (write_checks tasks locks uses events room)
+      unfolding loaded_with
+      plan_refused r f h e = h ∙ sym (rest ∙ check_left (load_checks tasks locks uses) _ f.why f.place
+          (load_refused tasks locks uses f.why f.place (ap (λ (l : Loaded). l.verdict) (sym e))))
 
-        pub plan_stands : (l.verdict ≡ Ok tt → ⊥) → l.verdict ≡ first_fault (write_checks tasks locks uses events room)
-        plan_stands n = by_verdict l.verdict (λ e. absurd (n e)) (λ why place e. e ∙ plan_refused why place e)
-
-        pub plan_passed : (size : ℕ) (r : Verdict) → l.verdict ≡ Ok tt
-            → size ≡ contents + length tasks * 2 + length locks * 4 + length uses * 2 + length events * 4
-            → r ≡ first_fault (last_checks events size room) → r ≡ first_fault (write_checks tasks locks uses events room)
-        plan_passed size r v s h =
-            h
-            ∙ ap (λ n. first_fault (last_checks events n room)) (s ∙ sym (book_size tasks locks uses events))
-            ∙ sym (rest ∙ check_right (load_checks tasks locks uses) _ (load_passed tasks locks uses (ap (λ x. x.verdict) (sym loaded) ∙ v)))
+      pub plan_passed : (p : Plan) (size : ℕ) (r : Verdict) → loaded_with (Ok p) ≡ load_of tasks locks uses
+          → size ≡ contents + length tasks * 2 + length locks * 4 + length uses * 2 + length events * 4
+          → r ≡ first_fault (last_checks events size room) → r ≡ first_fault (write_checks tasks locks uses events room)
+      unfolding loaded_with
+      plan_passed p size r e s h =
+          h
+          ∙ ap (λ n. first_fault (last_checks events n room)) (s ∙ sym (book_size tasks locks uses events))
+          ∙ sym (rest ∙ check_right (load_checks tasks locks uses) _ (load_passed tasks locks uses (ap (λ (l : Loaded). l.verdict) (sym e))))
 
 -- ---- the writer
 
-module _ (tasks locks uses events out : List ℕ) (v : Verdict) (said : v ≡ first_fault (write_checks tasks locks uses events (length out))) where
-  write_refused : (why : Refusal) (place : ℕ) → v ≡ refused_at why place
-      → wrote_with (record { verdict = refused_at why place; length = 0 }) out ≡ write_of tasks locks uses events out
-  unfolding write_of wrote_as
-  write_refused why place e = ap (λ x. wrote_as x (book_of tasks locks uses events) out) (sym e ∙ said)
+module _ (tasks locks uses events out : List ℕ) where
+  pub write_refused : (r : Result ℕ Fault) (f : Fault) → r ≡ Err f → Err f ≡ first_fault (write_checks tasks locks uses events (length out))
+      → wrote_with r out ≡ write_of tasks locks uses events out
+  unfolding write_of wrote_as wrote_with
+  write_refused r f h e = ap (λ x. wrote_with x out) h ∙ ap (λ x. wrote_as x (book_of tasks locks uses events) out) e
 
-  pub write_stands : (v ≡ Ok tt → ⊥) → wrote_with (record { verdict = v; length = 0 }) out ≡ write_of tasks locks uses events out
-  write_stands n = by_verdict v (λ e. absurd (n e)) (λ why place e. ap (λ x. wrote_with (record { verdict = x; length = 0 }) out) e ∙ write_refused why place e)
-
-  module _ (e : v ≡ Ok tt) where
-    passed : first_fault (write_checks tasks locks uses events (length out)) ≡ Ok tt
-    passed = sym said ∙ e
-
+  module _ (passed : Ok tt ≡ first_fault (write_checks tasks locks uses events (length out))) where
     pub room_for : Room tasks locks uses events out
     unfolding write_checks whole_checks check_for number_of
     room_for = record {
-      few = few_counts tasks locks uses events (clean_for (write_checks tasks locks uses events (length out)) passed WrongCount);
+      few = few_counts tasks locks uses events (clean_for (write_checks tasks locks uses events (length out)) (sym passed) WrongCount);
       fits = ltb-false (length out) (length (book_of tasks locks uses events))
-          (clean_for (_ ∷ []) (passed_both (whole_checks tasks locks uses events) _ passed).1 ShortBuffer 0 (omega arith));
+          (clean_for (_ ∷ []) (passed_both (whole_checks tasks locks uses events) _ (sym passed)).1 ShortBuffer 0 (omega arith));
     }
 
     pub write_passed : (n : ℕ) (next : List ℕ) → n ≡ length (book_of tasks locks uses events) → next ≡ book_of tasks locks uses events ++ drop n out
-        → wrote_with (record { verdict = Ok tt; length = n }) next ≡ write_of tasks locks uses events out
-    unfolding write_of wrote_as
+        → wrote_with (Ok n) next ≡ write_of tasks locks uses events out
+    unfolding write_of wrote_as wrote_with
     write_passed n next q h =
-        ap₂ (λ k bytes. wrote_with (record { verdict = Ok tt; length = k }) bytes) q (h ∙ ap (λ k. book_of tasks locks uses events ++ drop k out) q)
-        ∙ ap (λ x. wrote_as x (book_of tasks locks uses events) out) (sym passed)
+        ap₂ (λ k bytes. wrote_with (Ok k) bytes) q (h ∙ ap (λ k. book_of tasks locks uses events ++ drop k out) q)
+        ∙ ap (λ x. wrote_as x (book_of tasks locks uses events) out) passed

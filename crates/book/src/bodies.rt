@@ -2,16 +2,17 @@
 ghost use Rattle.std.specs.Prelude.{◌≡◌, ◌+◌, ◌*◌, ◌≤◌, length, take, ◌++◌};
 ghost use Rattle.rules.specs.Numbers.Place.{tabulate};
 ghost use Rattle.rules.specs.Numbers.Refusal.{first_fault};
-ghost use Rattle.rules.specs.Books.Book.{contents, count_at, body_at, tasks_of, locks_of, uses_of, event_checks, checked_as};
-ghost use Rattle.rules.specs.Books.Load.{load_of, load_checks};
+ghost use Rattle.rules.specs.Books.Book.{contents, count_at, body_at, tasks_of, locks_of, uses_of, event_checks, checked_as, checked_with};
+ghost use Rattle.rules.specs.Books.Load.{load_of, loaded_with, load_checks};
 ghost use Rattle.book.specs.Laid.{Laid};
 ghost use Rattle.book.specs.Part.{index_of};
 
 use crate::entry::{Part, body_at, count_at};
 use crate::events;
 use crate::number::Field;
-use rules::answer::{Checked, Fault, Loaded};
+use rules::answer::{Fault, Opened};
 use rules::capacity::{MAX_LOCKS, MAX_TASKS, MAX_USES};
+use rules::plan::Plan;
 
 // As many numbers as there is room for, from a place on.
 fn fill<F: Field>(b: &[u8], from: usize, records: &mut [F])
@@ -35,9 +36,9 @@ fn read<'a, F: Field>(b: &[u8], part: Part, table: &'a mut [F]) -> &'a [F]
     records
 }
 
-fn load(b: &[u8]) -> Loaded
+fn load(b: &[u8]) -> Result<Plan, Fault>
     requires { Laid b.now }
-    ensures { result ≡ load_of (tasks_of b.now) (locks_of b.now) (uses_of b.now) }
+    ensures { loaded_with result ≡ load_of (tasks_of b.now) (locks_of b.now) (uses_of b.now) }
 {
     let mut tasks = [0u16; MAX_TASKS];
     let mut locks = [0u32; MAX_LOCKS];
@@ -50,14 +51,11 @@ fn load(b: &[u8]) -> Loaded
 }
 
 // The rest of the check of a book whose contents pass.
-pub fn check(b: &[u8], room: usize) -> Checked
+pub fn check(b: &[u8], room: usize) -> Result<Opened, Fault>
     requires { Laid b.now }
-    ensures { result ≡ checked_as (first_fault (load_checks (tasks_of b.now) (locks_of b.now) (uses_of b.now) ++ event_checks
+    ensures { checked_with result ≡ checked_as (first_fault (load_checks (tasks_of b.now) (locks_of b.now) (uses_of b.now) ++ event_checks
         b.now room)) b.now }
 {
-    let Loaded { verdict, plan } = load(b);
-    match verdict {
-        Err(Fault { why, place }) => events::refused(why, place),
-        Ok(()) => events::check(b, room, plan),
-    }
+    let plan = load(b)?;
+    events::check(b, room, plan)
 }

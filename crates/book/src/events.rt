@@ -3,25 +3,15 @@ ghost use Rattle.std.specs.Prelude.{◌≡◌, ◌<◌, ◌/◌, length, positio
 ghost use Rattle.std.specs.List.{range_with_len};
 ghost use Rattle.rules.specs.Numbers.Place.{any};
 ghost use Rattle.rules.specs.Numbers.Refusal.{first_fault};
-ghost use Rattle.rules.specs.Books.Book.{record_fault, plan_in, event_checks, refused_check, checked_as};
+ghost use Rattle.rules.specs.Books.Book.{record_fault, plan_in, event_checks, checked_as, checked_with};
 ghost use Rattle.book.specs.Laid.{Laid};
 
 use crate::entry::{Part, body_at};
 use crate::number::Field;
 use crate::record::event_fault;
-use rules::answer::{Checked, Fault};
-use rules::plan::{Plan, blank};
+use rules::answer::{Fault, Opened};
+use rules::plan::Plan;
 use rules::refusal::Refusal;
-
-pub fn refused(why: Refusal, place: usize) -> Checked
-    ensures { result ≡ refused_check why place }
-{
-    Checked {
-        verdict: Err(Fault { why, place }),
-        plan: blank(),
-        events: 0,
-    }
-}
 
 // Whether 8 refuses record k of a body.
 fn fault_at(body: &[u8], k: usize) -> bool
@@ -55,21 +45,15 @@ fn first_fault(body: &[u8]) -> Option<usize>
 }
 
 // The rest of the check of a book whose plan is loaded.
-pub fn check(b: &[u8], room: usize, plan: Plan) -> Checked
+pub fn check(b: &[u8], room: usize, plan: Plan) -> Result<Opened, Fault>
     requires { Laid b.now × (plan ≡ plan_in b.now) }
-    ensures { result ≡ checked_as (first_fault (event_checks b.now room)) b.now }
+    ensures { checked_with result ≡ checked_as (first_fault (event_checks b.now room)) b.now }
 {
     let events = body_at(b, Part::Events);
     let body = &b[events..];
-    if let Some(k) = first_fault(body) {
-        return refused(Refusal::WrongEvent, k);
-    }
-    if room < body.len() {
-        return refused(Refusal::ShortRows, 0);
-    }
-    Checked {
-        verdict: Ok(()),
-        plan,
-        events,
+    match first_fault(body) {
+        Some(place) => Err(Fault { why: Refusal::WrongEvent, place }),
+        None if room < body.len() => Err(Fault { why: Refusal::ShortRows, place: 0 }),
+        None => Ok(Opened { plan, events }),
     }
 }

@@ -15,17 +15,15 @@ pub mod record;
 pub mod writer;
 
 ghost use Rattle.std.specs.Prelude.{◌≡◌};
-ghost use Rattle.rules.specs.Books.Book.{checked_of};
+ghost use Rattle.rules.specs.Books.Book.{checked_of, checked_with};
 
-use rules::answer::{Checked, Fault};
+use rules::answer::{Fault, Opened};
 
 // The book's plan and the place of its event body, or the first offender of 1 to 9 and 24. Each event
 // needs four bytes of room for its row.
-pub fn check(b: &[u8], room: usize) -> Checked
-    ensures { result ≡ checked_of b.now room }
+pub fn check(b: &[u8], room: usize) -> Result<Opened, Fault>
+    ensures { checked_with result ≡ checked_of b.now room }
 {
-    match contents::first_fault(b) {
-        Err(Fault { why, place }) => events::refused(why, place),
-        Ok(()) => bodies::check(b, room),
-    }
+    contents::first_fault(b)?;
+    bodies::check(b, room)
 }

@@ -15,7 +15,7 @@ use crate::lay::{Records, lay};
 use crate::number::Field;
 use crate::record::number_fault;
 use plan::count::count_fault;
-use rules::answer::{Fault, Written};
+use rules::answer::Fault;
 use rules::refusal::Refusal;
 
 // The first part whose count is out of range, by its place.
@@ -79,14 +79,12 @@ fn first_fault(records: &Records, room: usize) -> Result<(), Fault>
     if let Some(e) = first_count(records) {
         return Err(Fault { why: Refusal::WrongCount, place: e + 1 });
     }
-    match plan::load(records.tasks, records.locks, records.uses).verdict {
-        Ok(()) => first_last(records.events, book_size(records), room),
-        refused => refused,
-    }
+    plan::load(records.tasks, records.locks, records.uses)?;
+    first_last(records.events, book_size(records), room)
 }
 
 // The answer is the book's length, with the book at the start of the buffer; or a refusal, and the buffer as it was.
-pub fn write(tasks: &[u16], locks: &[u32], uses: &[u16], events: &[u32], out: &mut [u8]) -> Written
+pub fn write(tasks: &[u16], locks: &[u32], uses: &[u16], events: &[u32], out: &mut [u8]) -> Result<usize, Fault>
     ensures { wrote_with result out.new ≡ write_of tasks.now locks.now uses.now events.now
         out.old }
 {
@@ -96,14 +94,6 @@ pub fn write(tasks: &[u16], locks: &[u32], uses: &[u16], events: &[u32], out: &m
         uses,
         events,
     };
-    match first_fault(&records, out.len()) {
-        Ok(()) => Written {
-            verdict: Ok(()),
-            length: lay(&records, out),
-        },
-        refused => Written {
-            verdict: refused,
-            length: 0,
-        },
-    }
+    first_fault(&records, out.len())?;
+    Ok(lay(&records, out))
 }

@@ -13,8 +13,8 @@ slice_bounds-body-start c = search (event_body_lem, rules)
 pub returns-in-Some : goal.returns-in-Some
 returns-in-Some c = search wrong_event
 
-pub returns-then-room-body : goal.returns-then-room-body
-returns-then-room-body c = search short_rows
+pub returns-in-None : goal.returns-in-None
+returns-in-None c = search short_rows
 
-pub returns : goal.returns
-returns c = search all_right
+pub returns-in-None-2 : goal.returns-in-None-2
+returns-in-None-2 c = search all_right

@@ -1,6 +1,4 @@
 -- The ways through the code that answers: the text is read into no space, and where nothing is refused into the space that is lent. Assumes nothing.
-use Rattle.std.specs.Prelude.{Ok}
-use Rattle.rules.specs.Numbers.Verdict.{Verdict, refused_at}
 use mathlib.Core.Path.{◌≡◌, refl, sym, ◌∙◌, ap}
 use mathlib.Core.Bool.{Bool, true, false}
 use mathlib.Core.List.{List, [], ◌++◌, map}
@@ -9,6 +7,8 @@ use native.Mathlib.Omega.{arith}
 use lib.Dec.{ltb}
 use lib.ListN.{length, drop, length-drop, length-map}
 use borrow.Author.Tests.{lt-ltb, le-ltb, ltb-true, ltb-false}
+use Rattle.std.specs.Prelude.{Result, Ok, Err}
+use Rattle.rules.specs.Numbers.Verdict.{Verdict, refused_at}
 use Rattle.rules.specs.Books.Bytes.{long_bytes}
 use Rattle.rules.specs.Books.Event.{event_number}
 use Rattle.rules.specs.declared.event.Event.{Event}
@@ -94,28 +94,28 @@ never {why = why} {place} e = let z : ◌≡◌ {A = ℕ} 0 1 = cc in absurd (om
 
 -- ---- as `check_job` goes
 
-module _ (text : List ℕ) (room place n : ℕ) (ok : Bool) (t t' : List ℕ) (h : tell (sheet t 0) (read_job text) ≡ whole ok text place (sheet t' n)) where
-  counted : ok ≡ true → (es : List Event) × (read_job text ≡ read es) × (n ≡ length es)
+module _ (text : List ℕ) (room : ℕ) (r : Result ℕ ℕ) (t t' : List ℕ) (h : tell (sheet t 0) (read_job text) ≡ whole r text t') where
+  counted : (n : ℕ) → r ≡ Ok n → (es : List Event) × (read_job text ≡ read es) × (n ≡ length es)
   unfolding whole
-  counted o =
-      let (es, r, g) = told_done (read_job text) (sheet t 0) (sheet t' n) (h ∙ ap (λ x. whole x text place (sheet t' n)) o) in
+  counted n o =
+      let (es, r, g) = told_done (read_job text) (sheet t 0) (sheet t' n) (h ∙ ap (λ x. whole x text t') o) in
       (es, r, sym (ap (λ q. q.count) g) ∙ lay_count es (sheet t 0) ∙ omega arith)
 
-  pub check_stopped : ok ≡ false → place ≤ length text → record { verdict = refused_at WrongJob place; events = 0 } ≡ job_answer text room
+  pub check_stopped : (place : ℕ) → r ≡ Err place → place ≤ length text → record { verdict = refused_at WrongJob place; events = 0 } ≡ job_answer text room
   unfolding whole
-  check_stopped o l =
-      let r : read_job text ≡ refused (drop place text) = told_halted (read_job text) (sheet t 0) (drop place text) (h ∙ ap (λ x. whole x text place (sheet t' n)) o) in
+  check_stopped place o l =
+      let r : read_job text ≡ refused (drop place text) = told_halted (read_job text) (sheet t 0) (drop place text) (h ∙ ap (λ x. whole x text t') o) in
       let e : length text - length (drop place text) ≡ place = omega (arith, length-drop place text) in
       sym (answer_refused text room WrongJob place (verdict_stopped text (drop place text) room r ∙ ap (refused_at WrongJob) e))
 
-  pub check_small : ok ≡ true → room / 4 < n → record { verdict = refused_at ShortSpace 0; events = 0 } ≡ job_answer text room
-  check_small o l =
-      let (es, r, e) = counted o in
+  pub check_small : (n : ℕ) → r ≡ Ok n → room / 4 < n → record { verdict = refused_at ShortSpace 0; events = 0 } ≡ job_answer text room
+  check_small n o l =
+      let (es, r, e) = counted n o in
       sym (answer_refused text room ShortSpace 0 (verdict_small text room es r (omega arith)))
 
-  pub check_passed : ok ≡ true → n ≤ room / 4 → record { verdict = Ok tt; events = n } ≡ job_answer text room
-  check_passed o l =
-      let (es, r, e) = counted o in
+  pub check_passed : (n : ℕ) → r ≡ Ok n → n ≤ room / 4 → record { verdict = Ok tt; events = n } ≡ job_answer text room
+  check_passed n o l =
+      let (es, r, e) = counted n o in
       rw e (sym (answer_read text room es r (omega arith)))
 
 -- ---- as `read_job` goes
@@ -125,32 +125,39 @@ module _ (text s : List ℕ) (job : Job) (h : job ≡ job_answer text (length s)
   unfolding job_answer
   told = ap (λ j. j.verdict) h
 
-  pub read_refused : (why : Refusal) (place : ℕ) (v : Verdict) → v ≡ job.verdict → v ≡ refused_at why place → read_with job s ≡ job_of text s
+  read_refused : (why : Refusal) (place : ℕ) → job.verdict ≡ refused_at why place → read_with job s ≡ job_of text s
   unfolding job_of long_bytes
-  read_refused why place v e f =
+  read_refused why place f =
       ap (λ a. read_with a s) h
-      ∙ ap (λ es. read_with (job_answer text (length s)) (with_events es s)) (sym (no_events text (length s) why place (sym told ∙ sym e ∙ f)))
+      ∙ ap (λ es. read_with (job_answer text (length s)) (with_events es s)) (sym (no_events text (length s) why place (sym told ∙ f)))
+
+  pub read_other : (job.verdict ≡ Ok tt → ⊥) → read_with job s ≡ job_of text s
+  read_other n = go job.verdict refl
+    where
+      go : (v : Verdict) → job.verdict ≡ v → read_with job s ≡ job_of text s
+      go (Ok _) e = absurd (n e)
+      go (Err f) e = read_refused f.why f.place e
 
   -- it is read once more, into the space
-  laid_so : (s' : List ℕ) (place n : ℕ) (es : List Event) (ok : Bool) → tell (sheet s 0) (read es) ≡ whole ok text place (sheet s' n) → length es * 4 ≤ length s → s' ≡ with_events es s
+  laid_so : (s' : List ℕ) (es : List Event) (r : Result ℕ ℕ) → tell (sheet s 0) (read es) ≡ whole r text s' → length es * 4 ≤ length s → s' ≡ with_events es s
   unfolding tell whole
-  laid_so s' place n es false g l = let z : ◌≡◌ {A = ℕ} 0 1 = cc in absurd (omega arith)
-  laid_so s' place n es true g l =
+  laid_so s' es (Err b) g l = let z : ◌≡◌ {A = ℕ} 0 1 = cc in absurd (omega arith)
+  laid_so s' es (Ok n) g l =
       let e : lay_all (sheet s 0) es ≡ sheet s' n = cc in
       ap (λ p. p.bytes) (sym e ∙ lay_fits es s 0 (omega arith)) ∙ stored_front s (records_of es) (omega (arith, records_size es))
       ∙ ap (λ k. records_of es ++ drop k s) (records_size es)
 
-  by_answer : (s' : List ℕ) (place n : ℕ) (ok : Bool) → tell (sheet s 0) (read_job text) ≡ whole ok text place (sheet s' n) → (r : Answer) → read_job text ≡ r
+  by_answer : (s' : List ℕ) (o : Result ℕ ℕ) → tell (sheet s 0) (read_job text) ≡ whole o text s' → (r : Answer) → read_job text ≡ r
       → job_verdict text (length s) ≡ Ok tt → s' ≡ with_events (job_events text (length s)) s
-  by_answer s' place n ok g (refused rest) e v =
+  by_answer s' o g (refused rest) e v =
       let z : refused_at WrongJob (length text - length rest) ≡ Ok tt = sym (verdict_stopped text rest (length s) e) ∙ v in never z
-  by_answer s' place n ok g (read es) e v = by_test (ltb (length s) (length es * 4))
+  by_answer s' o g (read es) e v = by_test (ltb (length s) (length es * 4))
       (λ y. never (sym (verdict_small text (length s) es e (ltb-true (length s) (length es * 4) y)) ∙ v))
       (λ y. let l : length es * 4 ≤ length s = ltb-false (length s) (length es * 4) y in
-      laid_so s' place n es ok (ap (tell (sheet s 0)) (sym e) ∙ g) l ∙ ap (λ x. with_events x s) (sym (events_read text (length s) es e l)))
+      laid_so s' es o (ap (tell (sheet s 0)) (sym e) ∙ g) l ∙ ap (λ x. with_events x s) (sym (events_read text (length s) es e l)))
 
-  pub read_passed : (s' : List ℕ) (place n : ℕ) (ok : Bool) (v : Verdict) → tell (sheet s 0) (read_job text) ≡ whole ok text place (sheet s' n) → v ≡ job.verdict → v ≡ Ok tt
+  pub read_passed : (s' : List ℕ) (o : Result ℕ ℕ) → tell (sheet s 0) (read_job text) ≡ whole o text s' → job.verdict ≡ Ok tt
       → read_with job s' ≡ job_of text s
   unfolding job_of
-  read_passed s' place n ok v g e f =
-      ap (λ a. read_with a s') h ∙ ap (read_with (job_answer text (length s))) (by_answer s' place n ok g (read_job text) refl (sym told ∙ sym e ∙ f))
+  read_passed s' o g f =
+      ap (λ a. read_with a s') h ∙ ap (read_with (job_answer text (length s))) (by_answer s' o g (read_job text) refl (sym told ∙ f))

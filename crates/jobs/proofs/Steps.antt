@@ -1,5 +1,4 @@
 -- Laws of the reader, one byte at a time. Assumes nothing.
-use Rattle.std.specs.Prelude.{if◌then◌else◌}
 use mathlib.Core.Path.{◌≡◌, refl, sym, ◌∙◌, ap}
 use mathlib.Core.Logic.{⊎_elim}
 use mathlib.Core.List.{List, [], ◌∷◌, ◌++◌, append_assoc}
@@ -10,6 +9,7 @@ use lib.Dec.{eqb, ltb}
 use lib.ListN.{length, drop, drop_of_length-le, get_or-eq_default}
 use lib.Seq.{drop-cons}
 use borrow.Author.Tests.{lt-ltb, le-ltb, ne_eqb, eqb-true}
+use Rattle.std.specs.Prelude.{Option, Some, None, if◌then◌else◌}
 use Rattle.rules.specs.Numbers.Place.{at}
 use Rattle.rules.specs.declared.event.Event.{Event}
 use Rattle.rules.specs.declared.event.Event.TheVariants.{Acquire, Unlock, Work}
@@ -142,31 +142,30 @@ lock_ends (b ∷ t) v ls h = rw h.1 (behind_on h.0 (v ∷ ls) (Acquire v ∷ [])
 
 -- ---- the digit at a place, as the code gives it
 
-digit_of_lem : (s : Sign) (d : ℕ) → d ≡ digit_of s → d < 10 → s ≡ digit d
+digit_of_lem : (s : Sign) (d : ℕ) → Some d ≡ digit_of s → s ≡ digit d
 unfolding digit_of
-digit_of_lem (digit e) d h l = ap digit (sym h)
-digit_of_lem (mark m) d h l = absurd (omega arith)
+digit_of_lem (digit e) d h = let k : d ≡ e = cc in ap digit (sym k)
+digit_of_lem (mark m) d h = cc
 
-pub digit_here : (text : List ℕ) (a d : ℕ) → d ≡ digit_of (sign_at text a) → d < 10 → sign_at text a ≡ digit d
-digit_here text a d h l = digit_of_lem (sign_at text a) d h l
+pub digit_here : (text : List ℕ) (a d : ℕ) → Some d ≡ digit_of (sign_at text a) → sign_at text a ≡ digit d
+digit_here text a d h = digit_of_lem (sign_at text a) d h
 
-mark_of_lem : (s : Sign) (b d : ℕ) → Spells s b → d ≡ digit_of s → 10 ≤ d → (m : Mark) × (s ≡ mark m)
-unfolding digit_of Spells
-mark_of_lem (digit e) b d p h l = absurd (omega (arith, p.1))
-mark_of_lem (mark m) b d p h l = (m, refl)
+mark_of_lem : (s : Sign) → None ≡ digit_of s → (m : Mark) × (s ≡ mark m)
+unfolding digit_of
+mark_of_lem (digit e) h = cc
+mark_of_lem (mark m) h = (m, refl)
 
-pub mark_here : (text : List ℕ) (a d : ℕ) → d ≡ digit_of (sign_at text a) → 10 ≤ d → (m : Mark) × (sign_at text a ≡ mark m)
-unfolding sign_at
-mark_here text a d h l = mark_of_lem (sign (at text a)) (at text a) d (spells (at text a)) h l
+pub mark_here : (text : List ℕ) (a : ℕ) → None ≡ digit_of (sign_at text a) → (m : Mark) × (sign_at text a ≡ mark m)
+mark_here text a h = mark_of_lem (sign_at text a) h
 
 -- a digit stands within the text
-pub digit_inside : (text : List ℕ) (a d : ℕ) → d ≡ digit_of (sign_at text a) → d < 10 → a < length text
+pub digit_inside : (text : List ℕ) (a d : ℕ) → Some d ≡ digit_of (sign_at text a) → a < length text
 unfolding sign_at digit_of sign mark_of
-digit_inside text a d h l = inside text a (λ e. omega (arith, h ∙ ap (λ x. digit_of (sign x)) e))
+digit_inside text a d h = inside text a (λ e. let z : Some d ≡ None = h ∙ ap (λ x. digit_of (sign x)) e in cc)
 
-pub turns_here : (text : List ℕ) (a d : ℕ) → d ≡ digit_of (sign_at text a) → 10 ≤ d → Turns (drop a text)
+pub turns_here : (text : List ℕ) (a : ℕ) → None ≡ digit_of (sign_at text a) → Turns (drop a text)
 unfolding Turns sign_at
-turns_here text a d h l = ⊎_elim
-    (λ (i : a < length text). rw (drop-cons text a 0 i) (mark_here text a d h l))
+turns_here text a h = ⊎_elim
+    (λ (i : a < length text). rw (drop-cons text a 0 i) (mark_here text a h))
     (λ (i : length text ≤ a). rw (drop_of_length-le text i) tt)
     (lt_or_le a (length text))

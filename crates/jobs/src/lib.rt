@@ -27,23 +27,12 @@ pub fn check_job(text: &[u8], room: usize) -> Job
     ensures events_bound { result.events * 4 ≤ room }
 {
     let mut none = [0u8; 1];
-    let found = scan(text, &mut none);
-    if found.ok {
-        if room / 4 < found.count {
-            return Job {
-                verdict: Err(Fault { why: Refusal::ShortSpace, place: 0 }),
-                events: 0,
-            };
-        }
-        return Job {
-            verdict: Ok(()),
-            events: found.count,
-        };
-    }
-    Job {
-        verdict: Err(Fault { why: Refusal::WrongJob, place: found.place }),
-        events: 0,
-    }
+    let (verdict, events) = match scan(text, &mut none) {
+        Err(place) => (Err(Fault { why: Refusal::WrongJob, place }), 0),
+        Ok(count) if room / 4 < count => (Err(Fault { why: Refusal::ShortSpace, place: 0 }), 0),
+        Ok(count) => (Ok(()), count),
+    };
+    Job { verdict, events }
 }
 
 // Reads a job's text and lays its events into `space`, four bytes an event; the bytes after them stay. Where 25 or 26 refuses
@@ -52,12 +41,9 @@ pub fn read_job(text: &[u8], space: &mut [u8]) -> Job
     ensures { read_with result space.new ≡ job_of text.now space.old }
 {
     let job = check_job(text, space.len());
-    let verdict = job.verdict;
-    match verdict {
-        Ok(()) => {
-            scan(text, space);
-        }
-        Err(_) => {}
+    if let Ok(()) = job.verdict {
+        // The answer is that of `check_job`.
+        let _ = scan(text, space);
     }
     job
 }

@@ -1,21 +1,22 @@
 // RULES 20.1, 20.2: the readers of bodies and items, which call each other: a bracketed item holds a body. A body's items are
 // walked by a loop, so the calls go no deeper than the nesting; an empty body is no call. Each lays the events that it reads; those that do not fit are counted and not written.
-ghost use Rattle.std.specs.Prelude.{◌≡◌, ◌+◌, ◌≤◌, ◌<◌, length};
+ghost use Rattle.std.specs.Prelude.{◌≡◌, ◌+◌, ◌≤◌, ◌<◌, length, IfOk, IfErr};
 ghost use Rattle.rules.specs.Books.Event.{event_number};
 ghost use Rattle.rules.specs.declared.event.Event.{Event};
 ghost use Rattle.jobs.specs.Grammar.{max_units, max_lock};
 ghost use Rattle.jobs.specs.Reader.{read_job};
 ghost use Rattle.jobs.specs.Reader.Mode.{units};
 ghost use Rattle.jobs.specs.Sheet.{sheet, tell};
-ghost use Rattle.jobs.specs.Said.{Went, Did, Entered, Left, Over, whole, Within};
+ghost use Rattle.jobs.specs.Said.{Went, Did, Entered, Left, Over, whole, Within, number_end, end, count};
 
 use crate::form::LEVELS;
 use crate::space::store;
-use crate::text::{GAP, LEFT, Number, RIGHT, WORK, byte, gap, lock, units};
+use crate::text::{GAP, LEFT, Number, RIGHT, WORK, byte, lock, units};
 
 // The records of events, each as one number.
 const FINISH: u32 = 5;
 
+#[tactic(auto, unfolding(rules::specs::Books::Event::kind_of, rules::specs::Books::Event::id_of, rules::specs::Books::Event::amount_of))]
 fn work_number(units: u32) -> u32
     requires { units ≤ max_units }
     ensures { result ≡ event_number (Event.Work units) }
@@ -23,6 +24,7 @@ fn work_number(units: u32) -> u32
     4 + units * 65536
 }
 
+#[tactic(auto, unfolding(rules::specs::Books::Event::kind_of, rules::specs::Books::Event::id_of, rules::specs::Books::Event::amount_of))]
 fn acquire_number(lock: u32) -> u32
     requires { lock ≤ max_lock }
     ensures { result ≡ event_number (Event.Acquire lock) }
@@ -30,6 +32,7 @@ fn acquire_number(lock: u32) -> u32
     2 + lock * 256
 }
 
+#[tactic(auto, unfolding(rules::specs::Books::Event::kind_of, rules::specs::Books::Event::id_of, rules::specs::Books::Event::amount_of))]
 fn unlock_number(lock: u32) -> u32
     requires { lock ≤ max_lock }
     ensures { result ≡ event_number (Event.Unlock lock) }
@@ -37,206 +40,108 @@ fn unlock_number(lock: u32) -> u32
     3 + lock * 256
 }
 
-// Where a reader stands behind what it read, with the count of events; or where it stopped.
+// Where a reader stands behind what it read, with the count of events.
 #[derive(Clone, Copy)]
 pub struct At {
-    pub ok: bool,
     pub place: usize,
     pub count: usize,
 }
 
 // Work, behind its `w`.
-fn work(text: &[u8], from: usize, space: &mut [u8], n: usize) -> At
+fn work(text: &[u8], from: usize, space: &mut [u8], n: usize) -> Result<At, usize>
     requires { (n < from) × (from ≤ length text.now) }
-    ensures went { Went text.now from (units 0) (sheet space.old n) result.ok result.place (sheet space.new result.count) }
-    ensures within { Within text.now from result.place result.count }
+    ensures went { Went text.now from (units 0) (sheet space.old n) result space.new }
+    ensures within { Within text.now from (end result) (count result) }
 {
-    let v = units(text, from);
-    let place = v.place;
-    if v.ok {
-        store(space, n, work_number(v.value));
-        return At {
-            ok: true,
-            place,
-            count: n + 1,
-        };
-    }
-    At {
-        ok: false,
-        place,
-        count: 0,
-    }
+    let Number { place, value } = units(text, from)?;
+    store(space, n, work_number(value));
+    Ok(At { place, count: n + 1 })
 }
 
 // A section's lock, behind its `[`.
-fn enter(text: &[u8], from: usize, space: &mut [u8], n: usize) -> Number
+fn enter(text: &[u8], from: usize, space: &mut [u8], n: usize) -> Result<Number, usize>
     requires { (n < from) × (from ≤ length text.now) }
-    ensures entered { Entered text.now from (sheet space.old n) result.ok result.place result.value (sheet space.new (n + 1)) }
-    ensures within { Within text.now from result.place (n + 1) }
-    ensures value_le_max_lock { result.value ≤ max_lock }
+    ensures entered { Entered text.now from (sheet space.old n) result (sheet space.new (n + 1)) }
+    ensures within { Within text.now from (number_end result) (n + 1) }
+    ensures value_le_max_lock { IfOk result (λ l. l.value ≤ max_lock) }
 {
-    let l = lock(text, from);
-    let place = l.place;
-    let value = l.value;
-    if l.ok {
-        store(space, n, acquire_number(value));
-        return Number {
-            ok: true,
-            place,
-            value,
-        };
-    }
-    Number {
-        ok: false,
-        place,
-        value: 0,
-    }
+    let number = lock(text, from)?;
+    store(space, n, acquire_number(number.value));
+    Ok(number)
 }
 
 // The end of the section of a lock.
-fn leave(text: &[u8], from: usize, l: u32, space: &mut [u8], n: usize) -> At
+fn leave(text: &[u8], from: usize, l: u32, space: &mut [u8], n: usize) -> Result<At, usize>
     requires n_le_from { (n ≤ from) × (from ≤ length text.now) }
     requires l_le_max_lock { l ≤ max_lock }
-    ensures left { Left text.now from l (sheet space.old n) result.ok result.place (sheet space.new result.count) }
-    ensures within { Within text.now from result.place result.count }
+    ensures left { Left text.now from l (sheet space.old n) result space.new }
+    ensures within { Within text.now from (end result) (count result) }
 {
-    let b = byte(text, from);
-    if b == RIGHT {
-        store(space, n, unlock_number(l));
-        return At {
-            ok: true,
-            place: from + 1,
-            count: n + 1,
-        };
+    if byte(text, from) != RIGHT {
+        return Err(from);
     }
-    At {
-        ok: false,
-        place: from,
-        count: 0,
-    }
+    store(space, n, unlock_number(l));
+    Ok(At {
+        place: from + 1,
+        count: n + 1,
+    })
 }
 
 // An item, with k levels of nesting left.
 #[cycle(body_item)]
-fn item(text: &[u8], from: usize, k: usize, space: &mut [u8], n: usize) -> At
+fn item(text: &[u8], from: usize, k: usize, space: &mut [u8], n: usize) -> Result<At, usize>
     requires { (n ≤ from) × (from ≤ length text.now) }
-    ensures did { Did text.now k from (sheet space.old n) result.ok result.place (sheet space.new result.count) }
-    ensures within { Within text.now from result.place result.count }
+    ensures did { Did text.now k from (sheet space.old n) result space.new }
+    ensures within { Within text.now from (end result) (count result) }
 {
-    let b = byte(text, from);
-    if b == WORK {
-        return work(text, from + 1, space, n);
-    }
-    if b != LEFT {
-        return At {
-            ok: false,
-            place: from,
-            count: 0,
-        };
-    }
-    if k == 0 {
-        return At {
-            ok: false,
-            place: from,
-            count: 0,
-        };
-    }
-    let l = enter(text, from + 1, space, n);
-    let inside = l.place;
-    let value = l.value;
-    if l.ok {
-        let more = gap(text, inside);
-        if more {
-            let r = body(text, inside + 1, k - 1, space, n + 1);
-            let place = r.place;
-            if r.ok {
-                let count = r.count;
-                return leave(text, place, value, space, count);
+    match byte(text, from) {
+        WORK => work(text, from + 1, space, n),
+        LEFT if k > 0 => {
+            let l = enter(text, from + 1, space, n)?;
+            if byte(text, l.place) == GAP {
+                let inner = body(text, l.place + 1, k - 1, space, n + 1)?;
+                leave(text, inner.place, l.value, space, inner.count)
+            } else {
+                leave(text, l.place, l.value, space, n + 1)
             }
-            return At {
-                ok: false,
-                place,
-                count: 0,
-            };
         }
-        return leave(text, inside, value, space, n + 1);
-    }
-    At {
-        ok: false,
-        place: inside,
-        count: 0,
+        _ => Err(from),
     }
 }
 
 // A run of items with one space between them, as far as it goes, with k levels of nesting left. There is one at least.
 #[cycle(body_item)]
-fn body(text: &[u8], from: usize, k: usize, space: &mut [u8], n: usize) -> At
+fn body(text: &[u8], from: usize, k: usize, space: &mut [u8], n: usize) -> Result<At, usize>
     requires { (n ≤ from) × (from ≤ length text.now) }
-    ensures did { Did text.now k from (sheet space.old n) result.ok result.place (sheet space.new result.count) }
-    ensures within { Within text.now from result.place result.count }
-    ensures over { Over text.now result.ok result.place }
+    ensures did { Did text.now k from (sheet space.old n) result space.new }
+    ensures within { Within text.now from (end result) (count result) }
+    ensures over { Over text.now result }
 {
     let mut i = from;
     let mut m = n;
     loop {
-        let r = item(text, i, k, space, m);
-        let place = r.place;
-        if r.ok {
-            let count = r.count;
-            let b = byte(text, place);
-            if b != GAP {
-                return At {
-                    ok: true,
-                    place,
-                    count,
-                };
-            }
-            i = place + 1;
-            m = count;
-        } else {
-            return At {
-                ok: false,
-                place,
-                count: 0,
-            };
+        let next = item(text, i, k, space, m)?;
+        if byte(text, next.place) != GAP {
+            return Ok(next);
         }
+        i = next.place + 1;
+        m = next.count;
     }
 }
 
-// A whole text.
-pub fn scan(text: &[u8], space: &mut [u8]) -> At
-    ensures text_value { tell (sheet space.old 0) (read_job text.now) ≡ whole result.ok text.now result.place (sheet space.new result.count) }
-    ensures place_in_bounds { result.place ≤ length text.now }
+// A whole text: how many events there are, or where the reader stopped.
+pub fn scan(text: &[u8], space: &mut [u8]) -> Result<usize, usize>
+    ensures text_value { tell (sheet space.old 0) (read_job text.now) ≡ whole result text.now space.new }
+    ensures place_in_bounds { IfErr result (λ place. place ≤ length text.now) }
 {
-    if text.len() == 0 {
+    if text.is_empty() {
         store(space, 0, FINISH);
-        return At {
-            ok: true,
-            place: 0,
-            count: 1,
-        };
+        return Ok(1);
     }
-    let r = body(text, 0, LEVELS, space, 0);
-    let place = r.place;
-    if r.ok {
-        if place < text.len() {
-            return At {
-                ok: false,
-                place,
-                count: 0,
-            };
-        }
-        let count = r.count;
-        store(space, count, FINISH);
-        return At {
-            ok: true,
-            place,
-            count: count + 1,
-        };
+    let At { place, count } = body(text, 0, LEVELS, space, 0)?;
+    if place < text.len() {
+        return Err(place);
     }
-    At {
-        ok: false,
-        place,
-        count: 0,
-    }
+    store(space, count, FINISH);
+    Ok(count + 1)
 }

@@ -1,12 +1,6 @@
 // Event records in lent space, read as numbers.
-ghost use Rattle.std.specs.Prelude.{◌≡◌, ◌<◌};
+ghost use Rattle.std.specs.Prelude.{◌≡◌};
 ghost use Rattle.jobs.specs.Sheet.{record_in};
-
-fn wide(x: u8) -> u32
-    ensures { (result ≡ x) × (result < 256) }
-{
-    x as u32
-}
 
 // The number of record n, and 0 where there is none.
 pub fn record_at(space: &[u8], n: usize) -> u32
@@ -14,10 +8,10 @@ pub fn record_at(space: &[u8], n: usize) -> u32
 {
     if n < space.len() / 4 {
         let i = n * 4;
-        let a = wide(space[i]);
-        let b = wide(space[i + 1]);
-        let c = wide(space[i + 2]);
-        let d = wide(space[i + 3]);
+        let a = u32::from(space[i]);
+        let b = u32::from(space[i + 1]);
+        let c = u32::from(space[i + 2]);
+        let d = u32::from(space[i + 3]);
         return a + b * 256 + (c + d * 256) * 65536;
     }
     0

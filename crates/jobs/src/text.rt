@@ -1,161 +1,88 @@
 // RULES 20.1: the bytes of a job's text, and the numbers in it.
-ghost use Rattle.std.specs.Prelude.{◌≡◌, ◌≤◌, length};
+ghost use Rattle.std.specs.Prelude.{◌≡◌, ◌≤◌, ◌<◌, length, IfOk, IfSome};
 ghost use Rattle.rules.specs.Numbers.Place.{at};
 ghost use Rattle.jobs.specs.Grammar.{max_units, max_lock};
-ghost use Rattle.jobs.specs.Said.{Gap, sign_at, digit_of, Counted, Numbered, Within};
+ghost use Rattle.jobs.specs.Said.{sign_at, digit_of, Counted, Numbered, number_end, Within};
 
 use crate::form::{MAX_LOCK, MAX_UNITS};
 
-// The bytes of the form that are no digits: `w`, `[`, `]` and the space.
-pub const WORK: u32 = 119;
+// The bytes of the form that are no digits.
+pub const WORK: u8 = b'w';
 
-pub const LEFT: u32 = 91;
+pub const LEFT: u8 = b'[';
 
-pub const RIGHT: u32 = 93;
+pub const RIGHT: u8 = b']';
 
-pub const GAP: u32 = 32;
+pub const GAP: u8 = b' ';
 
-fn wide(x: u8) -> u32
-    ensures { result ≡ x }
-{
-    x as u32
-}
-
-// The byte at a place; past the end it is 0.
-pub fn byte(text: &[u8], place: usize) -> u32
+// The byte at a place; past the end it is 0, which is none of the form.
+pub fn byte(text: &[u8], place: usize) -> u8
     ensures { result ≡ at text.now place }
 {
-    if place < text.len() {
-        return wide(text[place]);
-    }
-    0
+    if place < text.len() { text[place] } else { 0 }
 }
 
-// Whether a space stands at a place.
-pub fn gap(text: &[u8], place: usize) -> bool
-    ensures { Gap text.now place result }
+// The digit at a place.
+pub fn digit(text: &[u8], from: usize) -> Option<u32>
+    ensures value { result ≡ digit_of (sign_at text.now from) }
+    ensures below { IfSome result (λ d. d < 10) }
 {
-    let b = byte(text, place);
-    b == GAP
+    match byte(text, from) {
+        b @ b'0'..=b'9' => Some(u32::from(b - b'0')),
+        _ => None,
+    }
 }
 
-// The digit at a place, or 10.
-pub fn digit(text: &[u8], from: usize) -> u32
-    ensures { result ≡ digit_of (sign_at text.now from) }
-{
-    let b = byte(text, from);
-    if b < 48 {
-        return 10;
-    }
-    if 57 < b {
-        return 10;
-    }
-    b - 48
-}
-
+// A number that was read, and where the reader stands behind it.
 #[derive(Clone, Copy)]
 pub struct Number {
-    pub ok: bool,
     pub place: usize,
     pub value: u32,
 }
 
-// Units, 1 to 65,535.
-pub fn units(text: &[u8], from: usize) -> Number
+// Units, 1 to 65,535; or where the reader stopped.
+pub fn units(text: &[u8], from: usize) -> Result<Number, usize>
     requires { from ≤ length text.now }
-    ensures counted { Counted text.now from result.ok result.place result.value }
-    ensures within { Within text.now from result.place 0 }
-    ensures value_le_max_units { result.value ≤ max_units }
+    ensures counted { Counted text.now from result }
+    ensures within { Within text.now from (number_end result) 0 }
+    ensures value_le_max_units { IfOk result (λ n. n.value ≤ max_units) }
 {
-    let first = digit(text, from);
-    if 10 <= first {
-        return Number {
-            ok: false,
-            place: from,
-            value: 0,
-        };
-    }
-    if first == 0 {
-        return Number {
-            ok: false,
-            place: from,
-            value: 0,
-        };
-    }
-    let mut i = from + 1;
-    let mut v = first;
-    let mut d = digit(text, i);
-    while d < 10 {
-        let w = v * 10 + d;
-        if MAX_UNITS < w {
-            return Number {
-                ok: false,
-                place: i,
-                value: 0,
-            };
+    let mut value = match digit(text, from) {
+        None | Some(0) => return Err(from),
+        Some(first) => first,
+    };
+    let mut place = from + 1;
+    while let Some(d) = digit(text, place) {
+        value = value * 10 + d;
+        if value > MAX_UNITS {
+            return Err(place);
         }
-        v = w;
-        i += 1;
-        d = digit(text, i);
+        place += 1;
     }
-    Number {
-        ok: true,
-        place: i,
-        value: v,
-    }
+    Ok(Number { place, value })
 }
 
-// A lock's number, 0 to 31.
-pub fn lock(text: &[u8], from: usize) -> Number
+// A lock's number, 0 to 31; or where the reader stopped.
+pub fn lock(text: &[u8], from: usize) -> Result<Number, usize>
     requires { from ≤ length text.now }
-    ensures numbered { Numbered text.now from result.ok result.place result.value }
-    ensures within { Within text.now from result.place 0 }
-    ensures value_le_max_lock { result.value ≤ max_lock }
+    ensures numbered { Numbered text.now from result }
+    ensures within { Within text.now from (number_end result) 0 }
+    ensures value_le_max_lock { IfOk result (λ n. n.value ≤ max_lock) }
 {
-    let d = digit(text, from);
-    if 10 <= d {
-        return Number {
-            ok: false,
-            place: from,
-            value: 0,
-        };
+    let Some(first) = digit(text, from) else {
+        return Err(from);
+    };
+    let place = from + 1;
+    let Some(second) = digit(text, place) else {
+        return Ok(Number { place, value: first });
+    };
+    let value = first * 10 + second;
+    if first == 0 || value > MAX_LOCK {
+        return Err(place);
     }
-    let i = from + 1;
-    let e = digit(text, i);
-    if 10 <= e {
-        return Number {
-            ok: true,
-            place: i,
-            value: d,
-        };
-    }
-    if d == 0 {
-        return Number {
-            ok: false,
-            place: i,
-            value: 0,
-        };
-    }
-    let w = d * 10 + e;
-    if MAX_LOCK < w {
-        return Number {
-            ok: false,
-            place: i,
-            value: 0,
-        };
-    }
-    let j = i + 1;
-    let f = digit(text, j);
-    if f < 10 {
-        return Number {
-            ok: false,
-            place: j,
-            value: 0,
-        };
-    }
-    Number {
-        ok: true,
-        place: j,
-        value: w,
+    let place = place + 1;
+    match digit(text, place) {
+        Some(_) => Err(place),
+        None => Ok(Number { place, value }),
     }
 }

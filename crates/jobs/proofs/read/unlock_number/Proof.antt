@@ -1,9 +1,0 @@
--- `jobs::read::unlock_number` meets its contract: the event's kind, and its field. Assumes nothing.
-use Rattle.rules.specs.Books.Event.{kind_of, id_of, amount_of}
-use borrow.Author.Rules.{rules}
-use Rattle.jobs.proofs.read.unlock_number.Statement.{statement}
-use Rattle.jobs.proofs.read.unlock_number.Tie as tie
-
-pub unlock_number_spec : {M : Type 1} → statement M
-unfolding kind_of id_of amount_of
-unlock_number_spec = tie.close (tie.spec (λ c. search rules) (λ c. search rules) (λ c. search rules))

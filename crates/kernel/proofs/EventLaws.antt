@@ -1,123 +1,259 @@
--- Each accepted event from its parts: the figures that it moved, the words and the counts. Assumes nothing.
-use Rattle.std.specs.Prelude.{Ok, if◌then◌else◌}
+-- Each accepted event from what its code does, one after the other: the state is the one of RULES 9. Assumes nothing.
+use Rattle.std.specs.Prelude.{Ok, Err, if◌then◌else◌}
 use mathlib.Core.Path.{◌≡◌, refl, sym, ◌∙◌, ap, ap₂}
 use mathlib.Core.Bool.{Bool, true, false}
-use mathlib.Core.List.{List, []}
+use mathlib.Core.List.{List}
 use Prim.Native.Nat.{ℕ, ◌+◌, ◌-◌, ◌%◌, ◌^◌, ◌<◌, max}
 use native.Mathlib.Nat.{add-zero}
-use lib.ListN.{set}
+use native.Mathlib.Omega.{arith}
+use lib.Dec.{eqb}
+use lib.ListN.{length, set}
 use lib.Seq.{set-get_or}
+use Rattle.rules.specs.Numbers.Capacity.{max_tasks, max_accepted}
 use Rattle.rules.specs.Numbers.Place.{at, renewed}
-use Rattle.rules.specs.Numbers.Row.{under, pushed, has}
-use Rattle.rules.specs.Schedulers.FiguresAfter.{differs, left_of}
-use Rattle.rules.specs.Schedulers.Lazy.{Words, entering, switched, after_release, after_acquire}
+use Rattle.rules.specs.Numbers.Row.{newest, under, pushed, has}
+use Rattle.rules.specs.Schedulers.Figures.{Figures, figures_of}
+use Rattle.rules.specs.Schedulers.FiguresAfter.{differs, left_of, stays_open, eager_calls, delayed, figures_after}
+use Rattle.rules.specs.Schedulers.Protocol.{second_word}
+use Rattle.rules.specs.Schedulers.Lazy.{words_of, calls_for, entering, best_kept, stays, restored, leaves, switched}
+use Rattle.rules.specs.Schedulers.Lazy.{after_release, after_acquire, after_unlock, words_after, lazy_call}
+use Rattle.rules.specs.Replays.Step.{after_of, answered, act_of}
+use Rattle.rules.specs.declared.plan.Plan.{Plan}
 use Rattle.rules.specs.declared.protocol.Protocol.{Protocol}
-use Rattle.rules.specs.declared.state.Head.{Head}
+use Rattle.rules.specs.declared.state.State.{State}
+use Rattle.rules.specs.Schedulers.EventRefusals.{refusal_of}
+use Rattle.rules.specs.declared.event.Event.{Event}
+use Rattle.rules.specs.declared.refusal.Refusal.{Refusal}
 use Rattle.rules.specs.declared.priority.KernelPriority.{KernelPriority}
 use Rattle.rules.specs.declared.priority.UserPriority.{UserPriority}
+use Rattle.rules.proofs.Numbers.Choice.{if_true, if_false}
 use Rattle.rules.proofs.Schedulers.Rules.{left_same, left_none}
+use Rattle.rules.proofs.Schedulers.Passed.{allowed}
+use Rattle.rules.proofs.Schedulers.WordsKept.{take_calls, give_calls}
+use Rattle.rules.proofs.Soundness.SoundKept.{scene}
 use Rattle.figures.proofs.Rows.{push_fits}
-use Rattle.kernel.specs.Lent.{accepted_with, entering_head, ticked_turn, turn_of, turned, words_on, words_with}
-use Rattle.kernel.specs.Work.{waited, charged_row}
-use Rattle.kernel.specs.Parts.{Counted, ReleaseDone, AcquireDone, stays_by, UnlockWords, UnlockDone, WorkDone, FinishDone}
-use Rattle.kernel.specs.declared.acted.Acted.{Acted}
-use Rattle.kernel.specs.declared.lazy.Unlocked.{Unlocked}
-use Rattle.kernel.specs.declared.switch.Turn.{Turn}
+use Rattle.tournament.specs.Keys.{tournament_of}
+use Rattle.tournament.specs.Tournament.{IsTournamentOf}
+use Rattle.tournament.specs.declared.tree.Tournament.{Tournament}
+use Rattle.tournament.proofs.KeyLaws.{put_idle}
+use Rattle.kernel.specs.Acting.{Accepts, IdleWord, given_back, with_words}
+use Rattle.kernel.specs.Work.{charged_row}
+use Rattle.kernel.proofs.Ready.{room, eager_room, lazy_room, unlock_runs, release_none, acquire_row, acquire_words, finish_left}
+use Rattle.kernel.proofs.WorkLaws.{charges}
 
--- the head of an event without a lazy call: its words are those of the turn
-module _ (h : Head) (turn : Turn) where
-  uncalled : (kept saved owner : List ℕ) → words_with (accepted_with h turn false 0).head kept saved owner ≡ words_on turn h.lazy kept saved owner
-  uncalled kept saved owner = ap (λ z. words_on turn z kept saved owner) (add-zero h.lazy)
+-- a tournament stands for another state of the same release numbers and kept priorities
+stands : (n : ℕ) (tree : Tournament) (s : State) → tree.tasks ≡ n → tree.keys ≡ tournament_of n s.released s.kept → length s.kept ≡ max_tasks
+    → IsTournamentOf tree.tasks tree s
+stands n tree s t k z = record { tasks = refl; keys = k ∙ ap (λ m. tournament_of m s.released s.kept) (sym t); sized = z }
 
-  -- without an eager call either
-  counts : Counted h (accepted_with h turn false 0) false 0
-  counts = record { answer = refl; number = refl; calls = refl }
+module _ (p : Plan) (s : State) where
+  abbrev f : Figures
+  f = figures_of s
 
-module _ (h : Head) (after : Turn) (r : Acted) where
-  pub release_done : (pr : Protocol) (n t : ℕ) (base maximum released kept delay kept₂ : List ℕ) (b : KernelPriority) (found : Head) → b.0 ≡ at base t
-      → found ≡ entering_head maximum h
-      → ((w : Words) → turned after kept₂ w ≡ after_release pr n (set released t (h.accepted + 1)) (set kept t b.0) b.0 (turned (turn_of found) kept w))
-      → r ≡ accepted_with h after false 0
-      → ReleaseDone pr h n t base maximum released kept delay r (set released t (h.accepted + 1)) kept₂ (set delay t 0)
+  abbrev r : ℕ
+  r = s.head.running
+
+  -- the state with one event more
+  abbrev pub counted : State
+  counted = record s { head = record s.head { accepted = s.head.accepted + 1 } }
+
+  -- ---- tick
+
+  pub tick_acts : (pr : Protocol) (n : ℕ) (found : State) (best next : KernelPriority) → found ≡ with_words counted (entering p.maximum (words_of counted))
+      → best.0 ≡ best_kept found.kept n → n ≡ p.tasks → next ≡ record { 0 = second_word pr found.head.user.0 best.0 }
+      → record found { head = record found.head { next = next } } ≡ after_of pr p s Event.Tick
+  unfolding after_of figures_after eager_calls words_after stays entering
+  tick_acts pr n found best next e b t w = rw (w, b, t, e, add-zero s.head.eager)
+
+  pub tick_stands : (n : ℕ) (found : State) (tree : Tournament) → found ≡ with_words counted (entering p.maximum (words_of counted)) → IsTournamentOf n tree s
+      → IsTournamentOf tree.tasks tree found
   unfolding entering
-  release_done pr n t base maximum released kept delay kept₂ b found read cut e q = rw q (record {
-    counted = counts h after;
-    place = refl;
-    wait = refl;
-    words = λ saved owner. uncalled h after kept₂ saved owner ∙ e (words_with h kept saved owner) ∙ rw (read, cut);
-  })
+  tick_stands n found tree e T = rw e (stands n tree _ T.tasks T.keys T.sized)
 
-  pub acquire_done : (l row v : ℕ) (ceiling depth takes saved owner saved₂ owner₂ : List ℕ) (top : UserPriority) → top.0 ≡ at ceiling l
-      → row ≡ at takes h.running → row < 256 ^ 7 → v ≡ pushed (row % 256 ^ 7) l
-      → ((lazy : ℕ) (kept : List ℕ) → words_on after lazy kept saved₂ owner₂ ≡ after_acquire l top.0 (words_on (turn_of h) lazy kept saved owner))
-      → r ≡ accepted_with h after false (differs h.user.0 after.user.0)
-      → AcquireDone h l ceiling depth takes saved owner r (set depth h.running (at depth h.running + 1)) (set takes h.running v) saved₂ owner₂
-  unfolding after_acquire
-  acquire_done l row v ceiling depth takes saved owner saved₂ owner₂ top c read few p e q = rw q (record {
-    counted = record {
-      answer = refl;
-      number = refl;
-      calls = ap (λ u. h.eager + differs h.user.0 u) (ap (λ (w : Words). w.user) (e 0 []) ∙ ap (max h.user.0) c);
-    };
-    count = refl;
-    row = ap (set takes h.running) (push_fits row l v few p ∙ ap (λ x. pushed x l) read);
-    words = λ kept. uncalled h after kept saved₂ owner₂ ∙ e h.lazy kept ∙ rw c;
-  })
+  -- ---- finish
 
-  pub finish_done : (pr : Protocol) (n : ℕ) (maximum released kept kept₂ : List ℕ) (found : Head) → found ≡ entering_head maximum h
-      → ((w : Words) → turned after kept₂ w ≡ switched pr n (set released h.running 0) (set kept found.running 0) w)
-      → r ≡ accepted_with h after false 0
-      → FinishDone pr h n maximum released kept r (set released h.running 0) kept₂
+  abbrev pub finished : State
+  finished = record counted { released = set s.released r 0 }
+
+  pub finish_acts : (pr : Protocol) (n : ℕ) (found after : State) → Accepts p s Event.Finish
+      → found ≡ with_words finished (entering p.maximum (words_of finished)) → n ≡ p.tasks
+      → after ≡ with_words found (switched pr n found.released found.kept (words_of found)) → after ≡ after_of pr p s Event.Finish
+  unfolding after_of figures_after eager_calls words_after entering
+  finish_acts pr n found after A e t g =
+      let k : set s.kept r 0 ≡ s.kept = sym (ap (set s.kept r) (finish_left A)) ∙ set-get_or s.kept r 0 in
+      rw (g, t, e, k, add-zero s.head.eager)
+
+  -- the tournament stands: nothing is kept for the task that is done
+  pub finish_stands : (n : ℕ) (found : State) (tree : Tournament) → Accepts p s Event.Finish
+      → found ≡ with_words finished (entering p.maximum (words_of finished)) → IsTournamentOf n tree s → IsTournamentOf tree.tasks tree found
   unfolding entering
-  finish_done pr n maximum released kept kept₂ found cut e q = rw q (record {
-    counted = counts h after;
-    place = refl;
-    words = λ saved owner. uncalled h after kept₂ saved owner ∙ e (entering maximum (words_with h kept saved owner)) ∙ rw cut;
-  })
+  finish_stands n found tree A e T = rw e (stands n tree _ T.tasks (put_idle n tree s T r 0 (finish_left A)) T.sized)
 
-pub tick_done : (pr : Protocol) (maximum : List ℕ) (h found : Head) (after : Turn) (most : KernelPriority) (r : Acted) → found ≡ entering_head maximum h
-    → after ≡ ticked_turn pr found most.0 → r ≡ accepted_with h after false 0
-    → r ≡ accepted_with h (ticked_turn pr (entering_head maximum h) most.0) false 0
-tick_done pr maximum h found after most r e g q = q ∙ ap (λ t. accepted_with h t false 0) (g ∙ ap (λ x. ticked_turn pr x most.0) e)
+  -- ---- release
 
-pub work_done : (h : Head) (turn : Turn) (r : Acted) → turn ≡ turn_of h → (n a : ℕ) (base released delay depth takes units delay₂ units₂ : List ℕ)
-    → delay₂ ≡ renewed delay (waited base released delay (at base h.running) a) n
-    → units₂ ≡ charged_row units a (at takes h.running) (at depth h.running) → r ≡ accepted_with h turn false 0
-    → WorkDone h n a base released delay depth takes units r delay₂ units₂
-work_done h turn r turns n a base released delay depth takes units delay₂ units₂ d u q = rw q (record {
-  counted = counts h turn;
-  waits = d;
-  sections = u;
-  words = λ kept saved owner. uncalled h turn kept saved owner ∙ rw turns;
-})
+  module _ (t : ℕ) where
+    abbrev pub released : State
+    released = record counted { released = set s.released t (s.head.accepted + 1); delay = set s.delay t 0 }
 
-pub unlock_done : (pr : Protocol) (h : Head) (r : Acted) (n l row u k : ℕ) (more : Bool)
-    (maximum released kept depth takes saved units owner kept₂ saved₂ units₂ owner₂ : List ℕ) (given : Unlocked)
-    → row ≡ at takes h.running → u ≡ under row → k ≡ at depth h.running - 1 → more ≡ has u k l
-    → units₂ ≡ set units l (left_of more (at units l)) → owner₂ ≡ set owner l (left_of more (at owner l))
-    → UnlockWords pr h n maximum released kept saved given kept₂ saved₂
-    → r ≡ accepted_with h given.turn given.call (differs h.user.0 given.back.0)
-    → UnlockDone pr h n l maximum released kept depth takes saved units owner r kept₂ (set depth h.running k) (set takes h.running u) saved₂ units₂ owner₂
-unlock_done pr h r n l row u k more maximum released kept depth takes saved units owner kept₂ saved₂ units₂ owner₂ given read rest less told s o g q =
-    rw q (record {
-      counted = record {
-        answer = ap Ok g.call;
-        number = refl;
-        calls = ap (λ u. h.eager + differs h.user.0 u) g.back;
-      };
-      count = ap (set depth h.running) less;
-      row = ap (set takes h.running) (rest ∙ ap under read);
-      section = s ∙ ap (λ b. set units l (left_of b (at units l))) so;
-      words = rw (o, ← so) (g.words h.lazy l more owner);
-    })
-  where
-    so : more ≡ stays_by h.running l depth takes
-    so = told ∙ ap₂ (λ a b. has a b l) (rest ∙ ap under read) less
+    pub release_acts : (pr : Protocol) (n : ℕ) (found after : State) (base : KernelPriority) → found ≡ with_words released (entering p.maximum (words_of released))
+        → n ≡ p.tasks → base.0 ≡ at p.base t
+        → after ≡ with_words found (after_release pr n found.released (set found.kept t base.0) base.0 (words_of found))
+        → after ≡ after_of pr p s (Event.Release t)
+    unfolding after_of figures_after eager_calls words_after entering
+    release_acts pr n found after base e m b g = rw (g, m, b, e, add-zero s.head.eager)
 
--- the section goes on where the lock stays open, and else it is over: of the units, and of the owner
-module _ (l : ℕ) (more : Bool) (figures : List ℕ) where
-  pub section_stays : more ≡ true → figures ≡ set figures l (left_of more (at figures l))
-  section_stays e = sym (ap (set figures l) (left_same more (at figures l) e) ∙ set-get_or figures l 0)
+    pub release_stands : (n : ℕ) (found : State) (tree : Tournament) → Accepts p s (Event.Release t)
+        → found ≡ with_words released (entering p.maximum (words_of released)) → IsTournamentOf n tree s → IsTournamentOf tree.tasks tree found
+    unfolding entering
+    release_stands n found tree A e T = rw e (stands n tree _ T.tasks (put_idle n tree s T t (s.head.accepted + 1) (release_none A)) T.sized)
 
-  pub section_ends : more ≡ false → set figures l 0 ≡ set figures l (left_of more (at figures l))
-  section_ends e = ap (set figures l) (sym (left_none more (at figures l) e))
+  -- ---- acquire
+
+  pub acquire_acts : (pr : Protocol) (l row words calls : ℕ) (user top : UserPriority) → Accepts p s (Event.Acquire l) → top.0 ≡ at p.ceiling l
+      → row ≡ pushed (at s.takes r % 256 ^ 7) l → words ≡ pushed (at s.saved r % 256 ^ 7) s.head.user.0 → user.0 ≡ max s.head.user.0 top.0
+      → calls ≡ differs s.head.user.0 user.0
+      → record s {
+        head = record s.head { accepted = s.head.accepted + 1; user = user; eager = s.head.eager + calls };
+        depth = set s.depth r (at s.depth r + 1);
+        takes = set s.takes r row;
+        saved = set s.saved r words;
+        owner = set s.owner l (r + 1);
+      } ≡ after_of pr p s (Event.Acquire l)
+  unfolding after_of figures_after eager_calls words_after after_acquire
+  acquire_acts pr l row words calls user top A c t w u g =
+      let o = allowed p f r (Event.Acquire l) A.passed in
+      let U : user ≡ record { 0 = max s.head.user.0 (at p.ceiling l) } = ap (λ v. record { 0 = v }) (u ∙ ap (max s.head.user.0) c) in
+      let E : s.head.eager + calls ≡ (figures_after p f r (Event.Acquire l)).eager =
+          ap (λ v. s.head.eager + v) (g ∙ ap (differs s.head.user.0) (u ∙ ap (max s.head.user.0) c)) ∙ sym (take_calls (scene A.sound (room A)) o.runs o) in
+      rw (E, U, push_fits (at s.takes r) l row (acquire_row A) t, push_fits (at s.saved r) s.head.user.0 words (acquire_words A) w)
+
+  -- ---- unlock: `back` is the state where the take is given back
+
+  module _ (l calls : ℕ) (back : State) (A : Accepts p s (Event.Unlock l)) (given : back ≡ given_back l s) (g : calls ≡ differs s.head.user.0 back.head.user.0) where
+    counts : s.head.eager + calls ≡ (figures_after p f r (Event.Unlock l)).eager
+    unfolding restored
+    counts = let o = allowed p f r (Event.Unlock l) A.passed in
+        ap (λ v. s.head.eager + v) (g ∙ ap (λ (x : State). differs s.head.user.0 x.head.user.0) given) ∙ sym (give_calls (scene A.sound (room A)) o.runs o)
+
+    -- the state that goes on
+    abbrev pub restored_so : ℕ → State
+    restored_so more = record back { head = record back.head { accepted = back.head.accepted + 1; lazy = back.head.lazy + more; eager = back.head.eager + calls } }
+
+    module _ (call : Bool) (said : call ≡ calls_for back.head.user.0 back.head.next.0) where
+      pub unlock_says : call ≡ lazy_call (words_of s) (Event.Unlock l)
+      unfolding lazy_call restored
+      unlock_says = said ∙ ap (λ (x : State). calls_for x.head.user.0 x.head.next.0) given
+
+      said_so : (b : Bool) → call ≡ b → calls_for (newest (at s.saved r)) s.head.next.0 ≡ b
+      unfolding restored
+      said_so b y = sym (ap (λ (x : State). calls_for x.head.user.0 x.head.next.0) given) ∙ sym said ∙ y
+
+      pub unlock_calls : (pr : Protocol) (n : ℕ) (found after : State) → call ≡ true
+          → found ≡ with_words (restored_so 1) (entering p.maximum (words_of (restored_so 1))) → n ≡ p.tasks
+          → after ≡ with_words found (leaves pr n found.released (words_of found)) → after ≡ after_of pr p s (Event.Unlock l)
+      unfolding after_of figures_after words_after after_unlock restored entering
+      unlock_calls pr n found after y e m q = rw (q, m, e, given, add-zero s.head.lazy, counts, said_so true y)
+
+      pub unlock_stays : (pr : Protocol) → call ≡ false
+          → record back { head = record back.head { accepted = back.head.accepted + 1; eager = back.head.eager + calls } } ≡ after_of pr p s (Event.Unlock l)
+      unfolding after_of figures_after words_after after_unlock restored
+      unlock_stays pr y = rw (given, counts, said_so false y)
+
+    -- somebody runs, and the tournament stands
+    pub unlock_idle : IdleWord (restored_so 1)
+    unfolding restored
+    unlock_idle = rw given (λ h. absurd (omega (arith, unlock_runs A)))
+
+    pub unlock_stands : (n : ℕ) (found : State) (tree : Tournament) → found ≡ with_words (restored_so 1) (entering p.maximum (words_of (restored_so 1)))
+        → IsTournamentOf n tree s → IsTournamentOf tree.tasks tree found
+    unfolding entering restored
+    unlock_stands n found tree e T = rw (e, given) (stands n tree _ T.tasks T.keys T.sized)
+
+    pub unlock_kept : (n : ℕ) (tree : Tournament) → IsTournamentOf n tree s →
+        IsTournamentOf n tree (record back { head = record back.head { accepted = back.head.accepted + 1; eager = back.head.eager + calls } })
+    unfolding restored
+    unlock_kept n tree T = rw given (record { tasks = T.tasks; keys = T.keys; sized = T.sized })
+
+    pub unlock_rooms : (back.head.eager < max_accepted) × (back.head.lazy < max_accepted)
+    unfolding restored
+    unlock_rooms = rw (given, add-zero s.head.lazy) (eager_room A, lazy_room A)
+
+  -- ---- work
+
+  pub work_acts : (pr : Protocol) (a : ℕ) (waited : State) (units : List ℕ) → Accepts p s (Event.Work a)
+      → waited ≡ record s { delay = renewed s.delay (delayed p f r a) p.tasks }
+      → units ≡ charged_row waited.units a (at waited.takes r) (at waited.depth r)
+      → record waited { head = record waited.head { accepted = waited.head.accepted + 1 }; units = units } ≡ after_of pr p s (Event.Work a)
+  unfolding after_of figures_after eager_calls words_after
+  work_acts pr a waited units A e u = rw (u, e, charges A, add-zero s.head.eager)
+
+-- ---- an eager call, where the words differ
+
+module _ (before after : ℕ) where
+  pub calls_none : true ≡ eqb before after → 0 ≡ differs before after
+  unfolding differs
+  calls_none e = sym (if_true (eqb before after) 0 1 (sym e))
+
+  pub calls_one : false ≡ eqb before after → 1 ≡ differs before after
+  unfolding differs
+  calls_one e = sym (if_false (eqb before after) 0 1 (sym e))
+
+-- ---- the take is given back: the section goes on where the lock stays open, and else it is over
+
+module _ (l : ℕ) (s : State) (row : ℕ) (more : Bool) (read : row ≡ under (at s.takes s.head.running)) (told : more ≡ has row (at s.depth s.head.running - 1) l) where
+  abbrev taken : List ℕ → List ℕ → State
+  taken units owner = record s {
+    depth = set s.depth s.head.running (at s.depth s.head.running - 1);
+    takes = set s.takes s.head.running row;
+    units = units;
+    owner = owner;
+  }
+
+  abbrev ended : State
+  ended = taken (set s.units l (left_of more (at s.units l))) (set s.owner l (left_of more (at s.owner l)))
+
+  pub section_stays : more ≡ true → (after : State) → after ≡ taken s.units s.owner → after ≡ ended
+  section_stays y after e = e ∙ ap₂ taken (kept s.units) (kept s.owner)
+    where
+      kept : (xs : List ℕ) → xs ≡ set xs l (left_of more (at xs l))
+      kept xs = sym (ap (set xs l) (left_same more (at xs l) y) ∙ set-get_or xs l 0)
+
+  pub section_ends : more ≡ false → (after : State) → after ≡ taken (set s.units l 0) (set s.owner l 0) → after ≡ ended
+  section_ends y after e = e ∙ ap₂ (λ u o. taken (set s.units l u) (set s.owner l o)) (sym (left_none more (at s.units l) y)) (sym (left_none more (at s.owner l) y))
+
+  pub gives_back : (joined : State) (user : UserPriority) (words : ℕ) → joined ≡ ended → user.0 ≡ newest (at joined.saved s.head.running)
+      → words ≡ under (at joined.saved s.head.running)
+      → record joined { head = record joined.head { user = user }; saved = set joined.saved s.head.running words } ≡ given_back l s
+  unfolding restored stays_open
+  gives_back joined user words e u w =
+      let U : user ≡ record { 0 = newest (at joined.saved s.head.running) } = ap (λ v. record { 0 = v }) u in
+      rw (w, U, e, told, read, add-zero s.head.lazy)
+
+-- ---- the arms: an acquire, work and a tick leave the tournament as it is
+
+module _ (pr : Protocol) (p : Plan) (s after : State) (n : ℕ) (tree : Tournament) (T : IsTournamentOf n tree s) where
+  pub acquire_stands : (l : ℕ) → after ≡ after_of pr p s (Event.Acquire l) → IsTournamentOf n tree after
+  unfolding after_of figures_after words_after after_acquire
+  acquire_stands l e = rw e (record { tasks = T.tasks; keys = T.keys; sized = T.sized })
+
+  pub work_stands : (a : ℕ) → after ≡ after_of pr p s (Event.Work a) → IsTournamentOf n tree after
+  unfolding after_of figures_after words_after
+  work_stands a e = rw e (record { tasks = T.tasks; keys = T.keys; sized = T.sized })
+
+  pub ticked_stands : after ≡ after_of pr p s Event.Tick → IsTournamentOf n tree after
+  unfolding after_of figures_after words_after stays entering
+  ticked_stands e = rw e (record { tasks = T.tasks; keys = T.keys; sized = T.sized })
+
+-- ---- the act: refused with what the tests say, or accepted
+
+module _ (pr : Protocol) (p : Plan) (s : State) (e : Event) where
+  pub act_refused : (why : Refusal) → Err why ≡ refusal_of p (figures_of s) s.head.running e
+      → record { answer = Err why; state = s } ≡ act_of pr p s e
+  unfolding act_of answered
+  act_refused why t = ap (λ v. answered v s (after_of pr p s e) (lazy_call (words_of s) e)) t
+
+  pub act_accepted : (call : Bool) (after : State) → Ok tt ≡ refusal_of p (figures_of s) s.head.running e → call ≡ lazy_call (words_of s) e
+      → after ≡ after_of pr p s e → record { answer = Ok call; state = after } ≡ act_of pr p s e
+  unfolding act_of answered
+  act_accepted call after t c g = ap₂ (λ (v : Bool) (x : State). record { answer = Ok v; state = x }) c g
+      ∙ ap (λ v. answered v s (after_of pr p s e) (lazy_call (words_of s) e)) t

@@ -1,10 +1,6 @@
 -- The laws behind the proofs of this crate, by the source that they serve.
-mod SwitchLaws
-mod LazyLaws
-mod WorkLaws
-mod RefusalLaws
-mod SameTests
 mod Ready
+mod TestLaws
+mod SwitchLaws
 mod EventLaws
-mod Outcome
-mod ActLaws
+mod WorkLaws

@@ -10,82 +10,116 @@ use native.Mathlib.Omega.{arith}
 use lib.Dec.{ltb}
 use lib.ListN.{length, set, length-set}
 use lib.Seq.{get_or-set_same, get_or-set_other, ext_get_or}
-use borrow.Author.Tests.{ne_eqb, lt-ltb, le-ltb, ltb-false}
+use borrow.Author.Tests.{ne_eqb, ltb-false}
 use Rattle.rules.specs.Numbers.Capacity.{max_locks, max_delay}
 use Rattle.rules.specs.Numbers.Place.{at, renewed}
 use Rattle.rules.specs.Numbers.Row.{newest, under, has}
-use Rattle.rules.specs.Schedulers.Figures.{Figures, holds}
-use Rattle.rules.specs.Schedulers.FiguresAfter.{charged}
-use Rattle.rules.specs.declared.priority.KernelPriority.{KernelPriority}
-use Rattle.rules.proofs.Numbers.Choice.{if_true, if_false, by_test, either, not_so, at_or, lt_or_le}
-use Rattle.rules.proofs.Numbers.Place.{RenewedSoFar, renewed_next, renewed_rest, renewed_at, renewed_same, length_renewed}
+use Rattle.rules.specs.Schedulers.Figures.{Figures, figures_of, holds}
+use Rattle.rules.specs.Schedulers.FiguresAfter.{delayed, charged, figures_after}
+use Rattle.rules.specs.Schedulers.Lazy.{best_kept}
+use Rattle.rules.specs.Schedulers.EventRefusals.{past_limit}
+use Rattle.rules.specs.Replays.Step.{after_of}
+use Rattle.rules.specs.declared.plan.Plan.{Plan}
+use Rattle.rules.specs.declared.state.State.{State}
+use Rattle.rules.specs.declared.event.Event.{Event}
+use Rattle.rules.proofs.Numbers.Choice.{if_true, if_false, by_test, either, not_so, untrue, true_and, at_or, lt_or_le}
+use Rattle.rules.proofs.Numbers.Place.{RenewedSoFar, renewed_next, renewed_rest, renewed_at, length_renewed, some_any}
 use Rattle.rules.proofs.Numbers.Row.{has_none, has_suc, has_newest, has_under}
-use Rattle.kernel.proofs.SwitchLaws.{set_past}
-use Rattle.kernel.specs.Ready.{Waiting}
-use Rattle.kernel.specs.Work.{waited_by, waited, bumped, charged_row, Laden}
+use Rattle.rules.proofs.Books.Obeyed.{few_locks}
+use Rattle.rules.proofs.Schedulers.Passed.{allowed}
+use Rattle.rules.proofs.Soundness.Shortcuts.{shortcuts}
+use Rattle.kernel.specs.Acting.{Accepts}
+use Rattle.kernel.specs.Work.{waited_by, bumped, charged_row, InRow, Laden}
 
 -- ---- a task's delay
 
 module _ (y q b d a : ℕ) where
-  pub waits_more : (more : ℕ) → (ltb 0 y && ltb b q) ≡ true → more ≡ min max_delay (d + a) → more ≡ waited_by y q b d a
+  pub waits_more : (ltb 0 y && ltb b q) ≡ true → (more : ℕ) → more ≡ min max_delay (d + a) → more ≡ waited_by y q b d a
   unfolding waited_by
-  waits_more more t e = e ∙ sym (if_true (ltb 0 y && ltb b q) (min max_delay (d + a)) d t)
+  waits_more t more e = e ∙ sym (if_true (ltb 0 y && ltb b q) (min max_delay (d + a)) d t)
 
   pub waits_same : (ltb 0 y && ltb b q) ≡ false → d ≡ waited_by y q b d a
   unfolding waited_by
   waits_same t = sym (if_false (ltb 0 y && ltb b q) (min max_delay (d + a)) d t)
 
 -- the loop over the tasks writes what each waits; a place that it comes to still holds what it held
-module _ (base released delay : List ℕ) (b a : ℕ) where
-  pub waited_next : (n t v : ℕ) (ys : List ℕ) → RenewedSoFar delay (waited base released delay b a) n t ys → t < n
-      → v ≡ waited_by (at released t) (at base t) b (at ys t) a
-      → RenewedSoFar delay (waited base released delay b a) n (t + 1) (set ys t v)
-  waited_next n t v ys e l g = renewed_next delay (waited base released delay b a) n t v ys e l
-      (g ∙ ap (λ d. waited_by (at released t) (at base t) b d a) (ap (λ zs. at zs t) e.1
-      ∙ renewed_rest delay (waited base released delay b a) t t 0 (omega arith)))
+module _ (p : Plan) (s : State) (a : ℕ) where
+  abbrev waited : ℕ → ℕ
+  waited = delayed p (figures_of s) s.head.running a
 
--- nobody waits more where nothing is kept above b
-pub waits_nobody : (n b k a : ℕ) (most : KernelPriority) (base released delay : List ℕ) (m : Bool) → Waiting most b base released → k ≡ b
-    → m ≡ ltb k most.0 → m ≡ false → delay ≡ renewed delay (waited base released delay b a) n
-waits_nobody n b k a most base released delay m W e said z = sym (renewed_same delay (waited base released delay b a) n (λ x l. sym (stays x)))
-  where
-    low : most.0 ≤ b
-    low = omega (arith, ltb-false k most.0 (sym said ∙ z))
+  abbrev pub WaitedSoFar : ℕ → State → Type 0
+  WaitedSoFar t now = (now ≡ record s { delay = now.delay }) × RenewedSoFar s.delay waited p.tasks t now.delay
 
-    stays : (x : ℕ) → at delay x ≡ waited base released delay b a x
-    stays x = waits_same (at released x) (at base x) b (at delay x) a (⊎_elim
-        (λ (q : 0 < at released x). rw (lt-ltb 0 (at released x) q) (⊎_elim
-        (λ (l : b < at base x). absurd (omega (arith, W x q l, low)))
-        (λ (l : at base x ≤ b). le-ltb b (at base x) l)
-        (lt_or_le b (at base x))))
-        (λ (q : at released x ≤ 0). rw (le-ltb 0 (at released x) q) refl)
-        (lt_or_le 0 (at released x)))
+  pub waited_next : (t v : ℕ) (now : State) → WaitedSoFar t now → t < p.tasks
+      → v ≡ waited_by (at now.released t) (at p.base t) (at p.base s.head.running) (at now.delay t) a
+      → WaitedSoFar (t + 1) (record now { delay = set now.delay t v })
+  unfolding delayed waited_by
+  waited_next t v now (e, h) l g = (
+    ap (λ (x : State). record x { delay = set now.delay t v }) e,
+    renewed_next s.delay waited p.tasks t v now.delay h l
+        (g ∙ ap₂ (λ y d. waited_by y (at p.base t) (at p.base s.head.running) d a) (ap (λ (x : State). at x.released t) e)
+        (ap (λ zs. at zs t) h.1 ∙ renewed_rest s.delay waited t t 0 (omega arith))),
+  )
+
+module _ {p : Plan} {s : State} {a : ℕ} (A : Accepts p s (Event.Work a)) where
+  -- nobody waits more where nothing is kept above the running task's base
+  pub waits_nobody : best_kept s.kept p.tasks ≤ at p.base s.head.running → s ≡ record s { delay = renewed s.delay (delayed p (figures_of s) s.head.running a) p.tasks }
+  unfolding after_of figures_after
+  waits_nobody h = ap (λ d. record s { delay = d }) (sym ((shortcuts A.sound).spares a h))
+
+  pub work_row : InRow max_locks (at s.takes s.head.running) (at s.depth s.head.running)
+  unfolding holds
+  work_row = record { known = λ l h. omega (arith, A.sound.sound.figures.known s.head.running l h, few_locks A.sound.sound.plan) }
+
+  -- the open sections have room for a units more, since none of them would pass its limit
+  laden : Laden p.locks s.units a (at s.takes s.head.running) (at s.depth s.head.running)
+  unfolding holds past_limit
+  laden = record {
+    known = λ l h. A.sound.sound.figures.known s.head.running l h;
+    room = λ l h. omega (arith, ltb-false (at p.limit l) (at s.units l + a) (within l h), A.sound.sound.plan.limit_bytes l);
+  }
+    where
+      g : ℕ → Bool
+      g l = has (at s.takes s.head.running) (at s.depth s.head.running) l && ltb (at p.limit l) (at s.units l + a)
+
+      within : (l : ℕ) → has (at s.takes s.head.running) (at s.depth s.head.running) l ≡ true → ltb (at p.limit l) (at s.units l + a) ≡ false
+      within l h = not_so (ltb (at p.limit l) (at s.units l + a)) (λ o. untrue
+          (sym (some_any g p.locks l (A.sound.sound.figures.known s.head.running l h) (true_and _ _ h o)) ∙ (allowed p (figures_of s) s.head.running (Event.Work a) A.passed).within))
 
 -- ---- the sections along the row
 
+-- what a row of locks below m is of
+module _ (m row : ℕ) where
+  pub row_newest : (k : ℕ) → InRow m row k → 0 < k → newest row < m
+  row_newest zero I o = absurd (not-suc-le-zero o)
+  row_newest (suc k) I o = I.known (newest row) (has_newest row k)
+
+  pub row_under : (k : ℕ) → InRow m row k → 0 < k → InRow m (under row) (k - 1)
+  row_under zero I o = absurd (not-suc-le-zero o)
+  row_under (suc k) I o = let q : suc k - 1 ≡ k = omega arith in
+      rw q (record { known = λ l h. I.known l (has_under row k l h) })
+
 -- the loop: what is left to charge
 module _ (units₀ : List ℕ) (a row k : ℕ) where
-  abbrev pub ChargedSoFar : List ℕ → ℕ → ℕ → Type 0
-  ChargedSoFar units left c = (length units ≡ max_locks) × (charged_row units a left c ≡ charged_row units₀ a row k)
+  pub record ChargedSoFar (units : List ℕ) (left c : ℕ) : Type 0 where
+    pub locks : InRow max_locks left c
+    pub rest : charged_row units a left c ≡ charged_row units₀ a row k
 
-  pub charge_start : length units₀ ≡ max_locks → ChargedSoFar units₀ row k
-  charge_start e = (e, refl)
-
-  pub charge_next : (units units₂ : List ℕ) (left c l u : ℕ) (older : Bool) → ChargedSoFar units left c → 0 < c → l ≡ newest left
-      → u ≡ under left → older ≡ has u (c - 1) l → units₂ ≡ bumped units older l a → length units₂ ≡ max_locks → ChargedSoFar units₂ u (c - 1)
+  -- `older` is whether an older take of the lock counts
+  pub charge_next : (units units₂ : List ℕ) (left c l u : ℕ) (older : Bool) → ChargedSoFar units left c → 0 < c → l ≡ newest left → u ≡ under left
+      → older ≡ has u (c - 1) l → units₂ ≡ bumped units older l a → ChargedSoFar units₂ u (c - 1)
   unfolding charged_row
-  charge_next units units₂ left zero l u older e h g r t q n = absurd (not-suc-le-zero h)
-  charge_next units units₂ left (suc c) l u older e h g r t q n =
+  charge_next units units₂ left zero l u older e h g r t q = absurd (not-suc-le-zero h)
+  charge_next units units₂ left (suc c) l u older e h g r t q =
       let o : suc c - 1 ≡ c = omega arith in
-      let b : older ≡ has (under left) c (newest left) = t ∙ ap₂ (λ v j. has v j l) r o ∙ ap (has (under left) c) g in (
-        n,
-        ap₂ (λ us j. charged_row us a u j) (q ∙ ap₂ (λ v x. bumped units v x a) b g) o
-            ∙ ap (λ v. charged_row (bumped units (has (under left) c (newest left)) (newest left) a) a v c) r ∙ e.1,
-      )
+      let b : older ≡ has (under left) c (newest left) = t ∙ ap₂ (λ v j. has v j l) r o ∙ ap (has (under left) c) g in rw r (record {
+        locks = row_under max_locks left (suc c) e.locks h;
+        rest = ap₂ (λ us j. charged_row us a (under left) j) (q ∙ ap₂ (λ v x. bumped units v x a) b g) o ∙ e.rest;
+      })
 
   pub charge_ends : (units : List ℕ) (left c : ℕ) → ChargedSoFar units left c → c ≤ 0 → units ≡ charged_row units₀ a row k
   unfolding charged_row
-  charge_ends units left zero e h = e.1
+  charge_ends units left zero e h = e.rest
   charge_ends units left (suc c) e h = absurd (not-suc-le-zero h)
 
 -- one section: an older take counts it, or it has a units more; a place past the end is not written
@@ -97,9 +131,6 @@ module _ (units : List ℕ) (older : Bool) (l a : ℕ) where
   pub bump_more : (v : ℕ) → older ≡ false → v ≡ min max_delay (at units l + a) → set units l v ≡ bumped units older l a
   unfolding bumped
   bump_more v e q = ap (set units l) q ∙ sym (if_false older units (set units l (min max_delay (at units l + a))) e)
-
-  pub bump_past : older ≡ false → length units ≡ max_locks → max_locks ≤ l → units ≡ bumped units older l a
-  bump_past e n h = sym (set_past units l (min max_delay (at units l + a)) (omega arith)) ∙ bump_more (min max_delay (at units l + a)) e refl
 
   pub length_bumped : length (bumped units older l a) ≡ length units
   unfolding bumped
@@ -197,3 +228,7 @@ module _ (m a : ℕ) where
 
       g : ℕ → ℕ
       g = charged f r a
+
+pub charges : {p : Plan} {s : State} {a : ℕ} → Accepts p s (Event.Work a)
+    → charged_row s.units a (at s.takes s.head.running) (at s.depth s.head.running) ≡ renewed s.units (charged (figures_of s) s.head.running a) p.locks
+charges {p} {s} {a} A = charged_row_lem p.locks a (figures_of s) s.head.running (rw A.sound.figures_sized.units (few_locks A.sound.sound.plan)) (laden A)

@@ -1,5 +1,3 @@
--- RULES 9: the state as the code lends it, what each event does with what it is lent, and the tests as the code makes them.
-pub mod Lent
+-- RULES 9: what the code of each event is handed, and what work does along the row of the running task's takes.
+pub mod Acting
 pub mod Work
-pub mod Ready
-pub mod Parts

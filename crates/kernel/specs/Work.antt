@@ -8,9 +8,6 @@ use Rattle.rules.specs.Numbers.Row.{newest, under, has}
 unfoldable pub waited_by : ℕ → ℕ → ℕ → ℕ → ℕ → ℕ
 waited_by y q b d a = if ltb 0 y && ltb b q then min max_delay (d + a) else d
 
-abbrev pub waited : List ℕ → List ℕ → List ℕ → ℕ → ℕ → ℕ → ℕ
-waited base released delay b a t = waited_by (at released t) (at base t) b (at delay t) a
-
 -- a units more would take one of the k newest past its limit
 unfoldable pub past_row : List ℕ → List ℕ → ℕ → ℕ → ℕ → Bool
 past_row limit units a row zero = false
@@ -25,7 +22,11 @@ unfoldable pub charged_row : List ℕ → ℕ → ℕ → ℕ → List ℕ
 charged_row units a row zero = units
 charged_row units a row (suc k) = charged_row (bumped units (has (under row) k (newest row)) (newest row) a) a (under row) k
 
--- the k newest of a row are of locks below m, and each of these has room for a units more
+-- the k newest of a row are of locks below m
+pub record InRow (m row k : ℕ) : Type 0 where
+  pub known : (l : ℕ) → has row k l ≡ true → l < m
+
+-- and each of these has room for a units more
 pub record Laden (m : ℕ) (units : List ℕ) (a row k : ℕ) : Type 0 where
   pub known : (l : ℕ) → has row k l ≡ true → l < m
   pub room : (l : ℕ) → has row k l ≡ true → at units l + a ≤ max_delay

@@ -1,65 +1,29 @@
 // RULES 9.5: acquire.
-ghost use Rattle.std.specs.Prelude.{◌^◌, ◌<◌};
-ghost use Rattle.rules.specs.Numbers.Capacity.{max_locks, max_takes, max_tasks};
-ghost use Rattle.rules.specs.Numbers.Place.{at};
-ghost use Rattle.kernel.specs.Parts.{AcquireAnswered, AcquireDone};
-ghost use Rattle.kernel.specs.Ready.{AcquireReady, Counts};
+ghost use Rattle.std.specs.Prelude.{◌≡◌};
+ghost use Rattle.rules.specs.Replays.Step.{after_of};
+ghost use Rattle.rules.specs.declared.protocol.Protocol.{Protocol};
+ghost use Rattle.kernel.specs.Acting.{Accepts};
 
-use crate::acted::Acted;
-use crate::counts::{accepted_with_word, refused};
-use crate::lazy::after_acquire;
-use crate::refusals::acquire_refusal;
+use crate::calls::eager_calls;
 use figures::priority::user_of;
-use figures::row::push_on;
-use rules::capacity::{MAX_LOCKS, MAX_TASKS};
-use rules::state::Head;
+use figures::row::{push_on, push_word};
+use rules::event::Event;
+use rules::plan::Plan;
+use rules::state::State;
 
-// The running task has a take of lock l more, and its word is saved and raised.
-fn accept(
-    h: Head,
-    ceiling: &[u8; MAX_LOCKS],
-    depth: &mut [u8; MAX_TASKS],
-    takes: &mut [u64; MAX_TASKS],
-    saved: &mut [u64; MAX_TASKS],
-    owner: &mut [u8; MAX_LOCKS],
-    l: u8,
-) -> Acted
-    requires counts { Counts h × (h.running < max_tasks) × (l < max_locks) }
-    requires running_bound { (at depth.old h.running < max_takes) × (at takes.old h.running < 256 ^ 7) × (at saved.old h.running < 256 ^ 7) }
-    ensures { AcquireDone h l
-        ceiling.now depth.old takes.old saved.old owner.old
-        result depth.new takes.new saved.new owner.new }
+// The running task has a take of lock l more, and its word is saved and raised to the lock's ceiling.
+pub fn acquire(plan: &Plan, state: &mut State, l: u8)
+    requires { Accepts plan.now state.old (Event.Acquire l) }
+    ensures { (pr : Protocol) → state.new ≡ after_of pr plan.now state.old (Event.Acquire l) }
 {
-    let x = h.running as usize;
+    let x = state.head.running as usize;
     let y = l as usize;
-    let k = depth[x];
-    depth[x] = k + 1;
-    let row = takes[x];
-    takes[x] = push_on(row, l);
-    let after = after_acquire(h, saved, owner, l, user_of(ceiling[y]));
-    accepted_with_word(h, after, false, after.user)
-}
-
-// 12, 13, 15, 17, 18, or it is accepted.
-pub fn acquire(
-    h: Head,
-    m: usize,
-    ceiling: &[u8; MAX_LOCKS],
-    uses: &[u32; MAX_TASKS],
-    depth: &mut [u8; MAX_TASKS],
-    takes: &mut [u64; MAX_TASKS],
-    saved: &mut [u64; MAX_TASKS],
-    owner: &mut [u8; MAX_LOCKS],
-    l: u8,
-) -> Acted
-    requires { AcquireReady h m depth.old takes.old saved.old }
-    ensures { AcquireAnswered h m l
-        ceiling.now uses.now depth.old takes.old saved.old owner.old
-        result depth.new takes.new saved.new owner.new }
-{
-    let tested = acquire_refusal(h.running as usize, m, uses, depth, owner, l);
-    match tested {
-        Err(why) => refused(h, why),
-        Ok(()) => accept(h, ceiling, depth, takes, saved, owner, l),
-    }
+    let before = state.head.user;
+    state.depth[x] += 1;
+    state.takes[x] = push_on(state.takes[x], l);
+    state.saved[x] = push_word(state.saved[x], before);
+    state.owner[y] = state.head.running + 1;
+    state.head.user = before.max(user_of(plan.ceiling[y]));
+    state.head.accepted += 1;
+    state.head.eager += eager_calls(before, state.head.user);
 }

@@ -1,14 +1,12 @@
-// The six events over lent arrays. This crate is no entry point: `scheduler` alone hands it a state,
-// which is sound, since it was tested or since every event keeps it so.
+// The six events on a state. This crate is no entry point: `scheduler` alone hands it a state, which is
+// sound, since it was tested or since every event keeps it so.
 #![tactic(auto)]
 
 mod acquire;
 pub mod act;
-pub mod acted;
-mod counts;
+mod calls;
 mod entry;
 mod finish;
-mod lazy;
 mod protocol;
 mod refusals;
 mod release;

@@ -1,167 +1,148 @@
 // RULES 9.2: the tests of each event, in their order; the first that holds refuses.
-ghost use Rattle.std.specs.Prelude.{◌≡◌, ◌&&◌, ◌||◌, not, ◌+◌, ◌≤◌, ◌<◌, eqb, length};
-ghost use Rattle.rules.specs.Numbers.Capacity.{max_locks, max_tasks};
-ghost use Rattle.rules.specs.Numbers.Place.{at};
-ghost use Rattle.rules.specs.Numbers.Row.{newest};
-ghost use Rattle.kernel.specs.Work.{past_row};
-ghost use Rattle.kernel.specs.Parts.{acquire_tested, finish_tested, release_tested, unlock_tested, work_tested};
+ghost use Rattle.std.specs.Prelude.{◌≡◌, ◌<◌};
+ghost use Rattle.rules.specs.Numbers.Capacity.{max_tasks};
+ghost use Rattle.rules.specs.Numbers.Refusal.{first_true};
+ghost use Rattle.rules.specs.Schedulers.EventRefusals.{elsewhere, not_newest, past_limit, refusal_of, tests_of};
+ghost use Rattle.rules.specs.Schedulers.Figures.{figures_of};
+ghost use Rattle.kernel.specs.Acting.{IsSound};
 
 use figures::mask::has_bit;
-use figures::number::{place_of, wide_word};
 use figures::row::{newest_of, under_of};
-use rules::capacity::{MAX_LOCKS, MAX_TAKES, MAX_TASKS};
+use rules::capacity::{MAX_ACCEPTED, MAX_TAKES, NOBODY};
+use rules::event::Event;
+use rules::plan::Plan;
 use rules::refusal::Refusal;
+use rules::state::State;
 
-pub fn release_refusal(n: usize, released: &[u32; MAX_TASKS], t: u8) -> Result<(), Refusal>
-    requires { n ≤ max_tasks }
-    ensures { result ≡ release_tested n t released.now }
+fn release_refusal(plan: &Plan, state: &State, t: u8) -> Result<(), Refusal>
+    requires { IsSound plan.now state.now }
+    ensures { result ≡ first_true (tests_of plan.now (figures_of state.now) state.now.head.running (Event.Release t)) }
 {
     let y = t as usize;
-    if n <= y {
-        return Err(Refusal::Unknown);
+    if plan.tasks <= y {
+        Err(Refusal::Unknown)
+    } else if 0 < state.released[y] {
+        Err(Refusal::AlreadyReleased)
+    } else {
+        Ok(())
     }
-    if 0 < released[y] {
-        return Err(Refusal::AlreadyReleased);
-    }
-    Ok(())
 }
 
-// Whether a lock is open for another task than x, by its owner's byte: the task plus one, or 0 for none.
-fn open_elsewhere(o: u8, x: usize) -> bool
-    requires { x < max_tasks }
-    ensures { result ≡ (not (eqb o 0) && not (eqb o (x + 1))) }
+// Whether lock l is open for another task than the one that runs, by its owner's byte: the task plus one,
+// or 0 for none.
+fn open_elsewhere(plan: &Plan, state: &State, l: u8) -> bool
+    requires sound { IsSound plan.now state.now }
+    requires known { (l < plan.now.locks) × (state.now.head.running < plan.now.tasks) }
+    ensures { result ≡ elsewhere (figures_of state.now) plan.now.tasks state.now.head.running l }
 {
-    if o == 0 {
-        return false;
-    }
-    place_of(o) != x + 1
+    let owner = state.owner[l as usize];
+    owner != 0 && owner != state.head.running + 1
 }
 
-// Task x runs, and a place past the last one is nobody. A lock is open for its owner alone.
-pub fn acquire_refusal(
-    x: usize,
-    m: usize,
-    uses: &[u32; MAX_TASKS],
-    depth: &[u8; MAX_TASKS],
-    owner: &[u8; MAX_LOCKS],
-    l: u8,
-) -> Result<(), Refusal>
-    requires { m ≤ max_locks }
-    ensures { result ≡ acquire_tested x m l uses.now depth.now owner.now }
+fn acquire_refusal(plan: &Plan, state: &State, l: u8) -> Result<(), Refusal>
+    requires { IsSound plan.now state.now }
+    ensures { result ≡ first_true (tests_of plan.now (figures_of state.now) state.now.head.running (Event.Acquire l)) }
 {
-    if MAX_TASKS <= x {
-        return Err(Refusal::NobodyRuns);
+    let x = state.head.running as usize;
+    if state.head.running == NOBODY {
+        Err(Refusal::NobodyRuns)
+    } else if plan.locks <= l as usize {
+        Err(Refusal::Unknown)
+    } else if !has_bit(plan.uses[x], l) {
+        Err(Refusal::NotDeclared)
+    } else if open_elsewhere(plan, state, l) {
+        Err(Refusal::OpenElsewhere)
+    } else if MAX_TAKES <= state.depth[x] {
+        Err(Refusal::RowFull)
+    } else {
+        Ok(())
     }
-    let y = l as usize;
-    if m <= y {
-        return Err(Refusal::Unknown);
-    }
-    if !has_bit(uses[x], l) {
-        return Err(Refusal::NotDeclared);
-    }
-    if open_elsewhere(owner[y], x) {
-        return Err(Refusal::OpenElsewhere);
-    }
-    if MAX_TAKES <= depth[x] {
-        return Err(Refusal::RowFull);
-    }
-    Ok(())
 }
 
-// Whether the newest of a row of k takes is not of lock l, or there is none.
-fn older(k: u8, row: u64, l: u8) -> bool
-    ensures { result ≡ (eqb k 0 || not (eqb (newest row) l)) }
+// Whether the running task's newest take is not of lock l, or it has none.
+fn older(state: &State, l: u8) -> bool
+    requires { state.now.head.running < max_tasks }
+    ensures { result ≡ not_newest (figures_of state.now) state.now.head.running l }
 {
-    if k == 0 {
-        return true;
-    }
-    newest_of(row) != l
+    let x = state.head.running as usize;
+    state.depth[x] == 0 || newest_of(state.takes[x]) != l
 }
 
-pub fn unlock_refusal(
-    x: usize,
-    m: usize,
-    depth: &[u8; MAX_TASKS],
-    takes: &[u64; MAX_TASKS],
-    l: u8,
-) -> Result<(), Refusal>
-    ensures { result ≡ unlock_tested x m l depth.now takes.now }
+fn unlock_refusal(plan: &Plan, state: &State, l: u8) -> Result<(), Refusal>
+    requires { IsSound plan.now state.now }
+    ensures { result ≡ first_true (tests_of plan.now (figures_of state.now) state.now.head.running (Event.Unlock l)) }
 {
-    if MAX_TASKS <= x {
-        return Err(Refusal::NobodyRuns);
+    if state.head.running == NOBODY {
+        Err(Refusal::NobodyRuns)
+    } else if plan.locks <= l as usize {
+        Err(Refusal::Unknown)
+    } else if older(state, l) {
+        Err(Refusal::NotNewest)
+    } else {
+        Ok(())
     }
-    let y = l as usize;
-    if m <= y {
-        return Err(Refusal::Unknown);
-    }
-    if older(depth[x], takes[x], l) {
-        return Err(Refusal::NotNewest);
-    }
-    Ok(())
 }
 
-// A figure of lock l; a place past the last one has 0.
-fn figure_of(figures: &[u16; MAX_LOCKS], l: u8) -> u32
-    requires { length figures.now ≡ max_locks }
-    ensures { (result ≡ at figures.now l) × (result < 65536) }
+// Whether a units more would take an open section of the running task past its limit.
+fn past(plan: &Plan, state: &State, a: u16) -> bool
+    requires sound { IsSound plan.now state.now }
+    requires known { state.now.head.running < plan.now.tasks }
+    ensures { result ≡ past_limit plan.now (figures_of state.now) state.now.head.running a }
 {
-    let y = l as usize;
-    if y < MAX_LOCKS {
-        return wide_word(figures[y]);
-    }
-    0
-}
-
-// Whether a units more would take one of the k newest of a row past its limit.
-fn past(limit: &[u16; MAX_LOCKS], units: &[u16; MAX_LOCKS], row: u64, k: u8, a: u16) -> bool
-    requires { (length limit.now ≡ max_locks) × (length units.now ≡ max_locks) }
-    ensures { result ≡ past_row limit.now units.now a row k }
-{
-    let more = wide_word(a);
-    let mut left = row;
-    let mut c = k;
-    while c > 0 {
-        let l = newest_of(left);
-        if figure_of(limit, l) < figure_of(units, l) + more {
+    let x = state.head.running as usize;
+    let mut left = state.takes[x];
+    for _older in (0..state.depth[x]).rev() {
+        let l = newest_of(left) as usize;
+        if (plan.limit[l] as u32) < state.units[l] as u32 + a as u32 {
             return true;
         }
         left = under_of(left);
-        c -= 1;
     }
     false
 }
 
-pub fn work_refusal(
-    x: usize,
-    limit: &[u16; MAX_LOCKS],
-    depth: &[u8; MAX_TASKS],
-    takes: &[u64; MAX_TASKS],
-    units: &[u16; MAX_LOCKS],
-    a: u16,
-) -> Result<(), Refusal>
-    requires { (length limit.now ≡ max_locks) × (length units.now ≡ max_locks) }
-    ensures { result ≡ work_tested x a limit.now depth.now takes.now units.now }
+fn work_refusal(plan: &Plan, state: &State, a: u16) -> Result<(), Refusal>
+    requires { IsSound plan.now state.now }
+    ensures { result ≡ first_true (tests_of plan.now (figures_of state.now) state.now.head.running (Event.Work a)) }
 {
     if a == 0 {
-        return Err(Refusal::NoWork);
+        Err(Refusal::NoWork)
+    } else if state.head.running == NOBODY {
+        Err(Refusal::NobodyRuns)
+    } else if past(plan, state, a) {
+        Err(Refusal::PastLimit)
+    } else {
+        Ok(())
     }
-    if MAX_TASKS <= x {
-        return Err(Refusal::NobodyRuns);
-    }
-    if past(limit, units, takes[x], depth[x], a) {
-        return Err(Refusal::PastLimit);
-    }
-    Ok(())
 }
 
-pub fn finish_refusal(x: usize, depth: &[u8; MAX_TASKS]) -> Result<(), Refusal>
-    ensures { result ≡ finish_tested x depth.now }
+fn finish_refusal(plan: &Plan, state: &State) -> Result<(), Refusal>
+    requires { IsSound plan.now state.now }
+    ensures { result ≡ first_true (tests_of plan.now (figures_of state.now) state.now.head.running Event.Finish) }
 {
-    if MAX_TASKS <= x {
-        return Err(Refusal::NobodyRuns);
+    if state.head.running == NOBODY {
+        Err(Refusal::NobodyRuns)
+    } else if 0 < state.depth[state.head.running as usize] {
+        Err(Refusal::StillOpen)
+    } else {
+        Ok(())
     }
-    if 0 < depth[x] {
-        return Err(Refusal::StillOpen);
+}
+
+// 11, then the event's own tests.
+pub fn refusal(plan: &Plan, state: &State, e: Event) -> Result<(), Refusal>
+    requires { IsSound plan.now state.now }
+    ensures { result ≡ refusal_of plan.now (figures_of state.now) state.now.head.running e }
+{
+    if MAX_ACCEPTED <= state.head.accepted {
+        return Err(Refusal::Exhausted);
     }
-    Ok(())
+    match e {
+        Event::Release(t) => release_refusal(plan, state, t),
+        Event::Acquire(l) => acquire_refusal(plan, state, l),
+        Event::Unlock(l) => unlock_refusal(plan, state, l),
+        Event::Work(a) => work_refusal(plan, state, a),
+        Event::Finish => finish_refusal(plan, state),
+        Event::Tick => Ok(()),
+    }
 }

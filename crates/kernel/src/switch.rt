@@ -1,176 +1,79 @@
 // RULES 9.10: the kernel's switch. The greatest kept priority runs, ties to the earlier release. The
 // tournament beside the kept priorities says who that is, and then who is next.
-ghost use Rattle.std.specs.Prelude.{◌≡◌, ◌≤◌, length, set};
-ghost use Rattle.rules.specs.Numbers.Capacity.{max_tasks};
+ghost use Rattle.std.specs.Prelude.{◌≡◌, set};
 ghost use Rattle.rules.specs.Numbers.Place.{at};
 ghost use Rattle.rules.specs.Schedulers.Elect.{elected};
-ghost use Rattle.rules.specs.Schedulers.Lazy.{Words, best_kept, runs_on, switched};
-ghost use Rattle.tournament.specs.Keys.{root_of, tournament_of};
-ghost use Rattle.kernel.specs.Lent.{idle_turn, turned};
+ghost use Rattle.rules.specs.Schedulers.Lazy.{best_kept, leaves, switched, words_of};
+ghost use Rattle.tournament.specs.Tournament.{IsTournamentOf};
+ghost use Rattle.kernel.specs.Acting.{with_words};
 
-use crate::protocol::entered;
+use crate::protocol::second_word;
 use figures::priority::{kernel_byte, kernel_of, recorded, shown};
-use rules::capacity::{MAX_TASKS, NOBODY};
-use rules::priority::{KernelPriority, UserPriority};
+use rules::capacity::MAX_TASKS;
+use rules::priority::KernelPriority;
 use rules::protocol::Protocol;
+use rules::state::State;
 use tournament::fits::{all_bytes, all_words};
 use tournament::keys::{key_of, who_of, word_of};
-use tournament::tree::{PLACES, put, top};
+use tournament::tree::Tournament;
 
-// Who runs after a switch, and the two words.
-#[derive(Clone, Copy)]
-pub struct Turn {
-    pub running: u8,
-    pub user: UserPriority,
-    pub next: KernelPriority,
-}
-
-// The kernel keeps a priority for task t, and the tournament follows; for nobody it keeps none. The
-// tournament's root is the answer.
-pub fn keep(
-    n: usize,
-    released: &[u32; MAX_TASKS],
-    kept: &mut [u8; MAX_TASKS],
-    tree: &mut [u64; PLACES],
-    t: u8,
-    priority: KernelPriority,
-) -> u64
-    requires { (n ≤ max_tasks) × (length kept.old ≡ max_tasks) × (tree.old ≡ tournament_of n released.now kept.old) }
-    ensures kept_after { (kept.new ≡ set kept.old t priority.0) × (length kept.new ≡ max_tasks) }
-    ensures tree_after { (tree.new ≡ tournament_of n released.now kept.new)
-        × (result ≡ root_of n released.now kept.new) }
+// The kernel keeps a priority for task t, and the tournament follows; for nobody it keeps none.
+pub fn keep(state: &mut State, tree: &mut Tournament, t: u8, priority: KernelPriority)
+    requires { IsTournamentOf tree.old.tasks tree.old state.old }
+    ensures state_after { state.new ≡ record state.old { kept = set state.old.kept t priority.0 } }
+    ensures tree_after { IsTournamentOf tree.old.tasks tree.new state.new }
 {
     let x = t as usize;
-    if x >= MAX_TASKS {
-        return top(tree);
-    }
-    let byte = kernel_byte(priority);
-    kept[x] = byte;
-    let key = key_of(byte, released[x], t);
-    put(tree, n, x, key)
-}
-
-// Of the first n tasks the one of greatest kept priority, ties to the earlier release, by the root.
-fn elect(n: usize, released: &[u32; MAX_TASKS], kept: &[u8; MAX_TASKS], root: u64) -> u8
-    requires { (n ≤ max_tasks) × (root ≡ root_of n released.now kept.now) }
-    ensures { result ≡ elected (at released.now) (at kept.now) n }
-{
-    all_words(released);
-    who_of(root)
-}
-
-// The greatest kept priority of the first n tasks, by the root.
-fn best_by(
-    n: usize,
-    released: &[u32; MAX_TASKS],
-    kept: &[u8; MAX_TASKS],
-    root: u64,
-) -> KernelPriority
-    requires { (n ≤ max_tasks) × (root ≡ root_of n released.now kept.now) }
-    ensures { result.0 ≡ best_kept kept.now n }
-{
-    all_words(released);
-    all_bytes(kept);
-    kernel_of(word_of(root))
-}
-
-// The same, by the tournament.
-pub fn best(
-    n: usize,
-    released: &[u32; MAX_TASKS],
-    kept: &[u8; MAX_TASKS],
-    tree: &[u64; PLACES],
-) -> KernelPriority
-    requires { (n ≤ max_tasks) × (tree.now ≡ tournament_of n released.now kept.now) }
-    ensures { result.0 ≡ best_kept kept.now n }
-{
-    let root = top(tree);
-    best_by(n, released, kept, root)
-}
-
-// Nobody runs.
-fn idle() -> Turn
-    ensures { result ≡ idle_turn }
-{
-    Turn {
-        running: NOBODY,
-        user: UserPriority(0),
-        next: KernelPriority(0),
+    if x < MAX_TASKS {
+        let byte = kernel_byte(priority);
+        state.kept[x] = byte;
+        tree.put(x, key_of(byte, state.released[x], t));
     }
 }
 
-// Task q, for which the greatest priority is kept, runs: that priority becomes the user word, and the
-// kept one is 0 until q leaves.
-fn run_on(
-    protocol: Protocol,
-    n: usize,
-    released: &[u32; MAX_TASKS],
-    kept: &mut [u8; MAX_TASKS],
-    tree: &mut [u64; PLACES],
-    root: u64,
-    q: u8,
-) -> Turn
-    requires n_le_max_tasks { (n ≤ max_tasks) × (length kept.old ≡ max_tasks) × (tree.old ≡ tournament_of n released.now kept.old) }
-    requires root_value { (root ≡ root_of n released.now kept.old) × (at kept.old q ≡ best_kept kept.old n) }
-    ensures w_after { (w : Words) → turned result kept.new w ≡ runs_on protocol n kept.old w q }
-    ensures tree_after { tree.new ≡ tournament_of n released.now kept.new }
+// The task of greatest kept priority, ties to the earlier release, by the tournament's root.
+fn elect(state: &State, tree: &Tournament) -> u8
+    requires { IsTournamentOf tree.now.tasks tree.now state.now }
+    ensures { result ≡ elected (at state.now.released) (at state.now.kept) tree.now.tasks }
 {
-    let k = best_by(n, released, kept, root);
-    let rest = keep(n, released, kept, tree, q, KernelPriority(0));
-    entered(protocol, q, shown(k), best_by(n, released, kept, rest))
+    all_words(&state.released);
+    who_of(tree.top())
 }
 
-// The task that is elected runs.
-fn run(
-    protocol: Protocol,
-    n: usize,
-    released: &[u32; MAX_TASKS],
-    kept: &mut [u8; MAX_TASKS],
-    tree: &mut [u64; PLACES],
-    root: u64,
-) -> Turn
-    requires n_le_max_tasks { (n ≤ max_tasks) × (length kept.old ≡ max_tasks) × (tree.old ≡ tournament_of n released.now kept.old) }
-    requires root_value { root ≡ root_of n released.now kept.old }
-    ensures w_after { (w : Words) → turned result kept.new w ≡ switched protocol n released.now kept.old w }
-    ensures tree_after { tree.new ≡ tournament_of n released.now kept.new }
+// The greatest kept priority, by the same.
+pub fn best(state: &State, tree: &Tournament) -> KernelPriority
+    requires { IsTournamentOf tree.now.tasks tree.now state.now }
+    ensures { result.0 ≡ best_kept state.now.kept tree.now.tasks }
 {
-    let q = elect(n, released, kept, root);
-    if q == NOBODY {
-        return idle();
-    }
-    run_on(protocol, n, released, kept, tree, root, q)
+    all_words(&state.released);
+    all_bytes(&state.kept);
+    kernel_of(word_of(tree.top()))
 }
 
-// The same, with the root as it stands.
-pub fn switch(
-    protocol: Protocol,
-    n: usize,
-    released: &[u32; MAX_TASKS],
-    kept: &mut [u8; MAX_TASKS],
-    tree: &mut [u64; PLACES],
-) -> Turn
-    requires { (n ≤ max_tasks) × (length kept.old ≡ max_tasks) × (tree.old ≡ tournament_of n released.now kept.old) }
-    ensures w_after { (w : Words) → turned result kept.new w ≡ switched protocol n released.now kept.old w }
-    ensures tree_after { tree.new ≡ tournament_of n released.now kept.new }
+// The task that is elected runs: the priority that is kept for it becomes the user word, and the kept one
+// is 0 until the task leaves. Nobody has none.
+pub fn switch(protocol: Protocol, state: &mut State, tree: &mut Tournament)
+    requires { IsTournamentOf tree.old.tasks tree.old state.old }
+    ensures state_after { state.new ≡ with_words state.old
+        (switched protocol tree.old.tasks state.old.released state.old.kept (words_of state.old)) }
+    ensures tree_after { IsTournamentOf tree.old.tasks tree.new state.new }
 {
-    let root = top(tree);
-    run(protocol, n, released, kept, tree, root)
+    let q = elect(state, tree);
+    state.head.running = q;
+    state.head.user = shown(best(state, tree));
+    keep(state, tree, q, KernelPriority(0));
+    state.head.next = second_word(protocol, state.head.user, best(state, tree));
 }
 
-// Task r leaves with this word, and the kernel switches.
-pub fn leave(
-    protocol: Protocol,
-    n: usize,
-    released: &[u32; MAX_TASKS],
-    kept: &mut [u8; MAX_TASKS],
-    tree: &mut [u64; PLACES],
-    r: u8,
-    word: UserPriority,
-) -> Turn
-    requires { (n ≤ max_tasks) × (length kept.old ≡ max_tasks) × (tree.old ≡ tournament_of n released.now kept.old) }
-    ensures w_after { (w : Words) → turned result kept.new w ≡ switched protocol n released.now (set kept.old r word.0) w }
-    ensures tree_after { tree.new ≡ tournament_of n released.now kept.new }
+// The running task leaves with its word, and the kernel switches.
+pub fn leave(protocol: Protocol, state: &mut State, tree: &mut Tournament)
+    requires { IsTournamentOf tree.old.tasks tree.old state.old }
+    ensures state_after { state.new ≡ with_words state.old
+        (leaves protocol tree.old.tasks state.old.released (words_of state.old)) }
+    ensures tree_after { IsTournamentOf tree.old.tasks tree.new state.new }
 {
-    let root = keep(n, released, kept, tree, r, recorded(word));
-    run(protocol, n, released, kept, tree, root)
+    let running = state.head.running;
+    let word = recorded(state.head.user);
+    keep(state, tree, running, word);
+    switch(protocol, state, tree);
 }

@@ -1,23 +1,24 @@
 // RULES 9.9: tick.
-ghost use Rattle.std.specs.Prelude.{◌≡◌, false};
-ghost use Rattle.kernel.specs.Lent.{accepted_with, entering_head, ticked_turn};
-ghost use Rattle.kernel.specs.Ready.{TickReady};
+ghost use Rattle.std.specs.Prelude.{◌≡◌};
+ghost use Rattle.rules.specs.Replays.Step.{after_of};
+ghost use Rattle.tournament.specs.Tournament.{IsTournamentOf};
+ghost use Rattle.kernel.specs.Acting.{Accepts};
 
-use crate::acted::Acted;
-use crate::counts::accepted;
-use crate::entry::entering;
-use crate::lazy::after_tick;
-use rules::capacity::MAX_TASKS;
-use rules::priority::KernelPriority;
+use crate::entry::enter;
+use crate::protocol::second_word;
+use crate::switch::best;
+use rules::event::Event;
+use rules::plan::Plan;
 use rules::protocol::Protocol;
-use rules::state::Head;
+use rules::state::State;
+use tournament::tree::Tournament;
 
-// The kernel is entered, and that is all; `most` is the greatest that is kept. Nothing refuses it.
-pub fn tick(protocol: Protocol, h: Head, maximum: &[u8; MAX_TASKS], most: KernelPriority) -> Acted
-    requires { TickReady h }
-    ensures { result ≡ accepted_with h (ticked_turn protocol (entering_head maximum.now h) most.0) false 0 }
+// The kernel is entered, and that is all.
+pub fn tick(protocol: Protocol, plan: &Plan, state: &mut State, tree: &Tournament)
+    requires { Accepts plan.now state.old Event.Tick × IsTournamentOf plan.now.tasks tree.now state.old }
+    ensures { state.new ≡ after_of protocol plan.now state.old Event.Tick }
 {
-    let found = entering(maximum, h);
-    let after = after_tick(protocol, found, most);
-    accepted(h, after, false, 0)
+    state.head.accepted += 1;
+    enter(plan, state);
+    state.head.next = second_word(protocol, state.head.user, best(state, tree));
 }

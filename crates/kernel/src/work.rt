@@ -2,161 +2,81 @@
 ghost use Rattle.std.specs.Prelude.{◌≡◌, ◌+◌, ◌≤◌, ◌<◌, min, length};
 ghost use Rattle.rules.specs.Numbers.Capacity.{max_delay, max_locks, max_tasks};
 ghost use Rattle.rules.specs.Numbers.Place.{at, renewed};
-ghost use Rattle.kernel.specs.Work.{bumped, charged_row, waited, waited_by};
-ghost use Rattle.kernel.specs.Parts.{WorkAnswered, WorkDone};
-ghost use Rattle.kernel.specs.Ready.{Counts, Waiting, WorkReady};
+ghost use Rattle.rules.specs.Replays.Step.{after_of};
+ghost use Rattle.rules.specs.Schedulers.Figures.{figures_of};
+ghost use Rattle.rules.specs.Schedulers.FiguresAfter.{delayed};
+ghost use Rattle.rules.specs.declared.protocol.Protocol.{Protocol};
+ghost use Rattle.tournament.specs.Tournament.{IsTournamentOf};
+ghost use Rattle.kernel.specs.Acting.{Accepts};
+ghost use Rattle.kernel.specs.Work.{InRow, charged_row, waited_by};
 
-use crate::acted::Acted;
-use crate::counts::{accepted, refused, turn_of};
-use crate::refusals::work_refusal;
-use figures::priority::{exceeds, kernel_of};
+use crate::switch::best;
+use figures::priority::kernel_of;
 use figures::row::{has_lock, newest_of, under_of};
-use rules::capacity::{MAX_DELAY, MAX_LOCKS, MAX_TASKS};
-use rules::priority::KernelPriority;
-use rules::state::Head;
+use rules::capacity::MAX_LOCKS;
+use rules::event::Event;
+use rules::plan::Plan;
+use rules::state::State;
+use tournament::tree::Tournament;
 
-// A sum that sticks at 65,535.
-fn stick(a: u16, b: u16) -> u16
-    ensures { result ≡ min max_delay (a + b) }
-{
-    if MAX_DELAY - a < b {
-        return MAX_DELAY;
-    }
-    a + b
-}
-
-// The delay of a task of release number y and base q after a units by one of base b. One test for both: so
+// The delay d of a task of release number y and base q after a units by one of base b. One test for both: so
 // the compiler chooses once, and for several tasks at a time.
 fn delay_of(y: u32, q: u8, b: u8, d: u16, a: u16) -> u16
     ensures { result ≡ waited_by y q b d a }
 {
-    let more = stick(d, a);
-    let waits = (0 < y) & (b < q);
-    if waits {
-        return more;
-    }
-    d
+    let more = d.saturating_add(a);
+    if (0 < y) & (b < q) { more } else { d }
 }
 
-// Every released task of greater base than b waits a units more.
-fn delays(
-    n: usize,
-    base: &[u8; MAX_TASKS],
-    released: &[u32; MAX_TASKS],
-    delay: &mut [u16; MAX_TASKS],
-    b: u8,
-    a: u16,
-)
-    requires { n ≤ max_tasks }
-    ensures { delay.new ≡ renewed delay.old (waited base.now released.now delay.old b a) n }
+// Every released task of greater base than the running one's waits a units more.
+fn delays(plan: &Plan, state: &mut State, a: u16)
+    requires { (plan.now.tasks ≤ max_tasks) × (state.old.head.running < max_tasks) }
+    ensures { state.new ≡ record state.old {
+        delay = renewed state.old.delay (delayed plan.now (figures_of state.old) state.old.head.running a) plan.now.tasks } }
 {
-    let mut t: usize = 0;
-    while t < n {
-        let d = delay_of(released[t], base[t], b, delay[t], a);
-        delay[t] = d;
-        t += 1;
+    let b = plan.base[state.head.running as usize];
+    for t in 0..plan.tasks {
+        state.delay[t] = delay_of(state.released[t], plan.base[t], b, state.delay[t], a);
     }
 }
 
-// The same, and without a walk where nothing is kept above b, since `most` is the greatest that is: then
-// nobody of greater base is released (RULES 8.13).
-fn waits(
-    n: usize,
-    most: KernelPriority,
-    base: &[u8; MAX_TASKS],
-    released: &[u32; MAX_TASKS],
-    delay: &mut [u16; MAX_TASKS],
-    b: u8,
-    a: u16,
-)
-    requires { (n ≤ max_tasks) × Waiting most b base.now released.now }
-    ensures { delay.new ≡ renewed delay.old (waited base.now released.now delay.old b a) n }
-{
-    if exceeds(most, kernel_of(b)) {
-        delays(n, base, released, delay, b, a);
-    }
-}
-
-// A units more for the section of lock l, unless an older take of it counts them.
-fn bump(units: &mut [u16; MAX_LOCKS], older: bool, l: u8, a: u16)
-    requires { length units.old ≡ max_locks }
-    ensures { (units.new ≡ bumped units.old older l a) × (length units.new ≡ max_locks) }
-{
-    if older {
-        return;
-    }
-    let y = l as usize;
-    if y >= MAX_LOCKS {
-        return;
-    }
-    let u = units[y];
-    units[y] = stick(u, a);
-}
-
-// The same for the lock of each of the k newest takes of a row: it counts at its oldest take.
+// A units more for the section of the lock of each of the k newest takes of a row: they count at its oldest
+// take.
 fn charge(units: &mut [u16; MAX_LOCKS], row: u64, k: u8, a: u16)
-    requires { length units.old ≡ max_locks }
+    requires { InRow max_locks row k }
     ensures { units.new ≡ charged_row units.old a row k }
 {
     let mut left = row;
-    let mut c = k;
-    while c > 0 {
+    for older in (0..k).rev() {
         let l = newest_of(left);
         left = under_of(left);
-        c -= 1;
-        bump(units, has_lock(left, c, l), l, a);
+        if !has_lock(left, older, l) {
+            let y = l as usize;
+            units[y] = units[y].saturating_add(a);
+        }
+    }
+}
+
+// The same, and without a walk where nothing is kept above the running task's base: then nobody of greater
+// base is released (RULES 8.13).
+fn waits(plan: &Plan, state: &mut State, tree: &Tournament, a: u16)
+    requires { Accepts plan.now state.old (Event.Work a) × IsTournamentOf plan.now.tasks tree.now state.old }
+    ensures { state.new ≡ record state.old {
+        delay = renewed state.old.delay (delayed plan.now (figures_of state.old) state.old.head.running a) plan.now.tasks } }
+{
+    if kernel_of(plan.base[state.head.running as usize]) < best(state, tree) {
+        delays(plan, state, a);
     }
 }
 
 // The running task works a units: they count once for each lock that it has open, and as delay for every
 // released task of greater base.
-fn accept(
-    h: Head,
-    n: usize,
-    most: KernelPriority,
-    base: &[u8; MAX_TASKS],
-    released: &[u32; MAX_TASKS],
-    delay: &mut [u16; MAX_TASKS],
-    depth: &[u8; MAX_TASKS],
-    takes: &[u64; MAX_TASKS],
-    units: &mut [u16; MAX_LOCKS],
-    a: u16,
-) -> Acted
-    requires counts { Counts h × (h.running < max_tasks) × (n ≤ max_tasks) × (length units.old ≡ max_locks) }
-    requires waiting { Waiting most (at base.now h.running) base.now released.now }
-    ensures { WorkDone h n a
-        base.now released.now delay.old depth.now takes.now units.old
-        result delay.new units.new }
+pub fn work(plan: &Plan, state: &mut State, tree: &Tournament, a: u16)
+    requires { Accepts plan.now state.old (Event.Work a) × IsTournamentOf plan.now.tasks tree.now state.old }
+    ensures { (pr : Protocol) → state.new ≡ after_of pr plan.now state.old (Event.Work a) }
 {
-    let x = h.running as usize;
-    waits(n, most, base, released, delay, base[x], a);
-    charge(units, takes[x], depth[x], a);
-    let turn = turn_of(h);
-    accepted(h, turn, false, 0)
-}
-
-// 20, 12, 21, or it is accepted.
-pub fn work(
-    h: Head,
-    n: usize,
-    most: KernelPriority,
-    base: &[u8; MAX_TASKS],
-    limit: &[u16; MAX_LOCKS],
-    released: &[u32; MAX_TASKS],
-    delay: &mut [u16; MAX_TASKS],
-    depth: &[u8; MAX_TASKS],
-    takes: &[u64; MAX_TASKS],
-    units: &mut [u16; MAX_LOCKS],
-    a: u16,
-) -> Acted
-    requires { WorkReady h n most base.now limit.now released.now units.old }
-    ensures { WorkAnswered h n a
-        base.now limit.now released.now delay.old depth.now takes.now units.old
-        result delay.new units.new }
-{
-    let tested = work_refusal(h.running as usize, limit, depth, takes, units, a);
-    match tested {
-        Err(why) => refused(h, why),
-        Ok(()) => accept(h, n, most, base, released, delay, depth, takes, units, a),
-    }
+    let x = state.head.running as usize;
+    waits(plan, state, tree, a);
+    charge(&mut state.units, state.takes[x], state.depth[x], a);
+    state.head.accepted += 1;
 }

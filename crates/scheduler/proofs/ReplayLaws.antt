@@ -7,10 +7,9 @@ use Prim.Native.Nat.{ℕ, ◌-◌, ◌*◌, ◌/◌, ◌≤◌}
 use native.Mathlib.Omega.{arith}
 use lib.ListN.{length, take, drop, length-drop}
 use lib.Seq.{take_all}
-use Rattle.rules.specs.Numbers.Capacity.{max_locks}
 use Rattle.rules.specs.Numbers.Place.{from}
 use Rattle.rules.specs.Soundness.Sound.{SoundAndSized}
-use Rattle.rules.specs.Books.Load.{lock_limit, plan_of}
+use Rattle.rules.specs.Books.Load.{plan_of}
 use Rattle.rules.specs.Books.Book.{count_at, body_at, event_body, record_event, events_of, plan_in, check_of, checked_as, checked_of}
 use Rattle.rules.specs.Schedulers.State.{fresh_of}
 use Rattle.rules.specs.Replays.Run.{run_from}
@@ -62,10 +61,6 @@ module _ (pr : Protocol) (b : List ℕ) (room : ℕ) where
 
       pub plan_sound : SoundAndSized pr c.plan fresh_of
       plan_sound = fresh_sound pr (rw plan_is (passed_obeys b room said))
-
-      pub plan_limits : length c.plan.limit ≡ max_locks
-      unfolding plan_of
-      plan_limits = rw plan_is (length_from (λ l. lock_limit _) 0 max_locks)
 
       module _ (body : List ℕ) (part : body ≡ take (length b - c.events) (drop c.events b)) where
         whole_part : body ≡ event_body b

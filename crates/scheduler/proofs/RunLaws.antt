@@ -1,144 +1,114 @@
 -- The turns of a run: what is left from here comes to what all of it comes to. Assumes nothing.
 use Rattle.std.specs.Prelude.{Ok, Err}
-use Rattle.rules.specs.Numbers.Verdict.{Verdict, Answer, refused_at}
-use mathlib.Core.Path.{◌≡◌, refl, sym, ◌∙◌, ap, subst}
-use mathlib.Core.Bool.{Bool, true, false}
-use mathlib.Core.List.{List}
-use Prim.Native.Nat.{ℕ, suc, ◌+◌, ◌-◌, ◌^◌, ◌≤◌, ◌<◌}
+use Rattle.rules.specs.Numbers.Verdict.{Answer, refused_at}
+use mathlib.Core.Path.{◌≡◌, refl, sym, ◌∙◌, ap, ap₂, subst}
+use mathlib.Core.List.{List, [], ◌∷◌}
+use Prim.Native.Nat.{ℕ, suc, ◌+◌, ◌-◌, ◌≤◌, ◌<◌, min}
 use native.Mathlib.Numerals.{add-one}
 use native.Mathlib.Omega.{arith}
-use lib.Dec.{eqb, ltb}
-use lib.ListN.{length, replicate}
-use borrow.Author.Tests.{ltb-true, ltb-false, eqb-true}
+use lib.Dec.{eqb}
+use lib.ListN.{length}
+use borrow.Author.Tests.{eqb-true}
 use Rattle.rules.specs.Numbers.Capacity.{max_tasks}
 use Rattle.rules.specs.Numbers.Place.{from}
 use Rattle.rules.specs.Soundness.Sound.{SoundAndSized}
 use Rattle.rules.specs.Schedulers.State.{fresh_of}
-use Rattle.rules.specs.Replays.Step.{act_of}
 use Rattle.rules.specs.Replays.Run.{Ran, onward, run_from}
+use Rattle.rules.specs.Replays.Step.{step_of}
 use Rattle.rules.specs.declared.plan.Plan.{Plan}
 use Rattle.rules.specs.declared.protocol.Protocol.{Protocol}
 use Rattle.rules.specs.declared.state.State.{State}
 use Rattle.rules.specs.declared.event.Event.{Event}
 use Rattle.rules.specs.declared.refusal.Refusal.{Refusal}
-use Rattle.rules.specs.declared.answer.Stepped.{Stepped}
-use Rattle.rules.proofs.Numbers.Choice.{if_true, if_false, by_test, untrue}
+use Rattle.rules.proofs.Numbers.Choice.{if_true, if_false, by_test}
 use Rattle.rules.proofs.Numbers.Place.{from_same}
 use Rattle.rules.proofs.Books.Obeyed.{few_tasks}
 use Rattle.rules.proofs.Replays.RowBytes.{row_length}
 use Rattle.rules.proofs.Soundness.SoundKept.{act_sound, step_act}
-use Rattle.tournament.specs.Tree.{places}
-use Rattle.scheduler.specs.Going.{rows_after, stopped_at, turned_as, event_in, event_on, goes_on, left_from, TurnReady, RunReady, Going}
+use Rattle.tournament.specs.Keys.{tournament_of}
+use Rattle.tournament.specs.Tournament.{IsTournamentOf}
+use Rattle.tournament.specs.declared.tree.Tournament.{Tournament}
+use Rattle.scheduler.specs.Going.{event_in, event_on, TurnReady, RunReady, Underway}
 
--- whether it goes on, by the verdict
-pub on_passed : (v : Verdict) (k n : ℕ) → v ≡ Ok tt → ltb k n ≡ goes_on v k n
-unfolding goes_on
-on_passed v k n e = rw e
+-- the tournament that is made at the start
+pub made_tree : (pr : Protocol) (p : Plan) (s : State) (n : ℕ) (rows : List ℕ) (tree : Tournament) → RunReady pr p s n rows
+    → tree.tasks ≡ min p.tasks max_tasks → tree.keys ≡ tournament_of (min p.tasks max_tasks) s.released s.kept → IsTournamentOf p.tasks tree s
+made_tree pr p s n rows tree R t k =
+    let few : min p.tasks max_tasks ≡ p.tasks = omega (arith, few_tasks R.sound.sound.plan) in record {
+      tasks = t ∙ few;
+      keys = k ∙ ap (λ m. tournament_of m s.released s.kept) few;
+      sized = R.sound.words_sized.kept;
+    }
 
-pub on_refused : (v : Verdict) (why : Refusal) (place k n : ℕ) → v ≡ refused_at why place → false ≡ goes_on v k n
-unfolding goes_on
-on_refused v why place k n e = rw e
+apart : (why : Refusal) (place : ℕ) → Ok tt ≡ refused_at why place → ⊥
+apart why place e = cc
 
--- the tournament that is made at the start, in an array of zeros
-abbrev zeros : List ℕ
-zeros = replicate places 0
+-- what one event comes to, before others
+module _ (t : State) (k : ℕ) (rows : List ℕ) (rest : State → List ℕ → Ran) where
+  abbrev last : State → List ℕ → Ran
+  last s₂ rows₂ = record { verdict = Ok tt; state = s₂; rows = rows₂ }
 
-pub made_tree : (pr : Protocol) (p : Plan) (s : State) (n : ℕ) (rows tree made : List ℕ) → RunReady pr p s n rows
-    → (p.tasks ≤ max_tasks → zeros ≡ zeros → made ≡ tree) → made ≡ tree
-made_tree pr p s n rows tree made R e = e (few_tasks R.sound.sound.plan) refl
+  onward_passed : (a : Answer) (s₂ : State) (rows₂ : List ℕ) → record { verdict = Ok tt; state = s₂; rows = rows₂ } ≡ onward a t k rows last
+      → onward a t k rows rest ≡ rest s₂ rows₂
+  unfolding onward
+  onward_passed (Ok call) s₂ rows₂ e = ap (λ (x : Ran). rest x.state x.rows) (sym e)
+  onward_passed (Err why) s₂ rows₂ e = absurd (apart why k (ap (λ (x : Ran). x.verdict) e))
 
-module _ (pr : Protocol) (p : Plan) (events : ℕ → Event) (n : ℕ) (first : State) (start : List ℕ) where
-  pub going_start : RunReady pr p first n start → n < 2 ^ 64
-      → Going pr p events n first start 0 (record { verdict = Ok tt; state = first; rows = start })
-  unfolding Going left_from
-  going_start R few = record {
-    asked = R;
-    few = few;
-    within = omega arith;
+  onward_refused : (a : Answer) (why : Refusal) (place : ℕ) (s₂ : State) (rows₂ : List ℕ)
+      → record { verdict = refused_at why place; state = s₂; rows = rows₂ } ≡ onward a t k rows last
+      → onward a t k rows rest ≡ record { verdict = refused_at why place; state = s₂; rows = rows₂ }
+  unfolding onward
+  onward_refused (Ok call) why place s₂ rows₂ e = absurd (apart why place (sym (ap (λ (x : Ran). x.verdict) e)))
+  onward_refused (Err w) why place s₂ rows₂ e = sym e
+
+  onward_length : (a : Answer) (s₂ : State) (rows₂ : List ℕ) → record { verdict = Ok tt; state = s₂; rows = rows₂ } ≡ onward a t k rows last
+      → (s₂ ≡ t) × (length rows₂ ≡ length rows)
+  unfolding onward
+  onward_length (Ok call) s₂ rows₂ e = (ap (λ (x : Ran). x.state) e, ap (λ (x : Ran). length x.rows) e ∙ row_length rows k t.head call)
+  onward_length (Err why) s₂ rows₂ e = absurd (apart why k (ap (λ (x : Ran). x.verdict) e))
+
+module _ (pr : Protocol) (p : Plan) (events : ℕ → Event) (n : ℕ) (first : State) (start : List ℕ) (R : RunReady pr p first n start) where
+  pub going_start : Underway pr p events n first start 0 first start
+  going_start = record {
     rest = let q : n - 0 ≡ n = omega arith in ap (λ c. run_from pr p (from events 0 c) 0 first start) q;
     sound = R.sound;
     same = refl;
   }
 
-  -- one turn of what is left, where nothing was refused and an event is left
-  left_turn : (k : ℕ) (s : State) (rows : List ℕ) → SoundAndSized pr p s → k < n → (r : Stepped) → r ≡ act_of pr p s (events k)
-      → left_from pr p events n (suc k) (stopped_at r.answer k) r.state (rows_after r.answer r.state.head k rows)
-      ≡ run_from pr p (from events k (n - k)) k s rows
-  unfolding run_from from left_from stopped_at rows_after onward
-  left_turn k s rows S l r h =
-      let q : n - k ≡ suc (n - suc k) = omega arith in
-      by r.answer ∙ ap (λ (x : Stepped). onward x.answer x.state k rows rest) (h ∙ sym (step_act S (events k)))
-      ∙ ap (λ c. run_from pr p (from events k c) k s rows) (sym q)
-    where
-      rest : State → List ℕ → Ran
-      rest = run_from pr p (from events (suc k) (n - suc k)) (suc k)
+  module _ (k : ℕ) (s : State) (rows : List ℕ) (G : Underway pr p events n first start k s rows) where
+    pub going_ready : k < n → TurnReady pr p s rows k
+    going_ready l = record { sound = G.sound; room = omega (arith, G.same, R.room) }
 
-      by : (answer : Answer) → left_from pr p events n (suc k) (stopped_at answer k) r.state (rows_after answer r.state.head k rows)
-          ≡ onward answer r.state k rows rest
-      by (Ok call) = refl
-      by (Err why) = refl
+    rest : State → List ℕ → Ran
+    rest = run_from pr p (from events (suc k) (n - suc k)) (suc k)
 
-  module _ (k : ℕ) (v : Verdict) (s : State) (rows : List ℕ) (G : Going pr p events n first start k (record { verdict = v; state = s; rows = rows })) where
-    pub going_same : length rows ≡ length start
-    unfolding Going
-    going_same = G.same
+    left : k < n → onward (step_of pr p s (events k)).answer (step_of pr p s (events k)).state k rows rest
+        ≡ run_from pr p (from events 0 n) 0 first start
+    unfolding run_from from rest
+    left l = let q : n - k ≡ suc (n - suc k) = omega arith in sym (ap (λ c. run_from pr p (from events k c) k s rows) q) ∙ G.rest
 
-    -- it goes on
-    module _ (g : Bool) (says : g ≡ goes_on v k n) (so : g ≡ true) where
-      on : goes_on v k n ≡ true
-      on = sym says ∙ so
+    -- one turn of what is left: it goes on, or it is refused and has ended
+    pub going_next : k < n → (s₂ : State) (rows₂ : List ℕ) → record { verdict = Ok tt; state = s₂; rows = rows₂ } ≡ run_from pr p (events k ∷ []) k s rows
+        → Underway pr p events n first start (k + 1) s₂ rows₂
+    unfolding run_from rest
+    going_next l s₂ rows₂ e =
+        let (t, z) = onward_length (step_of pr p s (events k)).state k rows rest (step_of pr p s (events k)).answer s₂ rows₂ e in
+        rw (add-one k) (record {
+          rest = sym (onward_passed (step_of pr p s (events k)).state k rows rest (step_of pr p s (events k)).answer s₂ rows₂ e) ∙ left l;
+          sound = rw t (rw (step_act G.sound (events k)) (act_sound G.sound (events k)));
+          same = z ∙ G.same;
+        })
 
-      more : (u : Verdict) → goes_on u k n ≡ true → (u ≡ Ok tt) × (k < n)
-      unfolding goes_on
-      more (Ok _) e = (refl, ltb-true k n e)
-      more (Err f) e = untrue (sym e)
+    pub going_refused : k < n → (why : Refusal) (place : ℕ) (s₂ : State) (rows₂ : List ℕ)
+        → record { verdict = refused_at why place; state = s₂; rows = rows₂ } ≡ run_from pr p (events k ∷ []) k s rows
+        → record { verdict = refused_at why place; state = s₂; rows = rows₂ } ≡ run_from pr p (from events 0 n) 0 first start
+    unfolding run_from rest
+    going_refused l why place s₂ rows₂ e =
+        sym (onward_refused (step_of pr p s (events k)).state k rows rest (step_of pr p s (events k)).answer why place s₂ rows₂ e) ∙ left l
 
-      pub going_ready : TurnReady pr p s rows k
-      unfolding Going
-      going_ready =
-          let (e, l) = more v on in
-          record {
-            sound = G.sound;
-            limits = G.asked.limits;
-            room = omega (arith, G.same, G.asked.room);
-          }
-
-      pub going_place : k + 1 < 2 ^ 64
-      unfolding Going
-      going_place = let (e, l) = more v on in omega (arith, G.few)
-
-      pub going_falls : n - (k + 1) < n - k
-      going_falls = let (e, l) = more v on in omega arith
-
-      pub going_next : (ran₂ : Ran) → ran₂ ≡ turned_as (act_of pr p s (events k)) k rows → Going pr p events n first start (k + 1) ran₂
-      unfolding Going left_from turned_as rows_after
-      going_next ran₂ d =
-          let (e, l) = more v on in
-          let r : Stepped = act_of pr p s (events k) in
-          rw (d, add-one k) (record {
-            asked = G.asked;
-            few = G.few;
-            within = l;
-            rest = left_turn k s rows G.sound l r refl ∙ ap (λ w. left_from pr p events n k w s rows) (sym e) ∙ G.rest;
-            sound = act_sound G.sound (events k);
-            same = rows_same r.answer r.state ∙ G.same;
-          })
-        where
-          rows_same : (answer : Answer) (t : State) → length (rows_after answer t.head k rows) ≡ length rows
-          rows_same (Ok call) t = row_length rows k t.head call
-          rows_same (Err why) t = refl
-
-    -- it has ended
-    pub going_end : (g : Bool) → g ≡ goes_on v k n → g ≡ false → (out : Ran) → out ≡ record { verdict = v; state = s; rows = rows }
-        → out ≡ run_from pr p (from events 0 n) 0 first start
-    unfolding Going goes_on left_from run_from from
-    going_end g says off out o = o ∙ by v refl (sym says ∙ off) ∙ G.rest
-      where
-        by : (u : Verdict) → v ≡ u → goes_on u k n ≡ false → record { verdict = v; state = s; rows = rows } ≡ left_from pr p events n k v s rows
-        by (Ok _) e f =
-            let q : n - k ≡ 0 = omega (arith, ltb-false k n f) in
-            ap (λ (w : Verdict). record { verdict = w; state = s; rows = rows }) e ∙ sym (rw (e, q) refl)
-        by (Err z) e f = ap (λ (w : Verdict). record { verdict = w; state = s; rows = rows }) e ∙ sym (rw e refl)
+    pub going_end : n ≤ k → record { verdict = Ok tt; state = s; rows = rows } ≡ run_from pr p (from events 0 n) 0 first start
+    unfolding run_from from
+    going_end h = let q : n - k ≡ 0 = omega arith in sym (ap (λ c. run_from pr p (from events k c) k s rows) q) ∙ G.rest
 
 -- what is run from a fresh start
 pub run_ready : (pr : Protocol) (p : Plan) (s : State) (n : ℕ) (rows : List ℕ) → s ≡ fresh_of → RunReady pr p fresh_of n rows → RunReady pr p s n rows

@@ -2,17 +2,15 @@
 use Rattle.std.specs.Prelude.{Ok, Err, if◌then◌else◌}
 use Rattle.rules.specs.Numbers.Verdict.{Verdict, Answer, refused_at}
 use mathlib.Core.Path.{◌≡◌, refl, sym, ◌∙◌, ap}
-use mathlib.Core.Bool.{Bool, true, false, not}
+use mathlib.Core.Bool.{Bool, true, false}
 use mathlib.Core.List.{List}
 use Prim.Native.Nat.{ℕ}
 use native.Mathlib.Omega.{arith}
 use lib.Dec.{eqb}
 use lib.ListN.{length}
-use borrow.Author.Tests.{not-true, not-false}
 use Rattle.rules.specs.Numbers.Capacity.{max_tasks, max_locks}
 use Rattle.rules.specs.Numbers.Place.{at, from}
 use Rattle.rules.specs.Replays.Run.{Ran, onward, run_from}
-use Rattle.rules.specs.Replays.Replay.{ran_as}
 use Rattle.rules.specs.Soundness.Sound.{SoundAndSized}
 use Rattle.rules.specs.Soundness.SoundTest.{sound_test}
 use Rattle.rules.specs.Replays.Step.{refused_with, act_of, step_of}
@@ -22,7 +20,6 @@ use Rattle.rules.specs.declared.state.State.{State}
 use Rattle.rules.specs.declared.event.Event.{Event}
 use Rattle.rules.specs.declared.refusal.Refusal.{Refusal}
 use Rattle.rules.specs.declared.refusal.Refusal.TheVariants.{Unsound}
-use Rattle.rules.specs.declared.answer.Replayed.{Replayed}
 use Rattle.rules.specs.declared.answer.Stepped.{Stepped}
 use Rattle.rules.proofs.Numbers.Choice.{if_yes, if_no}
 use Rattle.rules.proofs.Replays.RowBytes.{row_call}
@@ -42,17 +39,14 @@ tested_sound pr p s t released kept delay depth takes saved units owner = record
 }
 
 -- 10 comes first
-module _ (pr : Protocol) (p : Plan) (s : State) (e : Event) (t : Bool) (r : Stepped) (tested : t ≡ sound_test pr p s) where
-  pub step_unsound : not t ≡ true → r ≡ refused_with s Unsound → r ≡ step_of pr p s e
+module _ (pr : Protocol) (p : Plan) (s : State) (e : Event) (r : Stepped) where
+  pub step_unsound : false ≡ sound_test pr p s → r ≡ refused_with s Unsound → r ≡ step_of pr p s e
   unfolding step_of
-  step_unsound h q = if_no (sound_test pr p s) (act_of pr p s e) (refused_with s Unsound) r (sym tested ∙ not-true t h) q
+  step_unsound t q = if_no (sound_test pr p s) (act_of pr p s e) (refused_with s Unsound) r (sym t) q
 
-  pub step_sound : not t ≡ false → r ≡ act_of pr p s e → r ≡ step_of pr p s e
+  pub step_sound : true ≡ sound_test pr p s → r ≡ act_of pr p s e → r ≡ step_of pr p s e
   unfolding step_of
-  step_sound h q = if_yes (sound_test pr p s) (act_of pr p s e) (refused_with s Unsound) r (sym tested ∙ not-false t h) q
-
-pub said_sound : (pr : Protocol) (p : Plan) (s : State) (t : Bool) → t ≡ sound_test pr p s → not t ≡ false → sound_test pr p s ≡ true
-said_sound pr p s t e h = sym e ∙ not-false t h
+  step_sound t q = if_yes (sound_test pr p s) (act_of pr p s e) (refused_with s Unsound) r (sym t) q
 
 -- ---- a step as a run of one event
 
@@ -88,10 +82,11 @@ module _ (pr : Protocol) (p : Plan) (s : State) (e : Event) (body row : List ℕ
   state_is (Ok call) = refl
   state_is (Err why) = refl
 
-  pub stepped_once : (r : Replayed) (out : List ℕ) (answer : Answer) → ran_as r out ≡ run_from pr p (from (event_on e body) 0 1) 0 s row
-      → answer ≡ answer_from r.verdict (at out 3) → ◌≡◌ {A = Stepped} (record { answer = answer; state = r.state }) (act_of pr p s e)
-  stepped_once r out answer h a =
-      let q : ran_as r out ≡ after (act_of pr p s e).answer = h ∙ one_run in
+  pub stepped_once : (v : Verdict) (t : State) (out : List ℕ) (answer : Answer)
+      → record { verdict = v; state = t; rows = out } ≡ run_from pr p (from (event_on e body) 0 1) 0 s row
+      → answer ≡ answer_from v (at out 3) → ◌≡◌ {A = Stepped} (record { answer = answer; state = t }) (act_of pr p s e)
+  stepped_once v t out answer h a =
+      let q : record { verdict = v; state = t; rows = out } ≡ after (act_of pr p s e).answer = h ∙ one_run in
       let x : answer ≡ (act_of pr p s e).answer = a ∙ ap (λ (z : Ran). answer_from z.verdict (at z.rows 3)) q ∙ answer_is (act_of pr p s e).answer in
-      let y : r.state ≡ (act_of pr p s e).state = ap (λ (z : Ran). z.state) q ∙ state_is (act_of pr p s e).answer in
+      let y : t ≡ (act_of pr p s e).state = ap (λ (z : Ran). z.state) q ∙ state_is (act_of pr p s e).answer in
       λ i. record { answer = x i; state = y i }

@@ -1,6 +1,5 @@
 // The step of a sound state by value: a run of one event.
-ghost use Rattle.std.specs.Prelude.{◌≡◌, true, length};
-ghost use Rattle.rules.specs.Numbers.Capacity.{max_locks};
+ghost use Rattle.std.specs.Prelude.{◌≡◌, true};
 ghost use Rattle.rules.specs.Soundness.Sound.{SoundAndSized};
 ghost use Rattle.rules.specs.Soundness.SoundTest.{sound_test};
 ghost use Rattle.rules.specs.Replays.Step.{act_of, refused_with};
@@ -34,19 +33,18 @@ fn answer_from(verdict: Result<(), Fault>, call: u8) -> Result<bool, Refusal>
     }
 }
 
-// One event is run; of its row only the call is asked.
+// One event is run; of its row only the call is asked. The act has one caller so, and is compiled into the
+// loop of a replay.
 fn run_one(protocol: Protocol, p: Plan, s: State, e: Event) -> Stepped
-    requires { SoundAndSized protocol p s × (length p.limit ≡ max_locks) }
+    requires { SoundAndSized protocol p s }
     ensures { result ≡ act_of protocol p s e }
 {
-    let no_more = [0u8; 4];
+    let mut state = s;
     let mut row = [0u8; 4];
-    let ran = run_from(protocol, p, s, e, &no_more, 1, &mut row);
-    let verdict = ran.verdict;
-    let state = ran.state;
+    let verdict = run_from(protocol, &p, &mut state, e, &[0u8; 4], 1, &mut row);
     Stepped {
         answer: answer_from(verdict, row[3]),
-        state: state,
+        state,
     }
 }
 

@@ -26,21 +26,21 @@ use sound::sound;
 pub fn step(protocol: Protocol, p: Plan, s: State, e: Event) -> Stepped
     ensures { result ≡ step_of protocol p s e }
 {
-    if !sound(protocol, p, s) {
-        return by_value::refused_with(s, Refusal::Unsound);
+    if sound(protocol, p, s) {
+        by_value::step_sound(protocol, p, s, e)
+    } else {
+        by_value::refused_with(s, Refusal::Unsound)
     }
-    by_value::step_sound(protocol, p, s, e)
 }
 
 // What a refusal of 1 to 9 or 24 leaves: no state but a fresh one.
 fn untouched(why: Refusal, place: usize, plan: Plan) -> Replayed
     ensures { result ≡ untouched_as why place plan }
 {
-    let state = fresh();
     Replayed {
         verdict: Err(Fault { why, place }),
-        plan: plan,
-        state: state,
+        plan,
+        state: fresh(),
     }
 }
 
@@ -51,14 +51,11 @@ pub fn replay(protocol: Protocol, book: &[u8], rows: &mut [u8]) -> Replayed
         × (result.plan ≡ (checked_of book.now (length rows.old)).plan) }
 {
     let checked = check(book, rows.len());
-    let verdict = checked.verdict;
-    let plan = checked.plan;
-    let events = checked.events;
-    match verdict {
-        Err(Fault { why, place }) => untouched(why, place, plan),
+    match checked.verdict {
+        Err(Fault { why, place }) => untouched(why, place, checked.plan),
         Ok(()) => {
-            let body = &book[events..];
-            run::run(protocol, plan, body, body.len() / 4, rows)
+            let body = &book[checked.events..];
+            run::run(protocol, checked.plan, body, body.len() / 4, rows)
         }
     }
 }

@@ -4,15 +4,18 @@ use mathlib.Core.Logic.{◌≢◌}
 use mathlib.Core.List.{List}
 use Prim.Native.Nat.{ℕ, ◌+◌, ◌*◌, ◌-◌, ◌^◌, ◌≤◌, ◌<◌}
 use lib.Dec.{eqb}
-use lib.ListN.{length, set}
+use native.Mathlib.Omega.{arith}
+use lib.ListN.{length, set, length-set}
 use lib.Seq.{get_or-set_same, get_or-set_other}
 use borrow.Author.Tests.{eq-eqb, ne_eqb}
 use Rattle.rules.specs.Numbers.Capacity.{max_tasks}
-use Rattle.rules.specs.Numbers.Place.{at, greatest}
+use Rattle.rules.specs.Numbers.Place.{at}
 use Rattle.rules.proofs.Numbers.Choice.{if_true, if_false, at_or}
-use Rattle.rules.proofs.Numbers.Place.{greatest_ext}
+use Rattle.rules.specs.declared.state.State.{State}
 use Rattle.tournament.specs.Tree.{tree_of, changed}
-use Rattle.tournament.specs.Keys.{order_of, key_of, keys_of, tournament_of, root_of}
+use Rattle.tournament.specs.Keys.{order_of, key_of, keys_of, tournament_of}
+use Rattle.tournament.specs.Tournament.{IsTournamentOf}
+use Rattle.tournament.specs.declared.tree.Tournament.{Tournament}
 use Rattle.tournament.proofs.TreeLaws.{changed_same, changed_other, tree_ext}
 
 -- ---- one key
@@ -32,33 +35,36 @@ keys_same : (released kept released₂ kept₂ : ℕ → ℕ) (x : ℕ) → rele
 unfolding keys_of
 keys_same released kept released₂ kept₂ x a b = rw (a, b)
 
--- what a put says of the tree, and what of its answer
-abbrev pub Put : ℕ → List ℕ → List ℕ → ℕ → ℕ → Type 0
-Put n tree tree₂ t key = (f : ℕ → ℕ) → n ≤ max_tasks → tree ≡ tree_of n f → tree₂ ≡ tree_of n (changed f t key)
+-- ---- the tournament of a state
 
-abbrev pub PutRoot : ℕ → List ℕ → ℕ → ℕ → ℕ → Type 0
-PutRoot n tree t key r = (f : ℕ → ℕ) → n ≤ max_tasks → tree ≡ tree_of n f → r ≡ greatest (changed f t key) n
+module _ (n : ℕ) (tree : Tournament) (s : State) (T : IsTournamentOf n tree s) where
+  abbrev keys : ℕ → ℕ
+  keys = keys_of (at s.released) (at s.kept)
 
-module _ (n : ℕ) (released kept tree : List ℕ) (few : n ≤ max_tasks) (held : tree ≡ tournament_of n released kept) where
+  few : n ≤ max_tasks
+  few = omega (arith, tree.few, T.tasks)
+
   -- the kernel keeps v for task t, and its key is put
-  module _ (t v key : ℕ) (l : t < length kept) (e : key ≡ key_of v (at released t) t) where
-    keyed : (x : ℕ) → changed (keys_of (at released) (at kept)) t key x ≡ keys_of (at released) (at (set kept t v)) x
-    unfolding keys_of
-    keyed = at_or (λ x. changed (keys_of (at released) (at kept)) t key x ≡ keys_of (at released) (at (set kept t v)) x) t
-        (changed_same _ t key ∙ e ∙ rw (get_or-set_same kept t v 0 l))
-        (λ x d. changed_other _ t key x d ∙ keys_same (at released) (at kept) (at released) (at (set kept t v)) x refl (get_or-set_other kept t x v 0 d))
-
-    pub put_kept : (tree₂ : List ℕ) → Put n tree tree₂ t key → tree₂ ≡ tournament_of n released (set kept t v)
-    put_kept tree₂ put = put _ few held ∙ tree_ext n few _ _ (λ x _. keyed x)
-
-    pub put_root : (r : ℕ) → PutRoot n tree t key r → r ≡ root_of n released (set kept t v)
-    put_root r put = put _ few held ∙ greatest_ext _ _ n (λ x _. keyed x)
+  pub put_kept : (t v key : ℕ) (after : Tournament) → t < max_tasks → key ≡ key_of v (at s.released t) t → after.tasks ≡ tree.tasks
+      → ((f : ℕ → ℕ) → tree.keys ≡ tree_of tree.tasks f → after.keys ≡ tree_of tree.tasks (changed f t key))
+      → IsTournamentOf n after (record s { kept = set s.kept t v })
+  unfolding keys_of
+  put_kept t v key after l e same put = record {
+    tasks = same ∙ T.tasks;
+    keys = rw T.tasks at put keys (T.keys) ∙ tree_ext n few _ _ (λ x _. keyed x);
+    sized = length-set s.kept t v ∙ T.sized;
+  }
+    where
+      keyed : (x : ℕ) → changed keys t key x ≡ keys_of (at s.released) (at (set s.kept t v)) x
+      keyed = at_or (λ x. changed keys t key x ≡ keys_of (at s.released) (at (set s.kept t v)) x) t
+          (changed_same _ t key ∙ e ∙ rw (get_or-set_same s.kept t v 0 (omega (arith, T.sized))))
+          (λ x d. changed_other _ t key x d ∙ keys_same (at s.released) (at s.kept) (at s.released) (at (set s.kept t v)) x refl (get_or-set_other s.kept t x v 0 d))
 
   -- the release number of a task for which nothing is kept may change
-  pub put_idle : (t w : ℕ) → at kept t ≡ 0 → tree ≡ tournament_of n (set released t w) kept
+  pub put_idle : (t w : ℕ) → at s.kept t ≡ 0 → tree.keys ≡ tournament_of n (set s.released t w) s.kept
   unfolding keys_of
-  put_idle t w z = held ∙ tree_ext n few _ _ (λ x _. at_or (λ x. keys_of (at released) (at kept) x ≡ keys_of (at (set released t w)) (at kept) x) t none
-      (λ x d. keys_same (at released) (at kept) (at (set released t w)) (at kept) x (get_or-set_other released t x w 0 d) refl) x)
+  put_idle t w z = T.keys ∙ tree_ext n few _ _ (λ x _. at_or (λ x. keys x ≡ keys_of (at (set s.released t w)) (at s.kept) x) t none
+      (λ x d. keys_same (at s.released) (at s.kept) (at (set s.released t w)) (at s.kept) x (get_or-set_other s.released t x w 0 d) refl) x)
     where
-      none : keys_of (at released) (at kept) t ≡ keys_of (at (set released t w)) (at kept) t
-      none = sym (key_none (at kept t) (at released t) t z) ∙ key_none (at kept t) (at (set released t w) t) t z
+      none : keys t ≡ keys_of (at (set s.released t w)) (at s.kept) t
+      none = sym (key_none (at s.kept t) (at s.released t) t z) ∙ key_none (at s.kept t) (at (set s.released t w) t) t z

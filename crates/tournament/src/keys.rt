@@ -6,17 +6,17 @@ ghost use Rattle.tournament.specs.Keys.{key_of, who_of, word_of};
 use rules::capacity::NOBODY;
 
 // What stands below a kept priority in a key is below this, 2 ^ 40.
-const ORDERS: u64 = 1099511627776;
+const ORDERS: u64 = 1 << 40;
 
 pub fn key_of(kept: u8, released: u32, t: u8) -> u64
     ensures { result ≡ key_of kept released t }
 {
-    let order = (released as u64) * 256 + t as u64;
-    let key = (kept as u64) * ORDERS + (ORDERS - 1 - order);
+    let order = u64::from(released) * 256 + u64::from(t);
     if kept == 0 {
-        return 0;
+        0
+    } else {
+        u64::from(kept) * ORDERS + (ORDERS - 1 - order)
     }
-    key
 }
 
 // The task of a key, and nobody of the key 0.

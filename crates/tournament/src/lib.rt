@@ -3,7 +3,6 @@
 // and `scheduler` alone lend it a tree.
 #![tactic(auto)]
 
-pub mod build;
 pub mod fits;
 pub mod keys;
 pub mod tree;

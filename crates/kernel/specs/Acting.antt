@@ -1,0 +1,56 @@
+-- RULES 9: what the code of each event is handed: a sound state in which the event passes its tests. Assumes nothing.
+use Rattle.std.specs.Prelude.{◌≡◌, ◌≢◌, ℕ, ◌-◌, ◌≤◌, ◌<◌, set, Ok}
+use Rattle.rules.specs.Numbers.Capacity.{max_tasks}
+use Rattle.rules.specs.Numbers.Place.{at}
+use Rattle.rules.specs.Numbers.Row.{under}
+use Rattle.rules.specs.Schedulers.EventRefusals.{refusal_of}
+use Rattle.rules.specs.Schedulers.Figures.{figures_of}
+use Rattle.rules.specs.Schedulers.FiguresAfter.{stays_open, left_of}
+use Rattle.rules.specs.Schedulers.Lazy.{Words, words_of, state_of, restored}
+use Rattle.rules.specs.Soundness.Sound.{SoundAndSized}
+use Rattle.rules.specs.declared.plan.Plan.{Plan}
+use Rattle.rules.specs.declared.protocol.Protocol.{Protocol}
+use Rattle.rules.specs.declared.state.State.{State}
+use Rattle.rules.specs.declared.event.Event.{Event}
+
+-- a state that is sound by one of the protocols
+pub record IsSound (p : Plan) (s : State) : Type 0 where
+  pub protocol : Protocol
+  pub sound : SoundAndSized protocol p s
+
+-- and in which the event is accepted
+pub record Accepts (p : Plan) (s : State) (e : Event) : Type 0 where
+  pub protocol : Protocol
+  pub sound : SoundAndSized protocol p s
+  pub passed : refusal_of p (figures_of s) s.head.running e ≡ Ok tt
+
+-- a state's figures, with other words
+abbrev pub with_words : State → Words → State
+with_words s w = state_of (figures_of s) w
+
+-- nobody's word is 0
+abbrev pub IdleWord : State → Type 0
+IdleWord s = max_tasks ≤ s.head.running → s.head.user.0 ≡ 0
+
+-- a newcomer t of n tasks and another task that runs, or no user word: nothing is kept for either
+pub record Arrives (n : ℕ) (s : State) (t : ℕ) : Type 0 where
+  pub known : t < n
+  pub none : at s.kept t ≡ 0
+  pub other : t ≢ s.head.running
+  pub left : at s.kept s.head.running ≡ 0
+  pub idle : n ≤ s.head.running → s.head.user.0 ≡ 0
+
+-- the state where the running task's newest take, which is of lock l, is given back, and nothing is counted yet
+abbrev pub given_back : ℕ → State → State
+given_back l s =
+    state_of
+    (record {
+      accepted = s.head.accepted;
+      eager = s.head.eager;
+      released = s.released;
+      delay = s.delay;
+      depth = set s.depth s.head.running (at s.depth s.head.running - 1);
+      takes = set s.takes s.head.running (under (at s.takes s.head.running));
+      units = set s.units l (left_of (stays_open (figures_of s) s.head.running l) (at s.units l));
+    })
+    (restored (stays_open (figures_of s) s.head.running l) l 0 (words_of s))

@@ -14,7 +14,5 @@ pub const FULL_ROOM: usize = MAX_EVENTS * 4;
 pub extern "C" fn recorder_bound(book: &[u8], task: usize) -> u16
     ensures { result ≡ bound_of (checked_of book.now full_room).plan task }
 {
-    let c = book::check(book, FULL_ROOM);
-    let plan = c.plan;
-    plan::bound(plan, task)
+    plan::bound(book::check(book, FULL_ROOM).plan, task)
 }

@@ -22,13 +22,11 @@ pub struct DeviceCheck {
 pub extern "C" fn recorder_check(book: &[u8], room: usize) -> DeviceCheck
     ensures { result ≡ check_spelled (checked_of book.now room) }
 {
-    let c = book::check(book, room);
-    let verdict = c.verdict;
-    let plan = c.plan;
+    let checked = book::check(book, room);
     DeviceCheck {
-        number: verdict_number(verdict),
-        place: verdict_place(verdict),
-        plan: plan,
-        events: c.events,
+        number: verdict_number(checked.verdict),
+        place: verdict_place(checked.verdict),
+        plan: checked.plan,
+        events: checked.events,
     }
 }

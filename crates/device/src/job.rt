@@ -22,10 +22,9 @@ pub extern "C" fn recorder_read_job(text: &[u8], space: &mut [u8]) -> DeviceJob
     ensures space_after { space.new ≡ (job_of text.now space.old).space }
 {
     let job = jobs::read_job(text, space);
-    let verdict = job.verdict;
     DeviceJob {
-        number: verdict_number(verdict),
-        place: verdict_place(verdict),
+        number: verdict_number(job.verdict),
+        place: verdict_place(job.verdict),
         events: job.events,
     }
 }

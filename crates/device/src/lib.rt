@@ -9,7 +9,6 @@ pub mod bound;
 pub mod check;
 pub mod job;
 pub mod load;
-mod numbers;
 pub mod replay;
 pub mod step;
 pub mod table;

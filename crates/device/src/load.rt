@@ -5,7 +5,7 @@ ghost use Rattle.device.specs.Table.{numbers_of};
 ghost use Rattle.device.specs.Device.{load_spelled};
 
 use crate::table::{TaskRecord, load_table};
-use rules::answer::{Loaded, verdict_number, verdict_place};
+use rules::answer::{verdict_number, verdict_place};
 use rules::plan::Plan;
 
 // The refusal's number and place; the plan, every figure 0 beside a refusal.
@@ -17,18 +17,6 @@ pub struct DeviceLoad {
     pub plan: Plan,
 }
 
-fn spell(l: Loaded) -> DeviceLoad
-    ensures { result ≡ load_spelled l }
-{
-    let verdict = l.verdict;
-    let plan = l.plan;
-    DeviceLoad {
-        number: verdict_number(verdict),
-        place: verdict_place(verdict),
-        plan: plan,
-    }
-}
-
 // `load_table` under a name that a host links: 2, 4 to 7 and 24.
 #[unsafe(no_mangle)]
 pub extern "C" fn recorder_load_table(
@@ -38,6 +26,10 @@ pub extern "C" fn recorder_load_table(
 ) -> DeviceLoad
     ensures { result ≡ load_spelled (load_of (numbers_of tasks.now) locks.now uses.now) }
 {
-    let l = load_table(tasks, locks, uses);
-    spell(l)
+    let loaded = load_table(tasks, locks, uses);
+    DeviceLoad {
+        number: verdict_number(loaded.verdict),
+        place: verdict_place(loaded.verdict),
+        plan: loaded.plan,
+    }
 }

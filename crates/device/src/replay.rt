@@ -31,14 +31,11 @@ pub extern "C" fn recorder_replay(protocol: u8, book: &[u8], rows: &mut [u8]) ->
         (replay_of (protocol_named protocol) book.now rows.old).state }
     ensures rows_after { rows.new ≡ (replay_of (protocol_named protocol) book.now rows.old).rows }
 {
-    let r = scheduler::replay(Protocol::from(protocol), book, rows);
-    let verdict = r.verdict;
-    let plan = r.plan;
-    let state = r.state;
+    let replayed = scheduler::replay(Protocol::from(protocol), book, rows);
     DeviceReplay {
-        number: verdict_number(verdict),
-        place: verdict_place(verdict),
-        plan: plan,
-        state: state,
+        number: verdict_number(replayed.verdict),
+        place: verdict_place(replayed.verdict),
+        plan: replayed.plan,
+        state: replayed.state,
     }
 }

@@ -25,9 +25,10 @@ fn no_event(kind: u8, id: u8, amount: u16) -> bool
     ensures { result ≡ no_event kind id amount }
 {
     if kind == 4 {
-        return id != 0;
+        id != 0
+    } else {
+        event_fault(kind, id, amount)
     }
-    event_fault(kind, id, amount)
 }
 
 // Before the first event.
@@ -55,15 +56,13 @@ pub extern "C" fn recorder_step(
         return DeviceStep {
             number: u8::from(Refusal::WrongEvent),
             calls: 0,
-            state: state,
+            state,
         };
     }
-    let s = scheduler::step(Protocol::from(protocol), plan, state, event_of(kind, id, amount));
-    let answer = s.answer;
-    let after = s.state;
+    let stepped = scheduler::step(Protocol::from(protocol), plan, state, event_of(kind, id, amount));
     DeviceStep {
-        number: answer_number(answer),
-        calls: answer_calls(answer),
-        state: after,
+        number: answer_number(stepped.answer),
+        calls: answer_calls(stepped.answer),
+        state: stepped.state,
     }
 }

@@ -1,11 +1,13 @@
 // RULES 6.3: a thin loader over a lent table, which hands the numbers of its records to the plan check.
 ghost use Rattle.std.specs.Prelude.{◌≡◌};
 ghost use Rattle.rules.specs.Books.Load.{load_of};
-ghost use Rattle.device.specs.Table.{numbers_of, kept_of};
+ghost use Rattle.device.specs.Table.{numbers_of};
 
-use crate::numbers;
-use crate::numbers::Numbers;
 use rules::answer::Loaded;
+use rules::capacity::MAX_TASKS;
+
+// One more than a plan may have: enough to see that there are too many.
+const ROOM: usize = MAX_TASKS + 1;
 
 // RULES 4.4: the two bytes of a task's record, as they lie in the table.
 #[repr(C)]
@@ -15,18 +17,15 @@ pub struct TaskRecord {
     pub maximum: u8,
 }
 
-// The numbers of the records, read where they lie.
-fn gather(tasks: &[TaskRecord]) -> Numbers
-    ensures { result ≡ kept_of tasks.now }
-{
-    let mut n = numbers::none();
-    let mut i = 0;
-    while i < tasks.len() {
-        let t = tasks[i];
-        n = numbers::keep(n, t.base, t.maximum);
-        i = i + 1;
+impl TaskRecord {
+    ghost use Rattle.device.specs.Table.{word_of};
+
+    // Its two bytes as one number.
+    fn number(self) -> u16
+        ensures { result ≡ word_of self }
+    {
+        u16::from_le_bytes([self.base, self.maximum])
     }
-    n
 }
 
 // The plan of a table of records with its locks and uses, or the first offender of 2,
@@ -34,6 +33,10 @@ fn gather(tasks: &[TaskRecord]) -> Numbers
 pub fn load_table(tasks: &[TaskRecord], locks: &[u32], uses: &[u16]) -> Loaded
     ensures { result ≡ load_of (numbers_of tasks.now) locks.now uses.now }
 {
-    let n = gather(tasks);
-    numbers::load(n, locks, uses)
+    let seen = &tasks[..tasks.len().min(ROOM)];
+    let mut numbers = [0u16; ROOM];
+    for (i, task) in seen.iter().enumerate() {
+        numbers[i] = task.number();
+    }
+    plan::load(&numbers[..seen.len()], locks, uses)
 }

@@ -28,11 +28,10 @@ pub extern "C" fn recorder_write(
     ensures buffer_after { buffer.new ≡ (write_of tasks.now locks.now uses.now events.now
         buffer.old).bytes }
 {
-    let w = book::writer::write(tasks, locks, uses, events, buffer);
-    let verdict = w.verdict;
+    let written = book::writer::write(tasks, locks, uses, events, buffer);
     DeviceWrite {
-        number: verdict_number(verdict),
-        place: verdict_place(verdict),
-        length: w.length,
+        number: verdict_number(written.verdict),
+        place: verdict_place(written.verdict),
+        length: written.length,
     }
 }

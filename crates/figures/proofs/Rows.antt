@@ -1,7 +1,7 @@
 -- The ways through a row. Assumes nothing.
-use mathlib.Core.Path.{◌≡◌, sym, ◌∙◌, ap}
+use mathlib.Core.Path.{◌≡◌, refl, sym, ◌∙◌, ap}
 use mathlib.Core.Bool.{true, false, ◌||◌}
-use Prim.Native.Nat.{ℕ, suc, ◌+◌, ◌-◌, ◌*◌, ◌%◌, ◌^◌, ◌<◌, ◌≤◌}
+use Prim.Native.Nat.{ℕ, zero, suc, ◌+◌, ◌-◌, ◌*◌, ◌%◌, ◌^◌, ◌<◌, ◌≤◌}
 use native.Mathlib.Nat.{mod-eq_of_lt}
 use native.Mathlib.Omega.{arith}
 use lib.Dec.{eqb}
@@ -11,6 +11,11 @@ use Rattle.std.specs.Int.Bits.{and_shifted}
 use Rattle.std.proofs.lemmas.Nat.{or_disjoint}
 use Rattle.rules.specs.Numbers.Row.{newest, under, pushed, has}
 use Rattle.rules.proofs.Numbers.Row.{has_none, has_suc}
+
+-- a number above 0 is one more than the number before it
+pub one_more : (k : ℕ) → (k ≡ 0 → ⊥) → k ≡ suc (k - 1)
+one_more zero n = absurd (n refl)
+one_more (suc j) n = ap suc (omega arith)
 
 -- a row of fewer than eight loses nothing
 pub push_fits : (row x v : ℕ) → row < 256 ^ 7 → v ≡ pushed (row % 256 ^ 7) x → v ≡ pushed row x

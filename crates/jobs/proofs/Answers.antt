@@ -8,7 +8,7 @@ use lib.Dec.{ltb}
 use lib.ListN.{length, drop, length-drop, length-map}
 use borrow.Author.Tests.{lt-ltb, le-ltb, ltb-true, ltb-false}
 use Rattle.std.specs.Prelude.{Result, Ok, Err}
-use Rattle.rules.specs.Numbers.Verdict.{Verdict, refused_at}
+use Rattle.rules.specs.Numbers.Verdict.{Verdict, fault_at, refused_at}
 use Rattle.rules.specs.Books.Bytes.{long_bytes}
 use Rattle.rules.specs.Books.Event.{event_number}
 use Rattle.rules.specs.declared.event.Event.{Event}
@@ -17,10 +17,10 @@ use Rattle.rules.specs.declared.refusal.Refusal.TheVariants.{WrongJob, ShortSpac
 use Rattle.rules.proofs.Numbers.Choice.{if_true, if_false, by_test}
 use Rattle.rules.proofs.Numbers.Stored.{stored_front}
 use Rattle.rules.proofs.Books.ReadBack.{long_size}
-use Rattle.jobs.specs.declared.Job.{Job}
+use Rattle.rules.specs.declared.answer.Fault.{Fault}
 use Rattle.jobs.specs.Reader.{Answer, read_job}
 use Rattle.jobs.specs.Reader.Answer.{refused, read}
-use Rattle.jobs.specs.Job.{verdict_of, given_by, job_verdict, job_events, job_answer, records_of, read_with, with_events, job_of}
+use Rattle.jobs.specs.Job.{verdict_of, given_by, job_verdict, job_events, Job, job_with, job_answer, records_of, read_with, with_events, job_of}
 use Rattle.jobs.specs.Sheet.{Sheet, sheet, lay_all, halted, done, tell}
 use Rattle.jobs.specs.Said.{whole}
 use Rattle.jobs.proofs.Sheets.{lay_count, lay_fits}
@@ -101,42 +101,32 @@ module _ (text : List ℕ) (room : ℕ) (r : Result ℕ ℕ) (t t' : List ℕ) (
       let (es, r, g) = told_done (read_job text) (sheet t 0) (sheet t' n) (h ∙ ap (λ x. whole x text t') o) in
       (es, r, sym (ap (λ q. q.count) g) ∙ lay_count es (sheet t 0) ∙ omega arith)
 
-  pub check_stopped : (place : ℕ) → r ≡ Err place → place ≤ length text → record { verdict = refused_at WrongJob place; events = 0 } ≡ job_answer text room
-  unfolding whole
+  pub check_stopped : (place : ℕ) → r ≡ Err place → place ≤ length text → job_with (Err (fault_at WrongJob place)) ≡ job_answer text room
+  unfolding whole job_with
   check_stopped place o l =
       let r : read_job text ≡ refused (drop place text) = told_halted (read_job text) (sheet t 0) (drop place text) (h ∙ ap (λ x. whole x text t') o) in
       let e : length text - length (drop place text) ≡ place = omega (arith, length-drop place text) in
       sym (answer_refused text room WrongJob place (verdict_stopped text (drop place text) room r ∙ ap (refused_at WrongJob) e))
 
-  pub check_small : (n : ℕ) → r ≡ Ok n → room / 4 < n → record { verdict = refused_at ShortSpace 0; events = 0 } ≡ job_answer text room
+  pub check_small : (n : ℕ) → r ≡ Ok n → room / 4 < n → job_with (Err (fault_at ShortSpace 0)) ≡ job_answer text room
+  unfolding job_with
   check_small n o l =
       let (es, r, e) = counted n o in
       sym (answer_refused text room ShortSpace 0 (verdict_small text room es r (omega arith)))
 
-  pub check_passed : (n : ℕ) → r ≡ Ok n → n ≤ room / 4 → record { verdict = Ok tt; events = n } ≡ job_answer text room
+  pub check_passed : (n : ℕ) → r ≡ Ok n → n ≤ room / 4 → job_with (Ok n) ≡ job_answer text room
+  unfolding job_with
   check_passed n o l =
       let (es, r, e) = counted n o in
       rw e (sym (answer_read text room es r (omega arith)))
 
 -- ---- as `read_job` goes
 
-module _ (text s : List ℕ) (job : Job) (h : job ≡ job_answer text (length s)) where
-  told : job.verdict ≡ job_verdict text (length s)
-  unfolding job_answer
-  told = ap (λ j. j.verdict) h
-
-  read_refused : (why : Refusal) (place : ℕ) → job.verdict ≡ refused_at why place → read_with job s ≡ job_of text s
-  unfolding job_of long_bytes
-  read_refused why place f =
-      ap (λ a. read_with a s) h
-      ∙ ap (λ es. read_with (job_answer text (length s)) (with_events es s)) (sym (no_events text (length s) why place (sym told ∙ f)))
-
-  pub read_other : (job.verdict ≡ Ok tt → ⊥) → read_with job s ≡ job_of text s
-  read_other n = go job.verdict refl
-    where
-      go : (v : Verdict) → job.verdict ≡ v → read_with job s ≡ job_of text s
-      go (Ok _) e = absurd (n e)
-      go (Err f) e = read_refused f.why f.place e
+module _ (text s : List ℕ) where
+  pub read_refused : (r : Result ℕ Fault) (f : Fault) → r ≡ Err f → job_with (Err f) ≡ job_answer text (length s) → read_with (job_with r) s ≡ job_of text s
+  unfolding job_with job_answer
+  read_refused r f h e =
+      ap (λ x. read_with (job_with x) s) h ∙ sym (job_refused text s f.why f.place (ap (λ (j : Job). j.verdict) (sym e)))
 
   -- it is read once more, into the space
   laid_so : (s' : List ℕ) (es : List Event) (r : Result ℕ ℕ) → tell (sheet s 0) (read es) ≡ whole r text s' → length es * 4 ≤ length s → s' ≡ with_events es s
@@ -156,8 +146,9 @@ module _ (text s : List ℕ) (job : Job) (h : job ≡ job_answer text (length s)
       (λ y. let l : length es * 4 ≤ length s = ltb-false (length s) (length es * 4) y in
       laid_so s' es o (ap (tell (sheet s 0)) (sym e) ∙ g) l ∙ ap (λ x. with_events x s) (sym (events_read text (length s) es e l)))
 
-  pub read_passed : (s' : List ℕ) (o : Result ℕ ℕ) → tell (sheet s 0) (read_job text) ≡ whole o text s' → job.verdict ≡ Ok tt
-      → read_with job s' ≡ job_of text s
-  unfolding job_of
-  read_passed s' o g f =
-      ap (λ a. read_with a s') h ∙ ap (read_with (job_answer text (length s))) (by_answer s' o g (read_job text) refl (sym told ∙ f))
+  pub read_passed : (s' : List ℕ) (o : Result ℕ ℕ) (n : ℕ) → job_with (Ok n) ≡ job_answer text (length s)
+      → tell (sheet s 0) (read_job text) ≡ whole o text s' → read_with (job_with (Ok n)) s' ≡ job_of text s
+  unfolding job_of job_with job_answer
+  read_passed s' o n h g =
+      ap (λ a. read_with a s') h
+      ∙ ap (read_with (job_answer text (length s))) (by_answer s' o g (read_job text) refl (ap (λ (j : Job). j.verdict) (sym h)))

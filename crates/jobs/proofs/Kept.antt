@@ -8,6 +8,8 @@ use native.Mathlib.Omega.{arith}
 use lib.Dec.{ltb}
 use lib.ListN.{length, length-append, length-drop}
 use borrow.Author.Tests.{ltb-true, ltb-false}
+use Rattle.rules.specs.Numbers.Refusal.{number_of}
+use Rattle.rules.specs.Numbers.Answer.{verdict_number, verdict_place}
 use Rattle.rules.specs.declared.event.Event.{Event}
 use Rattle.rules.specs.declared.event.Event.TheVariants.{Finish, Unlock}
 use Rattle.rules.specs.declared.refusal.Refusal.TheVariants.{WrongJob, ShortSpace}
@@ -52,10 +54,12 @@ unfit text space f = go (read_job text) refl
 
 -- two refusals that are the same
 same_place : {m n : ℕ} → refused_at WrongJob m ≡ refused_at WrongJob n → m ≡ n
-same_place {m} {n} e = cc
+unfolding verdict_place
+same_place {m} {n} e = ap verdict_place e
 
 other_refusal : {P : Type 0} {m n : ℕ} → refused_at ShortSpace m ≡ refused_at WrongJob n → P
-other_refusal {m = m} {n} e = let z : ◌≡◌ {A = ℕ} 0 1 = cc in absurd (omega arith)
+unfolding verdict_number number_of
+other_refusal {m = m} {n} e = let z : ◌≡◌ {A = ℕ} 26 25 = ap verdict_number e in absurd (omega arith)
 
 placed : (text : List ℕ) (room n : ℕ) → job_verdict text room ≡ refused_at WrongJob n → Place text n
 placed text room n h = by_reading _ text room

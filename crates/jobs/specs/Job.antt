@@ -1,12 +1,12 @@
 -- RULES 20.3: what the reading of a job answers: 25, 26 or its events, and the event space after it. Assumes nothing.
-use Rattle.std.specs.Prelude.{List, [], ◌++◌, map, ℕ, ◌*◌, ◌-◌, ltb, length, drop, Ok, Err, if◌then◌else◌}
+use Rattle.std.specs.Prelude.{List, [], ◌++◌, map, ℕ, Result, ◌*◌, ◌-◌, ltb, length, drop, Ok, Err, if◌then◌else◌}
 use Rattle.rules.specs.Numbers.Verdict.{Verdict, refused_at}
 use Rattle.rules.specs.Books.Event.{event_number}
 use Rattle.rules.specs.Books.Bytes.{long_bytes}
 use Rattle.rules.specs.declared.event.Event.{Event}
+use Rattle.rules.specs.declared.answer.Fault.{Fault}
 use Rattle.rules.specs.declared.refusal.Refusal.TheVariants.{WrongJob, ShortSpace}
 use Rattle.jobs.specs.Reader.{Answer, read_job}
-use Rattle.jobs.specs.declared.Job.{Job}
 
 -- 25 at the byte where the reader stops, then 26: so many bytes of space are under four an event
 unfoldable pub verdict_of : Answer → (text : List ℕ) → (room : ℕ) → Verdict
@@ -25,7 +25,16 @@ job_verdict text room = verdict_of (read_job text) text room
 unfoldable pub job_events : (text : List ℕ) → (room : ℕ) → List Event
 job_events text room = given_by (job_verdict text room) (read_job text)
 
--- the verdict, and how many events there are, 0 beside a refusal
+-- what the reading of a job comes to: what was refused, and how many events there are, 0 beside a refusal
+pub record Job : Type 0 where
+  pub verdict : Verdict
+  pub events : ℕ
+
+-- as the code answers it: how many, or what was refused
+unfoldable pub job_with : Result ℕ Fault → Job
+job_with (Ok n) = record { verdict = Ok tt; events = n }
+job_with (Err f) = record { verdict = Err f; events = 0 }
+
 unfoldable pub job_answer : (text : List ℕ) → (room : ℕ) → Job
 job_answer text room = record { verdict = job_verdict text room; events = length (job_events text room) }
 

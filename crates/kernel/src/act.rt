@@ -17,6 +17,7 @@ use crate::work::work;
 use rules::event::Event;
 use rules::plan::Plan;
 use rules::protocol::Protocol;
+use rules::refusal::Refusal;
 use rules::state::State;
 use tournament::tree::Tournament;
 
@@ -69,8 +70,6 @@ pub fn act(
     ensures state_after { record { answer = result; state = state.new } ≡ act_of protocol plan.now state.old e }
     ensures tree_after { IsTournamentOf plan.now.tasks tree.new state.new }
 {
-    match refusal(plan, state, e) {
-        Err(why) => Err(why),
-        Ok(()) => Ok(accept(protocol, plan, state, tree, e)),
-    }
+    refusal(plan, state, e)?;
+    Ok(accept(protocol, plan, state, tree, e))
 }

@@ -36,9 +36,9 @@ same_refused a b i j e =
     let same : ◌≡◌ {A = Fault} (record { why = a; place = i }) (record { why = b; place = j }) = cc in
     (ap (λ (f : Fault). f.why) same, ap (λ (f : Fault). f.place) same)
 
--- what `?` hands on is the fault that it met
-pub handed_on : {T : Type 0} (r : Result T Fault) (g : Fault) → IsErrAnd r (λ f. f ≡ g) → r ≡ Err g
-handed_on r g h = let (f, is, same) = err_from_is_err_and r h in is ∙ ap (λ (x : Fault). Err x) same
+-- what `?` hands on is what it met
+pub handed_on : {T E : Type 0} (r : Result T E) (g : E) → IsErrAnd r (λ f. f ≡ g) → r ≡ Err g
+handed_on {E = E} r g h = let (f, is, same) = err_from_is_err_and r h in is ∙ ap (λ (x : E). Err x) same
 
 pub check_none : first_fault [] ≡ Ok tt
 unfolding first_fault

@@ -16,9 +16,9 @@ pub fn shared_locks(p: &Plan) -> u32
 {
     let mut used = 0u32;
     let mut shared = 0u32;
-    for x in 0..p.tasks {
-        shared |= used & p.uses[x];
-        used |= p.uses[x];
+    for &set in &p.uses[..p.tasks] {
+        shared |= used & set;
+        used |= set;
     }
     shared
 }

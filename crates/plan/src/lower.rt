@@ -22,8 +22,7 @@ fn lower_at(p: &Plan, b: u8, l: u8, x: usize) -> bool
     requires { x < max_tasks }
     ensures { result ≡ lower_at p.now b l x }
 {
-    let (base, uses) = (p.base[x], p.uses[x]);
-    has_bit(uses, l) && base < b
+    has_bit(p.uses[x], l) && p.base[x] < b
 }
 
 // Whether lock l has a user of base below b.

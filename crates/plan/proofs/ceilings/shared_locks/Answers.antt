@@ -1,13 +1,13 @@
 -- `plan::ceilings::shared_locks` meets its contract. Each turn takes one task in.
-use Rattle.std.proofs.Common.{rules, arith}
+use Rattle.std.proofs.Common.{arith, ℕ, length-take, get_or-take}
 use Rattle.plan.proofs.Users.{shared_start, shared_next, shared_ends}
 use Rattle.plan.proofs.ceilings.shared_locks.Goals as goal
 
-pub loop-x-init : goal.loop-x-init
-loop-x-init c = shared_start _
+pub loop-set-init : goal.loop-set-init
+loop-set-init c = shared_start _
 
-pub loop-x-preserved : goal.loop-x-preserved
-loop-x-preserved c = search (shared_next, rules)
+pub loop-set-preserved : goal.loop-set-preserved
+loop-set-preserved c = shared_next _ _ _ _ _ c.loop-set.invariant (get_or-take c.args.p.now.tasks c.args.p.now.uses c.loop-set.set-index 0 (omega (arith, length-take {A = ℕ})))
 
 pub returns : goal.returns
-returns c = shared_ends _ _ _ _ c.loop-x.invariant (omega arith)
+returns c = shared_ends _ _ _ _ c.loop-set.invariant (omega (arith, length-take {A = ℕ}))

@@ -1,5 +1,5 @@
 use Rattle.plan.proofs.Users.{SharedSoFar}
 use Rattle.plan.proofs.ceilings.shared_locks.Given as goal
 
-abbrev pub invariant-loop-x : goal.invariant-loop-x
-invariant-loop-x l = SharedSoFar l.p l.x l.used l.shared
+abbrev pub invariant-loop-set : goal.invariant-loop-set
+invariant-loop-set l = SharedSoFar l.p l.set-index l.used l.shared

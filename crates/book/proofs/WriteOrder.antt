@@ -2,7 +2,7 @@
 use mathlib.Core.Path.{◌≡◌, refl, sym, ◌∙◌, ap, ap₂}
 use mathlib.Core.Bool.{false}
 use mathlib.Core.List.{List, [], ◌∷◌, ◌++◌, append_assoc}
-use Prim.Native.Nat.{ℕ, ◌+◌, ◌*◌, ◌≤◌, ◌<◌}
+use Prim.Native.Nat.{ℕ, ◌+◌, ◌≤◌, ◌<◌}
 use native.Mathlib.Omega.{arith}
 use lib.Dec.{eqb}
 use lib.ListN.{length, drop}
@@ -16,7 +16,6 @@ use Rattle.rules.specs.Numbers.Refusal.{number_of, first_fault, check_for}
 use Rattle.rules.specs.Books.Event.{number_fault}
 use Rattle.rules.specs.Books.Plan.{most, count_fault}
 use Rattle.rules.specs.Books.Load.{Loaded, load_checks, load_of, loaded_with}
-use Rattle.rules.specs.Books.Book.{contents}
 use Rattle.rules.specs.Books.Bytes.{book_of}
 use Rattle.rules.specs.Books.Write.{counts_of, whole_checks, write_checks, wrote_as, write_of, wrote_with}
 use Rattle.rules.specs.declared.plan.Plan.{Plan}
@@ -27,7 +26,6 @@ use Rattle.rules.proofs.Numbers.Choice.{or_false}
 use Rattle.rules.proofs.Numbers.Place.{first_none}
 use Rattle.rules.proofs.Numbers.Checks.{clean_for, check_left, check_right, check_finds, check_passes, passed_both}
 use Rattle.rules.proofs.Books.Loaded.{load_refused, load_passed}
-use Rattle.rules.proofs.Books.ReadBack.{book_size}
 use Rattle.book.proofs.LastTests.{wrong_one, no_room, both_pass}
 use Rattle.book.specs.Part.{index_of}
 use Rattle.book.proofs.Firsts.{found_in, absent_in}
@@ -100,12 +98,11 @@ module _ (tasks locks uses events : List ℕ) (o : Option ℕ)
           (load_refused tasks locks uses f.why f.place (ap (λ (l : Loaded). l.verdict) (sym e))))
 
       pub plan_passed : (p : Plan) (size : ℕ) (r : Verdict) → loaded_with (Ok p) ≡ load_of tasks locks uses
-          → size ≡ contents + length tasks * 2 + length locks * 4 + length uses * 2 + length events * 4
-          → r ≡ first_fault (last_checks events size room) → r ≡ first_fault (write_checks tasks locks uses events room)
+          → size ≡ length b → r ≡ first_fault (last_checks events size room) → r ≡ first_fault (write_checks tasks locks uses events room)
       unfolding loaded_with
       plan_passed p size r e s h =
           h
-          ∙ ap (λ n. first_fault (last_checks events n room)) (s ∙ sym (book_size tasks locks uses events))
+          ∙ ap (λ n. first_fault (last_checks events n room)) s
           ∙ sym (rest ∙ check_right (load_checks tasks locks uses) _ (load_passed tasks locks uses (ap (λ (l : Loaded). l.verdict) (sym e))))
 
 -- ---- the writer

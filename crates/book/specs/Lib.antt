@@ -5,3 +5,4 @@ pub mod Part
 pub mod Room
 pub mod Reader
 pub mod Look
+pub mod Records

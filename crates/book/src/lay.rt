@@ -2,10 +2,10 @@
 ghost use Rattle.std.specs.Prelude.{◌≡◌, ◌++◌, ◌+◌, ◌*◌, ◌≤◌, ◌<◌, length, drop};
 ghost use Rattle.rules.specs.Numbers.Place.{stored};
 ghost use Rattle.rules.specs.Books.Book.{contents};
-ghost use Rattle.rules.specs.Books.Bytes.{entry_of, book_of};
-ghost use Rattle.rules.specs.Books.Write.{counts_of};
+ghost use Rattle.rules.specs.Books.Bytes.{entry_of};
 ghost use Rattle.book.specs.Part.{index_of};
-ghost use Rattle.book.specs.Room.{Room, PartRoom, with_part};
+ghost use Rattle.book.specs.Records.{counts_in, book_in, RoomIn};
+ghost use Rattle.book.specs.Room.{PartRoom, with_part};
 
 use crate::entry::{CONTENTS, Part};
 use crate::number::Field;
@@ -22,7 +22,7 @@ pub struct Records<'a> {
 impl Records<'_> {
     // How many a part has.
     pub fn count(&self, part: Part) -> usize
-        ensures { result ≡ counts_of self.now.tasks.now self.now.locks.now self.now.uses.now self.now.events.now (index_of part) }
+        ensures { result ≡ counts_in self.now (index_of part) }
     {
         match part {
             Part::Tasks => self.tasks.len(),
@@ -72,10 +72,9 @@ fn put_part<F: Field>(out: &mut [u8], part: Part, from: usize, records: &[F]) ->
 
 // The four parts, each body where the one before it ends. The answer is the book's length.
 pub fn lay(records: &Records, out: &mut [u8]) -> usize
-    requires { Room records.now.tasks.now records.now.locks.now records.now.uses.now records.now.events.now out.old }
-    ensures value { result ≡ length (book_of records.now.tasks.now records.now.locks.now records.now.uses.now records.now.events.now) }
-    ensures out_after { out.new ≡ book_of records.now.tasks.now records.now.locks.now records.now.uses.now records.now.events.now
-        ++ drop result out.old }
+    requires { RoomIn records.now out.old }
+    ensures value { result ≡ length (book_in records.now) }
+    ensures out_after { out.new ≡ book_in records.now ++ drop result out.old }
 {
     let locks_at = put_part(out, Part::Tasks, CONTENTS, records.tasks);
     let uses_at = put_part(out, Part::Locks, locks_at, records.locks);

@@ -5,10 +5,10 @@ ghost use Rattle.rules.specs.Numbers.Place.{at, any};
 ghost use Rattle.rules.specs.Numbers.Refusal.{first_fault};
 ghost use Rattle.rules.specs.Books.Event.{number_fault};
 ghost use Rattle.rules.specs.Books.Plan.{count_fault};
-ghost use Rattle.rules.specs.Books.Book.{contents};
-ghost use Rattle.rules.specs.Books.Write.{counts_of, write_checks, write_of, wrote_with};
+ghost use Rattle.rules.specs.Books.Write.{write_of, wrote_with};
 ghost use Rattle.book.specs.Part.{index_of};
-ghost use Rattle.book.specs.Room.{Few, last_checks};
+ghost use Rattle.book.specs.Records.{counts_in, book_in, checks_in, FewIn};
+ghost use Rattle.book.specs.Room.{last_checks};
 
 use crate::entry::{CONTENTS, PARTS};
 use crate::lay::{Records, lay};
@@ -20,7 +20,7 @@ use rules::refusal::Refusal;
 
 // The first part whose count is out of range, by its place.
 fn first_count(records: &Records) -> Option<usize>
-    ensures { result ≡ position (λ part. count_fault (index_of part) (counts_of records.now.tasks.now records.now.locks.now records.now.uses.now records.now.events.now (index_of part))) PARTS }
+    ensures { result ≡ position (λ part. count_fault (index_of part) (counts_in records.now (index_of part))) PARTS }
 {
     PARTS
         .iter()
@@ -49,10 +49,10 @@ fn first_event(events: &[u32]) -> Option<usize>
     }
 }
 
-// The bytes of their book.
+// The length of their book.
 fn book_size(records: &Records) -> usize
-    requires { Few (length records.now.tasks.now) (length records.now.locks.now) (length records.now.uses.now) (length records.now.events.now) }
-    ensures { result ≡ contents + length records.now.tasks.now * 2 + length records.now.locks.now * 4 + length records.now.uses.now * 2 + length records.now.events.now * 4 }
+    requires { FewIn records.now }
+    ensures { result ≡ length (book_in records.now) }
 {
     CONTENTS
         + records.tasks.len() * u16::SIZE
@@ -74,7 +74,7 @@ fn first_last(events: &[u32], size: usize, room: usize) -> Result<(), Fault>
 
 // 2, 4 to 7, 24, 8 and 23, in this order, each at its first offender.
 fn first_fault(records: &Records, room: usize) -> Result<(), Fault>
-    ensures { result ≡ first_fault (write_checks records.now.tasks.now records.now.locks.now records.now.uses.now records.now.events.now room) }
+    ensures { result ≡ first_fault (checks_in records.now room) }
 {
     if let Some(e) = first_count(records) {
         return Err(Fault { why: Refusal::WrongCount, place: e + 1 });

@@ -5,7 +5,7 @@ use Prim.Native.Nat.{ℕ, suc, ◌+◌, ◌*◌, ◌/◌, ◌%◌, ◌≤◌, �
 use native.Mathlib.Nat.{add-zero}
 use native.Mathlib.Omega.{arith}
 use lib.Dec.{ltb}
-use lib.ListN.{length, set, length-set, length-append}
+use lib.ListN.{length, set, length-append}
 use borrow.Author.Tests.{lt-ltb, le-ltb}
 use Rattle.rules.specs.Numbers.Place.{at, stored, tabulate}
 use Rattle.rules.specs.Books.Book.{long}
@@ -42,16 +42,6 @@ module _ (s : List ℕ) (n : ℕ) where
   pub read_past : length s / 4 ≤ n → 0 ≡ record_in s n
   unfolding record_in
   read_past l = sym (if_false (ltb n (length s / 4)) _ _ (le-ltb n (length s / 4) l))
-
-  -- the places of a record that fits
-  pub place_one : (i a : ℕ) → n < length s / 4 → n * 4 + 1 < length (set s i a)
-  place_one i a l = simp length-set (omega arith)
-
-  pub place_two : (i j a b : ℕ) → n < length s / 4 → n * 4 + 2 < length (set (set s i a) j b)
-  place_two i j a b l = simp length-set (omega arith)
-
-  pub place_three : (i j k a b c : ℕ) → n < length s / 4 → n * 4 + 3 < length (set (set (set s i a) j b) k c)
-  place_three i j k a b c l = simp length-set (omega arith)
 
   there : n < length s / 4 → record_in s n ≡ long s (n * 4)
   unfolding record_in

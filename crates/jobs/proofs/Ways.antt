@@ -1,12 +1,11 @@
 -- The ways through the code of each reader. Assumes nothing.
 use mathlib.Core.Path.{◌≡◌, refl, sym, ◌∙◌, ap}
-use mathlib.Core.Bool.{Bool, true, false}
 use mathlib.Core.List.{List, [], ◌∷◌}
 use Prim.Native.Nat.{ℕ, ◌+◌, ◌*◌, ◌-◌, ◌≤◌, ◌<◌}
 use native.Mathlib.Omega.{arith}
 use lib.Dec.{eqb, ltb}
 use lib.ListN.{length, drop, drop_of_length-le, get_or-eq_default}
-use borrow.Author.Tests.{lt-ltb, le-ltb, eq-eqb, ne_eqb, eqb-true, eqb-false}
+use borrow.Author.Tests.{lt-ltb, le-ltb, eq-eqb, ne_eqb}
 use Rattle.std.specs.Prelude.{Option, Some, None, Result, Ok, Err, IsErr, IsErrAnd, if◌then◌else◌}
 use Rattle.rules.specs.Numbers.Place.{at}
 use Rattle.rules.specs.Books.Event.{kind_of, id_of, amount_of, event_number}
@@ -16,12 +15,11 @@ use Rattle.jobs.specs.Reader.Mark.{letter, left, right, gap, other}
 use Rattle.jobs.specs.Reader.Sign.{digit, mark}
 use Rattle.jobs.specs.Reader.Mode.{fresh, units, bracket, lock, after}
 use Rattle.jobs.specs.Reader.Move.{stop, move}
-use Rattle.jobs.specs.Reader.Answer.{refused}
 use Rattle.jobs.specs.Sheet.{Sheet, sheet, with_record, lay_all, done, tell}
 use Rattle.jobs.specs.declared.text.Number.{Number}
 use Rattle.jobs.specs.declared.read.At.{At}
-use Rattle.jobs.specs.Said.{sign_at, digit_of, then_on, Went, Did, Came, then_units, Counted, then_lock, Numbered, then_in, Entered, Left, Over, whole, Within}
-use Rattle.rules.proofs.Numbers.Choice.{if_true, if_false, untrue}
+use Rattle.jobs.specs.Said.{sign_at, digit_of, then_on, Went, Did, Came, then_units, Counted, then_lock, Numbered, then_in, Entered, Left, Over, whole}
+use Rattle.rules.proofs.Numbers.Choice.{if_true, if_false}
 use Rattle.jobs.proofs.Sheets.{laid, tell_one}
 use Rattle.jobs.proofs.Steps.{Spells, spells, sign_low, sign_high, sign_digit, goes, goes_on_lem, stops_at, halts, inside, units_ends, lock_ends, digit_here, mark_here, digit_inside, turns_here}
 
@@ -44,17 +42,8 @@ digit_less text a d o e q = let h : a < length text = digit_inside text a d (sym
 byte_within : (text : List ℕ) (a c : ℕ) → c ≡ at text a → 1 ≤ c → a + 1 ≤ length text
 byte_within text a c e f = let h : a < length text = inside text a (λ z. omega arith) in omega arith
 
-pub within_work : (text : List ℕ) (a c : ℕ) → c ≡ at text a → c ≡ 119 → a + 1 ≤ length text
-within_work text a c e f = byte_within text a c e (omega arith)
-
-pub within_left : (text : List ℕ) (a c : ℕ) → c ≡ at text a → c ≡ 91 → a + 1 ≤ length text
-within_left text a c e f = byte_within text a c e (omega arith)
-
 pub within_gap : (text : List ℕ) (a c : ℕ) → c ≡ at text a → c ≡ 32 → a + 1 ≤ length text
 within_gap text a c e f = byte_within text a c e (omega arith)
-
-pub within_right : (text : List ℕ) (a c n : ℕ) → c ≡ at text a → c ≡ 93 → n ≤ a → Within text a (a + 1) (n + 1)
-within_right text a c n e f g = let h : a + 1 ≤ length text = byte_within text a c e (omega arith) in record { later = omega arith; inside = h; fewer = omega arith }
 
 pub digit_low : (text : List ℕ) (a b : ℕ) → b ≡ at text a → b < 48 → None ≡ digit_of (sign_at text a)
 unfolding sign_at digit_of
@@ -311,9 +300,6 @@ module _ (text : List ℕ) (k a i : ℕ) (r : Result At ℕ) (p q : Sheet) (s : 
   pub body_stopped : (b : ℕ) (s' : List ℕ) (y : Result At ℕ) → r ≡ Err b → y ≡ Err b → Did text k a p y s'
   unfolding Did then_on
   body_stopped b s' y o j ls d = one_more (Err b) o ls d ∙ sym (ap (λ x. then_on x text s' ls) j)
-
-pub body_less : (text : List ℕ) (i b c : ℕ) → i ≤ b → c ≡ at text b → c ≡ 32 → length text - (b + 1) < length text - i
-body_less text i b c h e f = let l : b + 1 ≤ length text = within_gap text b c e f in omega arith
 
 pub body_over : (text : List ℕ) (w : At) (c : ℕ) → c ≡ at text w.place → (c ≡ 32 → ⊥) → Over text (Ok w)
 unfolding Over

@@ -55,7 +55,10 @@ fn work(text: &[u8], from: usize, space: &mut [u8], n: usize) -> Result<At, usiz
 {
     let Number { place, value } = units(text, from)?;
     store(space, n, work_number(value));
-    Ok(At { place, count: n + 1 })
+    Ok(At {
+        place,
+        count: n + 1,
+    })
 }
 
 // A section's lock, behind its `[`.

@@ -74,7 +74,10 @@ pub fn lock(text: &[u8], from: usize) -> Result<Number, usize>
     };
     let place = from + 1;
     let Some(second) = digit(text, place) else {
-        return Ok(Number { place, value: first });
+        return Ok(Number {
+            place,
+            value: first,
+        });
     };
     let value = first * 10 + second;
     if first == 0 || value > MAX_LOCK {

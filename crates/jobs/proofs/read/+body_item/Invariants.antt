@@ -1,4 +1,4 @@
-use Rattle.std.proofs.Common.{◌≡◌, ◌≤◌, ◌+◌, ◌-◌, ◌*◌, length}
+use Rattle.std.proofs.Common.{◌≤◌, ◌+◌, ◌-◌, ◌*◌, length}
 use Rattle.jobs.specs.Sheet.{sheet}
 use Rattle.jobs.specs.Said.{Came}
 use Rattle.jobs.proofs.read.+body_item.Given as goal

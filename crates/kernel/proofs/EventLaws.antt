@@ -124,7 +124,7 @@ module _ (p : Plan) (s : State) where
       let o = allowed p f r (Event.Acquire l) A.passed in
       let U : user ≡ record { 0 = max s.head.user.0 (at p.ceiling l) } = ap (λ v. record { 0 = v }) (u ∙ ap (max s.head.user.0) c) in
       let E : s.head.eager + calls ≡ (figures_after p f r (Event.Acquire l)).eager =
-          ap (λ v. s.head.eager + v) (g ∙ ap (differs s.head.user.0) (u ∙ ap (max s.head.user.0) c)) ∙ sym (take_calls (scene A.sound (room A)) o.runs o) in
+      ap (λ v. s.head.eager + v) (g ∙ ap (differs s.head.user.0) (u ∙ ap (max s.head.user.0) c)) ∙ sym (take_calls (scene A.sound (room A)) o.runs o) in
       rw (E, U, push_fits (at s.takes r) l row (acquire_row A) t, push_fits (at s.saved r) s.head.user.0 words (acquire_words A) w)
 
   -- ---- unlock: `back` is the state where the take is given back

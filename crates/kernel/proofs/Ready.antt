@@ -100,8 +100,8 @@ module _ {p : Plan} {s : State} where
     unfolding saved_of
     acquire_words =
         let w : at s.saved s.head.running < 256 ^ at s.depth s.head.running =
-            rw (A.sound.sound.words.saved s.head.running) (saves_places (at p.ceiling) (at p.base s.head.running) (at s.takes s.head.running)
-            (at s.depth s.head.running) (base_byte A.sound.sound.plan s.head.running) (ceiling_byte A.sound.sound.plan)) in
+        rw (A.sound.sound.words.saved s.head.running) (saves_places (at p.ceiling) (at p.base s.head.running) (at s.takes s.head.running)
+        (at s.depth s.head.running) (base_byte A.sound.sound.plan s.head.running) (ceiling_byte A.sound.sound.plan)) in
         let g : at s.depth s.head.running ≤ 7 = omega (arith, acquire_depth) in
         lt_of_lt_of_le w (pow-le-pow_right (omega arith) g)
 

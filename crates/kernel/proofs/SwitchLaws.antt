@@ -91,7 +91,6 @@ module _ (pr : Protocol) (n t : ℕ) (tree : Tournament) (s : State) (base most 
       ∙ sym (greatest_set s.kept n t base.0 A.none A.known (omega (arith, few n tree s T, T.sized, A.known))) in
       rw (w, B, k)
 
-
 -- the kernel switches for a base strictly above the user word, and only there
 module _ (pr : Protocol) (n t : ℕ) (s : State) (base : KernelPriority) where
   pub arrives_first : (after : State) → true ≡ ltb s.head.user.0 base.0

@@ -7,11 +7,7 @@ use rules::priority::{KernelPriority, UserPriority};
 use rules::protocol::Protocol;
 
 // The second word: the greatest kept priority, or the user word of the task that runs.
-pub fn second_word(
-    protocol: Protocol,
-    user: UserPriority,
-    best: KernelPriority,
-) -> KernelPriority
+pub fn second_word(protocol: Protocol, user: UserPriority, best: KernelPriority) -> KernelPriority
     ensures { result ≡ record { 0 = second_word protocol user.0 best.0 } }
 {
     match protocol {

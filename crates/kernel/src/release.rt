@@ -64,13 +64,7 @@ fn newcomer_waits(
 
 // The kernel keeps the newcomer t's base. It switches where the user word is strictly below that base,
 // and only there.
-fn arrive(
-    protocol: Protocol,
-    state: &mut State,
-    tree: &mut Tournament,
-    t: u8,
-    base: KernelPriority,
-)
+fn arrive(protocol: Protocol, state: &mut State, tree: &mut Tournament, t: u8, base: KernelPriority)
     requires { Arrives tree.old.tasks state.old t × IsTournamentOf tree.old.tasks tree.old state.old }
     ensures state_after { state.new ≡ with_words state.old
         (after_release protocol tree.old.tasks state.old.released (set state.old.kept t base.0) base.0
@@ -89,13 +83,7 @@ fn arrive(
 }
 
 // The newcomer t has a release number and no delay, and arrives.
-pub fn release(
-    protocol: Protocol,
-    plan: &Plan,
-    state: &mut State,
-    tree: &mut Tournament,
-    t: u8,
-)
+pub fn release(protocol: Protocol, plan: &Plan, state: &mut State, tree: &mut Tournament, t: u8)
     requires { Accepts plan.now state.old (Event.Release t) × IsTournamentOf plan.now.tasks tree.old state.old }
     ensures state_after { state.new ≡ after_of protocol plan.now state.old (Event.Release t) }
     ensures tree_after { IsTournamentOf plan.now.tasks tree.new state.new }

@@ -32,7 +32,8 @@ fn delay_of(y: u32, q: u8, b: u8, d: u16, a: u16) -> u16
 fn delays(plan: &Plan, state: &mut State, a: u16)
     requires { (plan.now.tasks ≤ max_tasks) × (state.old.head.running < max_tasks) }
     ensures { state.new ≡ record state.old {
-        delay = renewed state.old.delay (delayed plan.now (figures_of state.old) state.old.head.running a) plan.now.tasks } }
+      delay = renewed state.old.delay (delayed plan.now (figures_of state.old) state.old.head.running a) plan.now.tasks;
+    } }
 {
     let b = plan.base[state.head.running as usize];
     for t in 0..plan.tasks {
@@ -62,7 +63,8 @@ fn charge(units: &mut [u16; MAX_LOCKS], row: u64, k: u8, a: u16)
 fn waits(plan: &Plan, state: &mut State, tree: &Tournament, a: u16)
     requires { Accepts plan.now state.old (Event.Work a) × IsTournamentOf plan.now.tasks tree.now state.old }
     ensures { state.new ≡ record state.old {
-        delay = renewed state.old.delay (delayed plan.now (figures_of state.old) state.old.head.running a) plan.now.tasks } }
+      delay = renewed state.old.delay (delayed plan.now (figures_of state.old) state.old.head.running a) plan.now.tasks;
+    } }
 {
     if kernel_of(plan.base[state.head.running as usize]) < best(state, tree) {
         delays(plan, state, a);

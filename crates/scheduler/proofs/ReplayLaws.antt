@@ -9,7 +9,6 @@ use lib.ListN.{length, take, drop, length-drop}
 use lib.Seq.{take_all}
 use Rattle.rules.specs.Numbers.Place.{from}
 use Rattle.rules.specs.Soundness.Sound.{SoundAndSized}
-use Rattle.rules.specs.Books.Load.{plan_of}
 use Rattle.rules.specs.Books.Book.{count_at, body_at, event_body, record_event, events_of, plan_in, check_of, checked_as, checked_of}
 use Rattle.rules.specs.Schedulers.State.{fresh_of}
 use Rattle.rules.specs.Replays.Run.{run_from}

@@ -1,7 +1,7 @@
 -- The turns of a run: what is left from here comes to what all of it comes to. Assumes nothing.
 use Rattle.std.specs.Prelude.{Ok, Err}
 use Rattle.rules.specs.Numbers.Verdict.{Answer, refused_at}
-use mathlib.Core.Path.{◌≡◌, refl, sym, ◌∙◌, ap, ap₂, subst}
+use mathlib.Core.Path.{◌≡◌, refl, sym, ◌∙◌, ap, subst}
 use mathlib.Core.List.{List, [], ◌∷◌}
 use Prim.Native.Nat.{ℕ, suc, ◌+◌, ◌-◌, ◌≤◌, ◌<◌, min}
 use native.Mathlib.Numerals.{add-one}
@@ -11,7 +11,6 @@ use lib.ListN.{length}
 use borrow.Author.Tests.{eqb-true}
 use Rattle.rules.specs.Numbers.Capacity.{max_tasks}
 use Rattle.rules.specs.Numbers.Place.{from}
-use Rattle.rules.specs.Soundness.Sound.{SoundAndSized}
 use Rattle.rules.specs.Schedulers.State.{fresh_of}
 use Rattle.rules.specs.Replays.Run.{Ran, onward, run_from}
 use Rattle.rules.specs.Replays.Step.{step_of}

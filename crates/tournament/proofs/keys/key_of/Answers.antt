@@ -1,6 +1,5 @@
 -- `tournament::keys::key_of` meets its contract. Nothing is kept, or something is. Assumes nothing.
 use Rattle.tournament.proofs.KeyLaws.{key_none, key_some}
-use Rattle.std.proofs.Common.{rules}
 use Rattle.tournament.proofs.keys.key_of.Goals as goal
 
 pub returns-then-kept-eq0 : goal.returns-then-kept-eq0

@@ -22,7 +22,7 @@ mod write;
 
 use office::space::text_room;
 use rules::protocol::{Protocol, named};
-use wire::{read8, read32};
+use wire::Input;
 
 // More bytes than the largest book and its rows have.
 const ROOM: usize = 65536;
@@ -30,76 +30,84 @@ const ROOM: usize = 65536;
 // More commands than one run is given.
 const MOST: usize = 4000000000;
 
-// Reads what follows a command, and replies.
-fn answer(command: u32, protocol: Protocol, input: &mut [u8], rows: &mut [u8]) -> bool {
+#[derive(Clone, Copy)]
+enum Command {
+    Replay,
+    Check,
+    Step,
+    Write,
+    Compose,
+    Show,
+    Explain,
+    Job,
+}
+
+// By its number.
+impl TryFrom<u32> for Command {
+    type Error = ();
+
+    fn try_from(number: u32) -> Result<Command, ()> {
+        Ok(match number {
+            1 => Command::Replay,
+            2 => Command::Check,
+            3 => Command::Step,
+            4 => Command::Write,
+            5 => Command::Compose,
+            6 => Command::Show,
+            7 => Command::Explain,
+            8 => Command::Job,
+            _ => return Err(()),
+        })
+    }
+}
+
+// Reads what follows a command, and replies. Says whether it was one.
+fn answer(command: Command, protocol: Protocol, input: &mut [u8], rows: &mut [u8]) -> bool {
     io::read_full(0, input);
-    if command == 1 {
-        replay::reply(protocol, input, rows);
-        return true;
+    match command {
+        Command::Replay => replay::reply(protocol, input, rows),
+        Command::Check => check::reply(input, rows.len()),
+        Command::Step => step::reply(protocol, input),
+        Command::Write => return write::reply(input, rows),
+        Command::Compose => office_replies::compose_reply(input),
+        Command::Show => office_replies::show_reply(input),
+        Command::Explain => office_replies::explain_reply(protocol, input),
+        Command::Job => job::reply(input, rows),
     }
-    if command == 2 {
-        check::reply(input, rows.len());
-        return true;
-    }
-    if command == 3 {
-        step::reply(protocol, input);
-        return true;
-    }
-    if command == 4 {
-        return write::reply(input, rows);
-    }
-    if command == 5 {
-        office_replies::compose_reply(input);
-        return true;
-    }
-    if command == 6 {
-        office_replies::show_reply(input);
-        return true;
-    }
-    if command == 7 {
-        office_replies::explain_reply(protocol, input);
-        return true;
-    }
-    if command == 8 {
-        job::reply(input, rows);
-        return true;
-    }
-    false
+    true
 }
 
 // Answers one command, and says whether there was one.
 fn one(input: &mut [u8], rows: &mut [u8]) -> bool {
     let mut head = [0u8; 16];
-    let got = io::read_full(0, &mut head);
-    if got < 16 {
+    if io::read_full(0, &mut head) < head.len() {
         return false;
     }
-    let command = read32(&head, 0);
-    let protocol = Protocol::from(read8(&head, 4));
-    let size = read32(&head, 8) as usize;
-    let room = read32(&head, 12) as usize;
-    if input.len() < size {
+    let mut head = Input::new(&head);
+    let Ok(command) = Command::try_from(u32::from_le_bytes(head.take())) else {
+        return false;
+    };
+    let [protocol, _, _, _]: [u8; 4] = head.take();
+    let size = u32::from_le_bytes(head.take()) as usize;
+    let room = u32::from_le_bytes(head.take()) as usize;
+    if input.len() < size || rows.len() < room {
         return false;
     }
-    if rows.len() < room {
-        return false;
-    }
-    answer(command, protocol, &mut input[..size], &mut rows[..room])
-}
-
-fn serve(input: &mut [u8], rows: &mut [u8]) {
-    let mut i: usize = 0;
-    while i < MOST {
-        if !one(input, rows) {
-            return;
-        }
-        i += 1;
-    }
+    answer(
+        command,
+        Protocol::from(protocol),
+        &mut input[..size],
+        &mut rows[..room],
+    )
 }
 
 // The input has room for one byte more than a text may have; a plan and a state have fewer, and so have the records of a writing.
 fn main() {
     let mut input = text_room();
     let mut rows = [0u8; ROOM];
-    serve(&mut input, &mut rows);
+    for _ in 0..MOST {
+        if !one(&mut input, &mut rows) {
+            return;
+        }
+    }
 }

@@ -2,7 +2,7 @@
 //   compose  the length of the book and that of the line that says why there is none, then both
 //   show     the text's length, then the text
 //   explain  the words' length, then the words
-use crate::wire::{put_place, write_front};
+use crate::wire::{Reply, write_front};
 use office::compose::compose;
 use office::explain::explain;
 use office::show::show;
@@ -15,16 +15,16 @@ const BOOK_SPACE: usize = 65536;
 const LINE_SPACE: usize = 512;
 
 fn write_sizes(a: usize, b: usize) {
-    let mut out = [0u8; 8];
-    let i = put_place(&mut out, 0, a);
-    let i = put_place(&mut out, i, b);
-    write_front(&out, i);
+    let mut out = Reply::<8>::new();
+    out.put_place(a);
+    out.put_place(b);
+    out.send();
 }
 
 fn write_sized(text: &[u8], n: usize) {
-    let mut out = [0u8; 4];
-    let i = put_place(&mut out, 0, n);
-    write_front(&out, i);
+    let mut out = Reply::<4>::new();
+    out.put_place(n);
+    out.send();
     write_front(text, n);
 }
 

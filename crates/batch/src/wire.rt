@@ -1,91 +1,82 @@
-// Numbers in lent bytes, little-endian. What lies past the end reads as 0 and is not written.
-ghost use Rattle.std.specs.Prelude.{◌<◌};
+// Numbers by their bytes, the lowest first. What lies past the end of the input reads as 0, and what comes past the room of a
+// reply is not sent.
+use rules::answer::{Fault, verdict_number, verdict_place};
 
-// The place n after i.
-pub fn after(i: usize, n: usize) -> usize {
-    std::num::wrapping_add_usize(i, n)
+// The bytes of a command that are still to be read.
+#[derive(Clone, Copy)]
+pub struct Input<'a> {
+    rest: &'a [u8],
 }
 
-pub fn read8(b: &[u8], i: usize) -> u8 {
-    if i < b.len() {
-        return b[i];
+impl<'a> Input<'a> {
+    pub fn new(bytes: &'a [u8]) -> Input<'a> {
+        Input { rest: bytes }
     }
-    0
-}
 
-fn wide(x: u8) -> u64
-    ensures { result < 256 }
-{
-    x as u64
-}
+    fn byte(&mut self) -> u8 {
+        match self.rest.split_first() {
+            Some((&first, rest)) => {
+                self.rest = rest;
+                first
+            }
+            None => 0,
+        }
+    }
 
-fn two(b: &[u8], i: usize) -> u64
-    ensures { result < 65536 }
-{
-    wide(read8(b, i)) + wide(read8(b, after(i, 1))) * 256
-}
-
-fn four(b: &[u8], i: usize) -> u64
-    ensures { result < 4294967296 }
-{
-    two(b, i) + two(b, after(i, 2)) * 65536
-}
-
-pub fn read16(b: &[u8], i: usize) -> u16 {
-    (two(b, i) % 65536) as u16
-}
-
-pub fn read32(b: &[u8], i: usize) -> u32 {
-    (four(b, i) % 4294967296) as u32
-}
-
-pub fn read64(b: &[u8], i: usize) -> u64 {
-    four(b, i) + four(b, after(i, 4)) * 4294967296
-}
-
-fn put(out: &mut [u8], i: usize, x: u8) {
-    if i < out.len() {
-        out[i] = x;
+    // The next N bytes.
+    pub fn take<const N: usize>(&mut self) -> [u8; N] {
+        let mut bytes = [0u8; N];
+        for byte in bytes.iter_mut() {
+            *byte = self.byte();
+        }
+        bytes
     }
 }
 
-// Writes a number, and gives the place after it.
-pub fn put8(out: &mut [u8], i: usize, x: u8) -> usize {
-    put(out, i, x);
-    after(i, 1)
+// A reply as far as it is made.
+#[derive(Drop)]
+pub struct Reply<const N: usize> {
+    bytes: [u8; N],
+    length: usize,
 }
 
-fn put_two(out: &mut [u8], i: usize, x: u64) -> usize {
-    let next = put8(out, i, (x % 256) as u8);
-    put8(out, next, (x / 256 % 256) as u8)
-}
+impl<const N: usize> Reply<N> {
+    pub fn new() -> Reply<N> {
+        Reply {
+            bytes: [0; N],
+            length: 0,
+        }
+    }
 
-pub fn put16(out: &mut [u8], i: usize, x: u16) -> usize {
-    put_two(out, i, x as u64)
-}
+    pub fn put(&mut self, bytes: &[u8]) {
+        for &byte in bytes {
+            if self.length < N {
+                self.bytes[self.length] = byte;
+                self.length += 1;
+            }
+        }
+    }
 
-fn put_four(out: &mut [u8], i: usize, x: u64) -> usize {
-    let next = put_two(out, i, x);
-    put_two(out, next, x / 65536)
-}
+    // A place of a book, which four bytes hold.
+    pub fn put_place(&mut self, place: usize) {
+        self.put(&place.to_le_bytes()[..4]);
+    }
 
-pub fn put32(out: &mut [u8], i: usize, x: u32) -> usize {
-    put_four(out, i, x as u64)
-}
+    // A refusal's number, or 0, and its place.
+    pub fn put_verdict(&mut self, verdict: Result<(), Fault>) {
+        self.put(&[verdict_number(verdict)]);
+        self.put_place(verdict_place(verdict));
+    }
 
-pub fn put64(out: &mut [u8], i: usize, x: u64) -> usize {
-    let next = put_four(out, i, x);
-    put_four(out, next, x / 4294967296)
-}
-
-// A place of a book, which four bytes hold.
-pub fn put_place(out: &mut [u8], i: usize, x: usize) -> usize {
-    put_four(out, i, x as u64)
+    // To standard output.
+    pub fn send(&self) {
+        write_front(&self.bytes, self.length);
+    }
 }
 
 // Writes the first n bytes to standard output.
-pub fn write_front(out: &[u8], n: usize) {
-    if n <= out.len() {
-        io::write_all(1, &out[..n]);
+pub fn write_front(bytes: &[u8], n: usize) {
+    if let Some(front) = bytes.get(..n) {
+        io::write_all(1, front);
     }
 }

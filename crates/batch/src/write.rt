@@ -1,10 +1,10 @@
 // The writing of a book. It is handed four counts, of tasks, locks, uses and events, four bytes each,
 // and then so many records of each kind, as numbers. The reply: the refusal's number or 0, its place,
 // the book's length, and the whole buffer, which held 0xEE before.
-use crate::each_figure::{take16, take32};
-use crate::replay::fill;
-use crate::wire::{put_place, put8, read32, write_front};
-use rules::answer::{Written, verdict_number, verdict_place};
+ghost use Rattle.std.specs.Prelude.{◌+◌, ◌<◌, ◌≤◌, ◌^◌, length};
+
+use crate::wire::{Input, Reply};
+use rules::answer::Written;
 
 // Places for tasks and uses, and for locks and events: of each kind more than two bytes can count.
 const MOST: usize = 131200;
@@ -14,85 +14,75 @@ const RECORDS: usize = 16;
 
 const REPLY: usize = 9;
 
-fn write_reply(written: Written) {
-    let verdict = written.verdict;
-    let mut out = [0u8; REPLY];
-    let i = put8(&mut out, 0, verdict_number(verdict));
-    let i = put_place(&mut out, i, verdict_place(verdict));
-    let i = put_place(&mut out, i, written.length);
-    write_front(&out, i);
-}
-
-// Hands the records to the writer, t tasks and then the uses up to v, l locks and then the events up to
-// f, unless there are not so many.
-fn hand(
-    words: &[u16],
-    t: usize,
-    v: usize,
-    longs: &[u32],
-    l: usize,
-    f: usize,
-    out: &mut [u8],
-) -> bool {
-    if t > v {
-        return false;
-    }
-    if v > words.len() {
-        return false;
-    }
-    if l > f {
-        return false;
-    }
-    if f > longs.len() {
-        return false;
-    }
-    let tasks = &words[0..t];
-    let uses = &words[t..v];
-    let locks = &longs[0..l];
-    let events = &longs[l..f];
-    let written = book::writer::write(tasks, locks, uses, events, out);
-    write_reply(written);
-    io::write_all(1, out);
-    true
-}
-
-// Takes numbers from the input into the places from one up to another, and gives the input's place
-// after them.
-fn part16(a: &mut [u16], from: usize, to: usize, b: &[u8], at: usize) -> usize {
-    if from > to {
-        return at;
-    }
-    if to > a.len() {
-        return at;
-    }
-    take16(&mut a[from..to], b, at)
-}
-
-fn part32(a: &mut [u32], from: usize, to: usize, b: &[u8], at: usize) -> usize {
-    if from > to {
-        return at;
-    }
-    if to > a.len() {
-        return at;
-    }
-    take32(&mut a[from..to], b, at)
+// How many records there are of each kind.
+#[derive(Clone, Copy)]
+struct Counts {
+    tasks: usize,
+    locks: usize,
+    uses: usize,
+    events: usize,
 }
 
 // Says whether it was a command: the counts are those of the records, and not too great.
-pub fn reply(input: &[u8], out: &mut [u8]) -> bool {
-    let t = read32(input, 0) as usize;
-    let l = read32(input, 4) as usize;
-    let v = t + read32(input, 8) as usize;
-    let f = l + read32(input, 12) as usize;
-    if input.len() != RECORDS + v * 2 + f * 4 {
+pub fn reply(input: &[u8], buffer: &mut [u8]) -> bool {
+    let mut numbers = Input::new(input);
+    let counts = Counts {
+        tasks: read_count(&mut numbers),
+        locks: read_count(&mut numbers),
+        uses: read_count(&mut numbers),
+        events: read_count(&mut numbers),
+    };
+    let words = counts.tasks + counts.uses;
+    let longs = counts.locks + counts.events;
+    if words > MOST || longs > MOST || input.len() != RECORDS + words * 2 + longs * 4 {
         return false;
     }
-    let mut words = [0u16; MOST];
-    let mut longs = [0u32; MOST];
-    let i = part16(&mut words, 0, t, input, RECORDS);
-    let i = part32(&mut longs, 0, l, input, i);
-    let i = part16(&mut words, t, v, input, i);
-    part32(&mut longs, l, f, input, i);
-    fill(out);
-    hand(&words, t, v, &longs, l, f, out)
+    buffer.fill(0xEE);
+    let written = write(&mut numbers, counts, &mut [0; MOST], &mut [0; MOST], buffer);
+    let mut out = Reply::<REPLY>::new();
+    out.put_verdict(written.verdict);
+    out.put_place(written.length);
+    out.send();
+    io::write_all(1, buffer);
+    true
+}
+
+fn read_count(input: &mut Input) -> usize
+    ensures { result < 2 ^ 32 }
+{
+    u32::from_le_bytes(input.take()) as usize
+}
+
+// Reads the records, and writes the book of them. Tasks and uses are words, locks and events are longer.
+fn write(
+    input: &mut Input,
+    counts: Counts,
+    words: &mut [u16],
+    longs: &mut [u32],
+    buffer: &mut [u8],
+) -> Written
+    requires words { counts.tasks + counts.uses ≤ length words.old }
+    requires longs { counts.locks + counts.events ≤ length longs.old }
+{
+    let (tasks, words) = words.split_at_mut(counts.tasks);
+    let (locks, longs) = longs.split_at_mut(counts.locks);
+    let uses = &mut words[..counts.uses];
+    let events = &mut longs[..counts.events];
+    read_words(input, tasks);
+    read_longs(input, locks);
+    read_words(input, uses);
+    read_longs(input, events);
+    book::writer::write(tasks, locks, uses, events, buffer)
+}
+
+fn read_words(input: &mut Input, words: &mut [u16]) {
+    for word in words.iter_mut() {
+        *word = u16::from_le_bytes(input.take());
+    }
+}
+
+fn read_longs(input: &mut Input, longs: &mut [u32]) {
+    for long in longs.iter_mut() {
+        *long = u32::from_le_bytes(input.take());
+    }
 }

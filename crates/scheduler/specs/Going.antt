@@ -14,10 +14,6 @@ use Rattle.rules.specs.declared.event.Event.{Event}
 use Rattle.rules.specs.declared.refusal.Refusal.{Refusal}
 use Rattle.rules.specs.declared.answer.Replayed.{Replayed}
 
--- what a refusal of 1 to 9 or 24 leaves: no state but a fresh one
-abbrev pub untouched_as : Refusal → ℕ → Plan → Replayed
-untouched_as why place p = record { verdict = refused_at why place; plan = p; state = fresh_of }
-
 -- ---- one turn
 
 -- the event at place k of a body, and a tick where there is none

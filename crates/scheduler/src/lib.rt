@@ -9,12 +9,11 @@ ghost use Rattle.std.specs.Prelude.{◌≡◌, length};
 ghost use Rattle.rules.specs.Books.Book.{checked_of};
 ghost use Rattle.rules.specs.Replays.Replay.{ran_as, replay_of};
 ghost use Rattle.rules.specs.Replays.Step.{step_of};
-ghost use Rattle.scheduler.specs.Going.{untouched_as};
 
 use book::check;
-use rules::answer::{Fault, Replayed, Stepped};
+use rules::answer::{Opened, Replayed, Stepped};
 use rules::event::Event;
-use rules::plan::Plan;
+use rules::plan::{Plan, blank};
 use rules::protocol::Protocol;
 use rules::refusal::Refusal;
 use rules::state::{State, fresh};
@@ -33,29 +32,21 @@ pub fn step(protocol: Protocol, p: Plan, s: State, e: Event) -> Stepped
     }
 }
 
-// What a refusal of 1 to 9 or 24 leaves: no state but a fresh one.
-fn untouched(why: Refusal, place: usize, plan: Plan) -> Replayed
-    ensures { result ≡ untouched_as why place plan }
-{
-    Replayed {
-        verdict: Err(Fault { why, place }),
-        plan,
-        state: fresh(),
-    }
-}
-
 // The replay of a book: 1 to 9 and 24 first, and no row byte changes where one refuses; then its events up
 // to the first refusal, each accepted one with its four row bytes. No other byte of the rows changes.
 pub fn replay(protocol: Protocol, book: &[u8], rows: &mut [u8]) -> Replayed
     ensures { (ran_as result rows.new ≡ replay_of protocol book.now rows.old)
         × (result.plan ≡ (checked_of book.now (length rows.old)).plan) }
 {
-    let checked = check(book, rows.len());
-    match checked.verdict {
-        Err(Fault { why, place }) => untouched(why, place, checked.plan),
-        Ok(()) => {
-            let body = &book[checked.events..];
-            run::run(protocol, checked.plan, body, body.len() / 4, rows)
+    match check(book, rows.len()) {
+        Err(fault) => Replayed {
+            verdict: Err(fault),
+            plan: blank(),
+            state: fresh(),
+        },
+        Ok(Opened { plan, events }) => {
+            let body = &book[events..];
+            run::run(protocol, plan, body, body.len() / 4, rows)
         }
     }
 }

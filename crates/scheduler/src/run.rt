@@ -30,10 +30,7 @@ pub fn run_from(
 {
     let mut tree = Tournament::of(plan.tasks, &state.released, &state.kept);
     for k in 0..n {
-        match turn(protocol, plan, state, &mut tree, first, body, rows, k) {
-            Ok(()) => {}
-            Err(Fault { why, place }) => return Err(Fault { why, place }),
-        }
+        turn(protocol, plan, state, &mut tree, first, body, rows, k)?;
     }
     Ok(())
 }

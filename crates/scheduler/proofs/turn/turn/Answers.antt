@@ -2,10 +2,10 @@
 use Rattle.scheduler.proofs.TurnLaws.{turn_accepted, turn_refused}
 use Rattle.scheduler.proofs.turn.turn.Goals as goal
 
-pub returns-in-Accepted-clause-rows_after : goal.returns-in-Accepted-clause-rows_after
-returns-in-Accepted-clause-rows_after c =
-    turn_accepted _ _ _ _ _ _ _ _ _ c.requires.0.sound c.event_on.ensures c.act.ensures.state_after _ _ c.in-Accepted.is c.put_row.ensures
+pub returns-in-Ok-clause-rows_after : goal.returns-in-Ok-clause-rows_after
+returns-in-Ok-clause-rows_after c =
+    turn_accepted _ _ _ _ _ _ _ _ _ c.requires.0.sound c.event_on.ensures c.act.ensures.state_after _ _ c.in-Ok.is c.put_row.ensures
 
-pub returns-in-Refused-clause-rows_after : goal.returns-in-Refused-clause-rows_after
-returns-in-Refused-clause-rows_after c =
-    turn_refused _ _ _ _ _ _ _ _ _ c.requires.0.sound c.event_on.ensures c.act.ensures.state_after _ c.in-Refused.is
+pub returns-in-Err-clause-rows_after : goal.returns-in-Err-clause-rows_after
+returns-in-Err-clause-rows_after c =
+    turn_refused _ _ _ _ _ _ _ _ _ c.requires.0.sound c.event_on.ensures c.act.ensures.state_after _ c.in-Err.is

@@ -33,6 +33,7 @@ fn all_digits(word: &[u8]) -> bool
     word.iter().all(|c| c.is_ascii_digit())
 }
 
+// The number that the digits of a word make.
 fn value(word: &[u8]) -> u32
     ensures { result ≡ value_of 0 word.now }
 {

@@ -1,7 +1,7 @@
 // RULES 9.7: work.
-ghost use Rattle.std.specs.Prelude.{◌≡◌, ◌+◌, ◌≤◌, ◌<◌, min, length};
-ghost use Rattle.rules.specs.Numbers.Capacity.{max_delay, max_locks, max_tasks};
-ghost use Rattle.rules.specs.Numbers.Place.{at, renewed};
+ghost use Rattle.std.specs.Prelude.{◌≡◌, ◌≤◌, ◌<◌};
+ghost use Rattle.rules.specs.Numbers.Capacity.{max_locks, max_tasks};
+ghost use Rattle.rules.specs.Numbers.Place.{renewed};
 ghost use Rattle.rules.specs.Replays.Step.{after_of};
 ghost use Rattle.rules.specs.Schedulers.Figures.{figures_of};
 ghost use Rattle.rules.specs.Schedulers.FiguresAfter.{delayed};
@@ -41,6 +41,19 @@ fn delays(plan: &Plan, state: &mut State, a: u16)
     }
 }
 
+// The same, and without a walk where nothing is kept above the running task's base: then nobody of greater
+// base is released (RULES 8.13).
+fn waits(plan: &Plan, state: &mut State, tree: &Tournament, a: u16)
+    requires { Accepts plan.now state.old (Event.Work a) × IsTournamentOf plan.now.tasks tree.now state.old }
+    ensures { state.new ≡ record state.old {
+      delay = renewed state.old.delay (delayed plan.now (figures_of state.old) state.old.head.running a) plan.now.tasks;
+    } }
+{
+    if kernel_of(plan.base[state.head.running as usize]) < best(state, tree) {
+        delays(plan, state, a);
+    }
+}
+
 // A units more for the section of the lock of each of the k newest takes of a row: they count at its oldest
 // take.
 fn charge(units: &mut [u16; MAX_LOCKS], row: u64, k: u8, a: u16)
@@ -55,19 +68,6 @@ fn charge(units: &mut [u16; MAX_LOCKS], row: u64, k: u8, a: u16)
             let y = l as usize;
             units[y] = units[y].saturating_add(a);
         }
-    }
-}
-
-// The same, and without a walk where nothing is kept above the running task's base: then nobody of greater
-// base is released (RULES 8.13).
-fn waits(plan: &Plan, state: &mut State, tree: &Tournament, a: u16)
-    requires { Accepts plan.now state.old (Event.Work a) × IsTournamentOf plan.now.tasks tree.now state.old }
-    ensures { state.new ≡ record state.old {
-      delay = renewed state.old.delay (delayed plan.now (figures_of state.old) state.old.head.running a) plan.now.tasks;
-    } }
-{
-    if kernel_of(plan.base[state.head.running as usize]) < best(state, tree) {
-        delays(plan, state, a);
     }
 }
 

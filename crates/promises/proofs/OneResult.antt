@@ -1,13 +1,12 @@
 -- Of every function that another crate or a host in another language can call: any two results that its contract allows for the same arguments are equal.
--- a are the arguments, b and c what is lent as it was left. Two functions that change a lent tournament ask that it is one. Assumes nothing.
+-- a are the arguments, b and c what is lent as it was left. The one that changes a lent tournament asks that it is one. Assumes nothing.
 use mathlib.Core.Path.{◌≡◌, sym, ◌∙◌, ap, ap₂}
 use mathlib.Core.Bool.{Bool}
 use mathlib.Core.List.{List}
-use Prim.Native.Nat.{ℕ, ◌≤◌}
+use Prim.Native.Nat.{ℕ}
 use contract.Lifetimes.{Lfts}
-use lib.ListN.{replicate}
-use Rattle.rules.specs.Numbers.Capacity.{max_tasks}
 use Rattle.rules.specs.Books.Write.{Wrote, wrote_with}
+use Rattle.rules.specs.Numbers.Verdict.{Answer}
 use Rattle.rules.specs.Replays.Run.{Ran}
 use Rattle.rules.specs.Replays.Replay.{ran_as}
 use Rattle.rules.specs.declared.plan.Plan.{Plan}
@@ -27,10 +26,9 @@ use Rattle.device.specs.declared.step.DeviceStep.{DeviceStep}
 use Rattle.device.specs.declared.replay.DeviceReplay.{DeviceReplay}
 use Rattle.device.specs.declared.write.DeviceWrite.{DeviceWrite}
 use Rattle.device.specs.declared.job.DeviceJob.{DeviceJob}
-use Rattle.tournament.specs.Tree.{places, tree_of}
+use Rattle.tournament.specs.Tree.{tree_of}
 use Rattle.tournament.specs.Keys.{tournament_of}
-use Rattle.kernel.specs.Lent.{stepped_as}
-use Rattle.kernel.specs.declared.acted.Acted.{Acted}
+use Rattle.tournament.specs.declared.tree.Tournament.{Tournament}
 use Rattle.scheduler.proofs.replay.Reads as replay
 use Rattle.report.proofs.report.Reads as report
 use Rattle.book.proofs.writer.write.Reads as write
@@ -83,13 +81,12 @@ use Rattle.figures.proofs.spare.spare8.Reads as spare8
 use Rattle.figures.proofs.spare.spare16.Reads as spare16
 use Rattle.figures.proofs.spare.spare32.Reads as spare32
 use Rattle.figures.proofs.spare.spare64.Reads as spare64
-use Rattle.tournament.proofs.tree.greater.Reads as greater
-use Rattle.tournament.proofs.tree.top.Reads as top
-use Rattle.tournament.proofs.tree.put.Reads as put
+use Rattle.tournament.proofs.tree.Tournament.of.Reads as tournament-of
+use Rattle.tournament.proofs.tree.Tournament.top.Reads as top
+use Rattle.tournament.proofs.tree.Tournament.put.Reads as put
 use Rattle.tournament.proofs.keys.key_of.Reads as key_of
 use Rattle.tournament.proofs.keys.who_of.Reads as who-of
 use Rattle.tournament.proofs.keys.word_of.Reads as word_of
-use Rattle.tournament.proofs.build.build.Reads as build
 use Rattle.plan.proofs.count.count_fault.Reads as count-fault
 use Rattle.plan.proofs.load.Reads as load
 use Rattle.plan.proofs.bound.Reads as bound
@@ -347,9 +344,6 @@ one_report κs a b c r q h k = (h.1 ∙ sym k.1, h.0 ∙ sym k.0)
 
 -- ---- the tournament
 
-pub one_greater : (a : _) (b c : _) (r q : ℕ) → greater.Post tt a r b → greater.Post tt a q c → r ≡ q
-one_greater a b c r q h k = h ∙ sym k
-
 pub one_key_of : (a : _) (b c : _) (r q : ℕ) → key_of.Post tt a r b → key_of.Post tt a q c → r ≡ q
 one_key_of a b c r q h k = h ∙ sym k
 
@@ -362,30 +356,22 @@ one_word_of a b c r q h k = h ∙ sym k
 pub one_top : (κs : Lfts 1) (a : _) (b c : _) (r q : ℕ) → top.Post κs a r b → top.Post κs a q c → r ≡ q
 one_top κs a b c r q h k = h ∙ sym k
 
-pub one_put : (κs : Lfts 1) (a : _) (b c : _) (r q : ℕ) → put.Post κs a r b → put.Post κs a q c
-    → (f : ℕ → ℕ) → a.1.0 ≤ max_tasks → a.0.now ≡ tree_of a.1.0 f
-    → (r ≡ q) × (b.0.now ≡ c.0.now)
-one_put κs a b c r q h k f few e = (h.1 f few e ∙ sym (k.1 f few e), h.0 f few e ∙ sym (k.0 f few e))
+pub one_put : (κs : Lfts 1) (a : _) (b c : _) (r q : _) → put.Post κs a r b → put.Post κs a q c
+    → (f : ℕ → ℕ) → a.0.now.keys ≡ tree_of a.0.now.tasks f
+    → (b.0.now.tasks ≡ c.0.now.tasks) × (b.0.now.keys ≡ c.0.now.keys)
+one_put κs a b c r q h k f e = (h.0 ∙ sym k.0, h.1 f e ∙ sym (k.1 f e))
 
-pub one_build : (κs : Lfts 3) (a : _) (b c : _) (r q : _) → build.Post κs a r b → build.Post κs a q c
-    → a.0 ≤ max_tasks → a.1.1.1.0.now ≡ replicate places 0
-    → b.1.1.1.0.now ≡ c.1.1.1.0.now
-one_build κs a b c r q h k few e = h few e ∙ sym (k few e)
+pub one_tournament : (κs : Lfts 2) (a : _) (b c : _) (r q : Tournament) → tournament-of.Post κs a r b → tournament-of.Post κs a q c
+    → (r.tasks ≡ q.tasks) × (r.keys ≡ q.keys)
+one_tournament κs a b c r q h k = (h.0 ∙ sym k.0, h.1 ∙ sym k.1)
 
--- the answer, the head and every array that the act was lent to change, put together as a step; and the tournament
-pub one_act : (κs : Lfts 14) (a : _) (b c : _) (r q : Acted) → act.Post κs a r b → act.Post κs a q c
-    → (stepped_as r b.1.1.1.1.1.1.1.1.1.0.now b.1.1.1.1.1.1.1.1.1.1.0.now b.1.1.1.1.1.1.1.1.1.1.1.0.now
-    b.1.1.1.1.1.1.1.1.1.1.1.1.0.now b.1.1.1.1.1.1.1.1.1.1.1.1.1.0.now
-    b.1.1.1.1.1.1.1.1.1.1.1.1.1.1.0.now b.1.1.1.1.1.1.1.1.1.1.1.1.1.1.1.0.now
-    b.1.1.1.1.1.1.1.1.1.1.1.1.1.1.1.1.0.now
-    ≡ stepped_as q c.1.1.1.1.1.1.1.1.1.0.now c.1.1.1.1.1.1.1.1.1.1.0.now c.1.1.1.1.1.1.1.1.1.1.1.0.now
-    c.1.1.1.1.1.1.1.1.1.1.1.1.0.now c.1.1.1.1.1.1.1.1.1.1.1.1.1.0.now
-    c.1.1.1.1.1.1.1.1.1.1.1.1.1.1.0.now c.1.1.1.1.1.1.1.1.1.1.1.1.1.1.1.0.now
-    c.1.1.1.1.1.1.1.1.1.1.1.1.1.1.1.1.0.now)
-    × (b.1.1.1.1.1.1.1.1.1.1.1.1.1.1.1.1.1.0.now ≡ c.1.1.1.1.1.1.1.1.1.1.1.1.1.1.1.1.1.0.now)
+-- the answer and the state that the act was lent to change, put together as a step; and the tournament
+pub one_act : (κs : Lfts 3) (a : _) (b c : _) (r q : Answer) → act.Post κs a r b → act.Post κs a q c
+    → (◌≡◌ {A = Stepped} (record { answer = r; state = b.1.1.0.now }) (record { answer = q; state = c.1.1.0.now }))
+    × (b.1.1.1.0.now.tasks ≡ c.1.1.1.0.now.tasks) × (b.1.1.1.0.now.keys ≡ c.1.1.1.0.now.keys)
 one_act κs a b c r q h k = (
   h.0 ∙ sym k.0,
-  h.1 ∙ ap₂ (tournament_of a.1.1.0) (ap (λ (x : Stepped). x.state.released) (h.0 ∙ sym k.0))
-      (ap (λ (x : Stepped). x.state.kept) (h.0 ∙ sym k.0))
-      ∙ sym k.1,
+  h.1.tasks ∙ sym k.1.tasks,
+  h.1.keys ∙ ap₂ (tournament_of a.1.0.now.tasks) (ap (λ (x : Stepped). x.state.released) (h.0 ∙ sym k.0))
+      (ap (λ (x : Stepped). x.state.kept) (h.0 ∙ sym k.0)) ∙ sym k.1.keys,
 )

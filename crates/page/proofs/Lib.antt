@@ -2,3 +2,4 @@
 pub mod Typed
 pub mod Numbers
 pub mod Said
+pub mod Choice

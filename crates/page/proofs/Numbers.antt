@@ -10,9 +10,7 @@ use lib.Dec.{ltb}
 use lib.ListN.{length, length-append}
 use borrow.Author.Tests.{lt-ltb, le-ltb}
 use Rattle.rules.proofs.Numbers.Choice.{if_true, if_false, lt_or_le}
-use Rattle.page.specs.Page.{Page, typed}
 use Rattle.page.specs.Decimal.{digit, digits_in, digits}
-use Rattle.page.proofs.Typed.{typed_two}
 
 -- one digit, and more
 in_one : (k n : ℕ) → n < 10 → digits_in (suc k) n ≡ digit (n % 10) ∷ []
@@ -39,14 +37,6 @@ digits_one n l = in_one n n l
 pub digits_more : (n : ℕ) → 10 ≤ n → digits n ≡ digits (n / 10) ++ digit (n % 10) ∷ []
 unfolding digits
 digits_more n l = in_more n n l ∙ ap (λ f. f ++ digit (n % 10) ∷ []) (in_enough n (suc (n / 10)) (n / 10) (omega arith) (omega arith))
-
--- the two ways of the code
-pub one_digit : (p q : Page) (n d : ℕ) → q ≡ typed p (d ∷ []) → d ≡ digit (n % 10) → n < 10 → q ≡ typed p (digits n)
-one_digit p q n d h e l = h ∙ ap (typed p) (ap (λ x. x ∷ []) e ∙ sym (digits_one n l))
-
-pub more_digits : (p q r : Page) (n d : ℕ) → q ≡ typed p (digits (n / 10)) → r ≡ typed q (d ∷ []) → d ≡ digit (n % 10) → 10 ≤ n → r ≡ typed p (digits n)
-more_digits p q r n d g h e l =
-    typed_two p q r (digits (n / 10)) (d ∷ []) g h ∙ ap (typed p) (ap (λ x. digits (n / 10) ++ x ∷ []) e ∙ sym (digits_more n l))
 
 -- ---- how many digits it has
 

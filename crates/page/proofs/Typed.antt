@@ -1,53 +1,47 @@
 -- Laws of a text that is typed part by part. Assumes nothing.
 use mathlib.Core.Path.{◌≡◌, refl, sym, ◌∙◌, ap, ap₂}
 use mathlib.Core.Logic.{⊎_elim}
-use mathlib.Core.List.{List, [], ◌∷◌, ◌++◌}
+use mathlib.Core.List.{List, [], ◌∷◌, ◌++◌, append_assoc, append-nil}
 use Prim.Native.Nat.{ℕ, suc, ◌+◌, ◌≤◌, ◌<◌, min}
 use native.Mathlib.Numerals.{add-one}
 use native.Mathlib.Omega.{arith}
+use denote.MutBor.{MutBor, at_last}
 use lib.Dec.{ltb}
-use lib.ListN.{length, get_or, set, take, drop, length-set, drop_of_length-le}
-use lib.Seq.{set_out, drop-cons, length-take-le}
+use lib.ListN.{length, set, take, length-set}
+use lib.Seq.{set_out, length-take-le}
 use borrow.Author.Tests.{lt-ltb, le-ltb}
 use Rattle.rules.proofs.Numbers.Choice.{if_true, if_false, lt_or_le}
 use Rattle.rules.proofs.Numbers.Stored.{length_stored}
 use Rattle.rules.specs.Numbers.Place.{stored}
-use Rattle.page.specs.Page.{Page, page, put, typed}
+use Rattle.page.specs.declared.Page.{Page}
+use Rattle.page.specs.Page.{page, put, typed}
 
 -- one byte, as the code puts it: within the bytes, and past them
-pub put_within : (out : List ℕ) (i b : ℕ) → i < length out → page (set out i b) (i + 1) ≡ typed (page out i) (b ∷ [])
+pub put_within : {T : Type 0} (out : MutBor (List T)) (i : ℕ) (b : T) → i < length out.now → page (at_last out (set out.now i b)) (i + 1) ≡ typed (page out i) (b ∷ [])
 unfolding typed put
-put_within out i b l = ap (page (set out i b)) (sym (if_true (ltb i (length out)) (i + 1) i (lt-ltb i (length out) l)))
+put_within out i b l = ap (page (at_last out (set out.now i b))) (sym (if_true (ltb i (length out.now)) (i + 1) i (lt-ltb i (length out.now) l)))
 
-pub put_past : (out : List ℕ) (i b : ℕ) → length out ≤ i → page out i ≡ typed (page out i) (b ∷ [])
+pub put_past : {T : Type 0} (out : MutBor (List T)) (i : ℕ) (b : T) → length out.now ≤ i → page out i ≡ typed (page out i) (b ∷ [])
 unfolding typed put
-put_past out i b l = ap₂ page (sym (set_out out i b l)) (sym (if_false (ltb i (length out)) (i + 1) i (le-ltb i (length out) l)))
+put_past out i b l = ap₂ page (ap (at_last out) (sym (set_out out.now i b l))) (sym (if_false (ltb i (length out.now)) (i + 1) i (le-ltb i (length out.now) l)))
 
 -- a text after a text
-pub typed_on : (p : Page) (a b : List ℕ) → typed (typed p a) b ≡ typed p (a ++ b)
+pub typed_on : {T : Type 0} (p : Page T) (a b : List T) → typed (typed p a) b ≡ typed p (a ++ b)
 unfolding typed
 typed_on p [] b = refl
 typed_on p (x ∷ a) b = typed_on (put p x) a b
 
-pub typed_two : (p q r : Page) (a b : List ℕ) → q ≡ typed p a → r ≡ typed q b → r ≡ typed p (a ++ b)
+-- the same of three pages, for a search from the last one back
+pub typed_two : {T : Type 0} (p q r : Page T) (a b : List T) → q ≡ typed p a → r ≡ typed q b → r ≡ typed p (a ++ b)
 typed_two p q r a b g h = h ∙ ap (λ s. typed s b) g ∙ typed_on p a b
 
--- a byte before a text
-pub typed_cons : (p q r : Page) (x : ℕ) (b : List ℕ) → q ≡ typed p (x ∷ []) → r ≡ typed q b → r ≡ typed p (x ∷ b)
-typed_cons p q r x b g h = typed_two p q r (x ∷ []) b g h
-
--- a loop that types a text byte by byte: what is left from place k on, after what is typed, makes the whole
-abbrev pub TypedSoFar : Page → List ℕ → Page → ℕ → Type 0
-TypedSoFar p text q k = typed q (drop k text) ≡ typed p text
-
-pub text_next : (p q r : Page) (text : List ℕ) (k : ℕ) → TypedSoFar p text q k → k < length text → r ≡ typed q (get_or text k 0 ∷ [])
-    → TypedSoFar p text r (k + 1)
-text_next p q r text k e l h =
-    rw (add-one k) (typed_cons q r (typed r (drop (suc k) text)) (get_or text k 0) (drop (suc k) text) h refl ∙ ap (typed q) (sym (drop-cons text k 0 l)) ∙ e)
-
-pub text_ends : (p q : Page) (text : List ℕ) (k : ℕ) → TypedSoFar p text q k → length text ≤ k → q ≡ typed p text
+-- nothing
+pub typed_none : {T : Type 0} (p : Page T) → typed p [] ≡ p
 unfolding typed
-text_ends p q text k e l = ap (typed q) (sym (drop_of_length-le text l)) ∙ e
+typed_none p = refl
+
+-- what a function needs that types one text after the other
+pub ruleset typing = (typed_on, typed_none, append_assoc, append-nil)
 
 -- ---- what is typed is what was to be written
 
@@ -56,25 +50,23 @@ unfolding stored
 stored_past out i [] l = refl
 stored_past out i (b ∷ bs) l = ap (λ o. stored o (suc i) bs) (set_out out i b l) ∙ stored_past out (suc i) bs (omega arith)
 
-pub typed_stored : (out : List ℕ) (i : ℕ) (text : List ℕ) → i ≤ length out
-    → typed (page out i) text ≡ page (stored out i text) (min (i + length text) (length out))
+typed_stored : (out : MutBor (List ℕ)) (i : ℕ) (text : List ℕ) → i ≤ length out.now
+    → typed (page out i) text ≡ page (at_last out (stored out.now i text)) (min (i + length text) (length out.now))
 unfolding typed stored
 typed_stored out i [] l = ap (page out) (omega arith)
 typed_stored out i (b ∷ bs) l = ⊎_elim
-    (λ (h : i < length out). ap (λ p. typed p bs) (sym (put_within out i b h) ∙ ap (page (set out i b)) (add-one i))
-    ∙ typed_stored (set out i b) (suc i) bs (omega (arith, length-set out i b))
-    ∙ ap (page (stored (set out i b) (suc i) bs)) (omega (arith, length-set out i b)))
-    (λ (h : length out ≤ i). ap (λ p. typed p bs) (sym (put_past out i b h))
+    (λ (h : i < length out.now). ap (λ p. typed p bs) (sym (put_within out i b h) ∙ ap (page (at_last out (set out.now i b))) (add-one i))
+    ∙ typed_stored (at_last out (set out.now i b)) (suc i) bs (omega (arith, length-set out.now i b))
+    ∙ ap (page (at_last out (stored (set out.now i b) (suc i) bs))) (omega (arith, length-set out.now i b)))
+    (λ (h : length out.now ≤ i). ap (λ p. typed p bs) (sym (put_past out i b h))
     ∙ typed_stored out i bs l
-    ∙ ap₂ page (stored_past out i bs h ∙ sym (ap (λ o. stored o (suc i) bs) (set_out out i b h) ∙ stored_past out (suc i) bs (omega arith))) (omega arith))
-    (lt_or_le i (length out))
+    ∙ ap₂ (λ o. page (at_last out o)) (stored_past out.now i bs h ∙ sym (ap (λ o. stored o (suc i) bs) (set_out out.now i b h) ∙ stored_past out.now (suc i) bs (omega arith))) (omega arith))
+    (lt_or_le i (length out.now))
 
--- from the start, as the contract has it
-pub typed_bytes : (out ys : List ℕ) (r : ℕ) (text : List ℕ) → page ys r ≡ typed (page out 0) text → ys ≡ stored out 0 text
-typed_bytes out ys r text h = ap (λ p. p.bytes) (h ∙ typed_stored out 0 text (omega arith))
-
-pub typed_length : (out ys : List ℕ) (r : ℕ) (text : List ℕ) → page ys r ≡ typed (page out 0) text → r ≡ min (length text) (length out)
-typed_length out ys r text h = ap (λ p. p.place) (h ∙ typed_stored out 0 text (omega arith)) ∙ omega arith
+-- from the start: the same lent bytes have the text, and the place is where it ends
+pub typed_new : (out : MutBor (List ℕ)) (text : List ℕ)
+    → typed (page out 0) text ≡ page (at_last out (stored out.now 0 text)) (min (length text) (length out.now))
+typed_new out text = typed_stored out 0 text (omega arith) ∙ ap (page (at_last out (stored out.now 0 text))) (omega arith)
 
 -- so many bytes stand at the front
 pub front_within : (out ys : List ℕ) (r : ℕ) (text : List ℕ) → ys ≡ stored out 0 text → r ≡ min (length text) (length out) → r ≤ length ys
@@ -82,9 +74,3 @@ front_within out ys r text h e = omega (arith, ap length h ∙ length_stored out
 
 pub front_long : (out ys : List ℕ) (r : ℕ) (text : List ℕ) → ys ≡ stored out 0 text → r ≡ min (length text) (length out) → r ≡ length (take r ys)
 front_long out ys r text h e = sym (length-take-le r ys (front_within out ys r text h e))
-
-pub typed_counts : (out ys : List ℕ) (r : ℕ) (text : List ℕ) → page ys r ≡ typed (page out 0) text → (r ≤ length ys) × (r ≡ length (take r ys))
-typed_counts out ys r text h = (
-  front_within out ys r text (typed_bytes out ys r text h) (typed_length out ys r text h),
-  front_long out ys r text (typed_bytes out ys r text h) (typed_length out ys r text h),
-)

@@ -3,5 +3,4 @@ pub mod Ascii
 pub mod Decimal
 pub mod Says
 pub mod Page
-pub mod Left
 pub mod Shown

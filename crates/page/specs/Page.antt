@@ -1,19 +1,18 @@
 -- RULES 15: a text written into lent bytes; it is cut where they end. Assumes nothing.
 use Rattle.std.specs.Prelude.{List, [], ◌∷◌, ℕ, ◌+◌, ltb, length, set, if◌then◌else◌}
+use Rattle.std.specs.Borrow.{MutBor}
+use denote.MutBor.{at_last}
+use Rattle.page.specs.declared.Page.{Page}
 
--- as the code goes along: the bytes, and the place that is next, which is at most their end
-pub record Page : Type 0 where
-  pub bytes : List ℕ
-  pub place : ℕ
+-- as the code goes along: the lent bytes, and the place that is next, which is at most their end
+abbrev pub page : {T : Type 0} → MutBor (List T) → ℕ → Page T
+page out place = record { out = out; place = place }
 
-abbrev pub page : List ℕ → ℕ → Page
-page bytes place = record { bytes = bytes; place = place }
-
--- one byte more
-unfoldable pub put : Page → ℕ → Page
-put p b = page (set p.bytes p.place b) (if ltb p.place (length p.bytes) then p.place + 1 else p.place)
+-- one byte more: the same lent bytes, with it at that place
+unfoldable pub put : {T : Type 0} → Page T → T → Page T
+put p b = page (at_last p.out (set p.out.now p.place b)) (if ltb p.place (length p.out.now) then p.place + 1 else p.place)
 
 -- a text, byte by byte
-unfoldable pub typed : Page → List ℕ → Page
+unfoldable pub typed : {T : Type 0} → Page T → List T → Page T
 typed p [] = p
 typed p (b ∷ bs) = typed (put p b) bs

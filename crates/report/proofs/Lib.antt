@@ -1,2 +1,2 @@
 -- The laws behind the proofs of this crate.
-mod Printed
+pub mod Printed

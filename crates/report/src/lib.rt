@@ -4,51 +4,41 @@
 mod lines;
 pub mod row;
 
-ghost use Rattle.std.specs.Prelude.{◌≡◌, ◌++◌, min, length};
+ghost use Rattle.std.specs.Prelude.{◌≡◌, min, length};
 ghost use Rattle.rules.specs.Numbers.Place.{stored};
-ghost use Rattle.page.specs.Page.{page, typed};
-ghost use Rattle.report.specs.Report.{header, row_lines, calls_line, delayed_line, report_of};
+ghost use Rattle.page.specs.Page.{typed};
+ghost use Rattle.report.specs.Report.{report_of};
 
+use page::Page;
 use rules::answer::Fault;
 
-// The header and the rows so far.
-fn put_front(out: &mut [u8], rows: &[u8], accepted: usize) -> usize
-    ensures { page out.new result ≡ typed (page out.old 0) (header ++ row_lines rows.now accepted) }
-{
-    let place = lines::put_header(out, 0);
-    lines::put_rows(out, place, rows, accepted)
-}
-
-// The calls and the delays.
-fn put_end(out: &mut [u8], i: usize, lazy: u32, eager: u32, delay: &[u16]) -> usize
-    ensures { page out.new result ≡ typed (page out.old i) (calls_line lazy eager ++ delayed_line delay.now) }
-{
-    let place = lines::put_calls(out, i, lazy, eager);
-    lines::put_delayed(out, place, delay)
-}
-
+#[tactic(auto, using(page::proofs::Typed::typing), unfolding(crate::specs::Report::report_of))]
 fn put_report(
-    out: &mut [u8],
+    page: &mut Page,
     verdict: Result<(), Fault>,
     accepted: usize,
     rows: &[u8],
     lazy: u32,
     eager: u32,
     delay: &[u16],
-) -> usize
-    ensures { page out.new result ≡ typed (page out.old 0)
-        (report_of verdict accepted rows.now lazy eager delay.now) }
+)
+    ensures { page.new ≡ typed page.old (report_of verdict accepted rows.now lazy eager delay.now) }
 {
-    let i = put_front(out, rows, accepted);
+    lines::put_header(page);
+    lines::put_rows(page, rows, accepted);
     match verdict {
-        Err(Fault { why, place }) => lines::put_refused(out, i, why, place),
-        Ok(()) => put_end(out, i, lazy, eager, delay),
+        Err(Fault { why, place }) => lines::put_refused(page, why, place),
+        Ok(()) => {
+            lines::put_calls(page, lazy, eager);
+            lines::put_delayed(page, delay);
+        }
     }
 }
 
 // The report of a run that came to a verdict after as many accepted events, with its row bytes, its
 // calls and the delay of each task. It is cut where `out` ends, and the answer is how many bytes of
 // it stand there.
+#[tactic(auto, using(page::proofs::Typed::typed_new))]
 pub fn report(
     out: &mut [u8],
     verdict: Result<(), Fault>,
@@ -61,5 +51,7 @@ pub fn report(
     ensures out_after { out.new ≡ stored out.old 0 (report_of verdict accepted rows.now lazy eager delay.now) }
     ensures value { result ≡ min (length (report_of verdict accepted rows.now lazy eager delay.now)) (length out.old) }
 {
-    put_report(out, verdict, accepted, rows, lazy, eager, delay)
+    let mut page = Page::new(out);
+    put_report(&mut page, verdict, accepted, rows, lazy, eager, delay);
+    page.place()
 }

@@ -1,136 +1,98 @@
 // The lines of the report.
 ghost use Rattle.std.specs.Prelude.{◌≡◌, [], ◌∷◌, map, ◌+◌, ◌^◌, ◌<◌};
 ghost use Rattle.page.specs.Decimal.{digits};
-ghost use Rattle.page.specs.Page.{page, typed};
-ghost use Rattle.report.specs.Report.{space, spaced, line, header, runner, row_words, row_line, row_lines, calls_line, delayed_line, refused_line};
+ghost use Rattle.page.specs.Page.{typed};
+ghost use Rattle.report.specs.Report.{space, spaced, line, header, runner, row_line, row_lines, calls_line, delayed_line, refused_line};
 
-use crate::row::{call, next, running, user, wide8};
-use page::{put, put_field, put_number, put_text};
+use crate::row::{call, next, running, user};
+use page::Page;
 use rules::capacity::NOBODY;
 use rules::refusal::Refusal;
 
-pub fn put_header(out: &mut [u8], i: usize) -> usize
-    ensures { page out.new result ≡ typed (page out.old i) header }
+#[tactic(auto, unfolding(crate::specs::Report::header, crate::specs::Report::line, crate::specs::Report::spaced))]
+pub fn put_header(page: &mut Page)
+    ensures { page.new ≡ typed page.old header }
 {
-    put_text(out, i, b"event running user next call\n")
-}
-
-fn wide16(x: u16) -> u64
-    ensures { result ≡ x }
-{
-    x as u64
+    page.put_text(b"event running user next call\n");
 }
 
 // The running task, or `-` for nobody, with a space before it.
-fn put_runner(out: &mut [u8], i: usize, t: u64) -> usize
-    ensures { page out.new result ≡ typed (page out.old i) (space ∷ runner t) }
+#[tactic(auto, using(page::proofs::Typed::typing, crate::proofs::Printed::runner_nobody, crate::proofs::Printed::runner_task))]
+fn put_runner(page: &mut Page, t: u64)
+    ensures { page.new ≡ typed page.old (space ∷ runner t) }
 {
-    let place = put(out, i, b' ');
+    page.put(b' ');
     if t == NOBODY as u64 {
-        return put(out, place, b'-');
+        page.put(b'-');
+    } else {
+        page.put_number(t);
     }
-    put_number(out, place, t)
-}
-
-// Two numbers, each with a space before it.
-fn put_two(out: &mut [u8], i: usize, x: u64, y: u64) -> usize
-    ensures { page out.new result ≡ typed (page out.old i) (spaced (digits x ∷ digits y ∷ [])) }
-{
-    let place = put_field(out, i, x);
-    put_field(out, place, y)
-}
-
-// The four words of a row, each with a space before it.
-fn put_four(out: &mut [u8], i: usize, task: u64, user: u64, next: u64, call: u64) -> usize
-    ensures { page out.new result ≡ typed (page out.old i) (spaced (runner task ∷ digits user ∷ digits next ∷ digits call ∷ [])) }
-{
-    let a = put_runner(out, i, task);
-    let b = put_two(out, a, user, next);
-    put_field(out, b, call)
-}
-
-// Those of the row k.
-fn put_words(out: &mut [u8], i: usize, rows: &[u8], k: usize) -> usize
-    ensures { page out.new result ≡ typed (page out.old i) (spaced (row_words rows.now k)) }
-{
-    let task = running(rows, k);
-    let user = user(rows, k);
-    let next = next(rows, k);
-    let call = call(rows, k);
-    put_four(out, i, task, user, next, call)
 }
 
 // The line of the event k: its number counts from 1.
-fn put_row(out: &mut [u8], i: usize, rows: &[u8], k: usize) -> usize
+#[tactic(auto, using(page::proofs::Typed::typing), unfolding(crate::specs::Report::row_line, crate::specs::Report::row_words, crate::specs::Report::line, crate::specs::Report::spaced))]
+fn put_row(page: &mut Page, rows: &[u8], k: usize)
     requires { k + 1 < 2 ^ 64 }
-    ensures { page out.new result ≡ typed (page out.old i) (row_line rows.now k) }
+    ensures { page.new ≡ typed page.old (row_line rows.now k) }
 {
-    let number = k + 1;
-    let a = put_number(out, i, number as u64);
-    let b = put_words(out, a, rows, k);
-    put(out, b, b'\n')
+    page.put_number(k as u64 + 1);
+    put_runner(page, running(rows, k));
+    page.put_field(user(rows, k));
+    page.put_field(next(rows, k));
+    page.put_field(call(rows, k));
+    page.put(b'\n');
 }
 
 // The lines of the first n events.
-pub fn put_rows(out: &mut [u8], i: usize, rows: &[u8], n: usize) -> usize
-    ensures { page out.new result ≡ typed (page out.old i) (row_lines rows.now n) }
+#[tactic(auto, using(page::proofs::Typed::typing, crate::proofs::Printed::rows_none, crate::proofs::Printed::rows_more))]
+pub fn put_rows(page: &mut Page, rows: &[u8], n: usize)
+    ensures { page.new ≡ typed page.old (row_lines rows.now n) }
 {
-    let mut place = i;
-    let mut k: usize = 0;
-    while k < n {
-        place = put_row(out, place, rows, k);
-        k += 1;
+    for k in 0..n {
+        put_row(page, rows, k);
     }
-    place
 }
 
 // A line of a word and two numbers.
-fn put_pair(out: &mut [u8], i: usize, word: &[u8], x: u64, y: u64) -> usize
-    ensures { page out.new result ≡ typed (page out.old i) (line word.now (digits x ∷ digits y ∷ [])) }
+#[tactic(auto, using(page::proofs::Typed::typing), unfolding(crate::specs::Report::line, crate::specs::Report::spaced))]
+fn put_pair(page: &mut Page, word: &[u8], x: u64, y: u64)
+    ensures { page.new ≡ typed page.old (line word.now (digits x ∷ digits y ∷ [])) }
 {
-    let a = put_text(out, i, word);
-    let b = put_two(out, a, x, y);
-    put(out, b, b'\n')
+    page.put_text(word);
+    page.put_field(x);
+    page.put_field(y);
+    page.put(b'\n');
 }
 
-pub fn put_calls(out: &mut [u8], i: usize, lazy: u32, eager: u32) -> usize
-    ensures { page out.new result ≡ typed (page out.old i) (calls_line lazy eager) }
+#[tactic(auto, unfolding(crate::specs::Report::calls_line))]
+pub fn put_calls(page: &mut Page, lazy: u32, eager: u32)
+    ensures { page.new ≡ typed page.old (calls_line lazy eager) }
 {
-    put_pair(out, i, b"calls", lazy as u64, eager as u64)
+    put_pair(page, b"calls", lazy as u64, eager as u64);
 }
 
-pub fn put_refused(out: &mut [u8], i: usize, why: Refusal, place: usize) -> usize
-    ensures { page out.new result ≡ typed (page out.old i) (refused_line why place) }
+#[tactic(auto, unfolding(crate::specs::Report::refused_line))]
+pub fn put_refused(page: &mut Page, why: Refusal, place: usize)
+    ensures { page.new ≡ typed page.old (refused_line why place) }
 {
-    let number = wide8(u8::from(why));
-    put_pair(out, i, b"refused", number, place as u64)
+    put_pair(page, b"refused", u8::from(why) as u64, place as u64);
 }
 
 // Numbers, each with a space before it.
-fn put_fields(out: &mut [u8], i: usize, xs: &[u16]) -> usize
-    ensures { page out.new result ≡ typed (page out.old i) (spaced (map digits xs.now)) }
+#[tactic(auto, using(page::proofs::Typed::typing, std::proofs::lemmas::Grind::common_steps, crate::proofs::Printed::spaced_none, crate::proofs::Printed::spaced_more))]
+fn put_fields(page: &mut Page, xs: &[u16])
+    ensures { page.new ≡ typed page.old (spaced (map digits xs.now)) }
 {
-    let mut place = i;
-    let mut k: usize = 0;
-    while k < xs.len() {
-        let x = wide16(xs[k]);
-        place = put_field(out, place, x);
-        k += 1;
+    for &x in xs {
+        page.put_field(x as u64);
     }
-    place
 }
 
-// A line of a word and numbers.
-fn put_list(out: &mut [u8], i: usize, word: &[u8], xs: &[u16]) -> usize
-    ensures { page out.new result ≡ typed (page out.old i) (line word.now (map digits xs.now)) }
+#[tactic(auto, using(page::proofs::Typed::typing), unfolding(crate::specs::Report::delayed_line, crate::specs::Report::line))]
+pub fn put_delayed(page: &mut Page, delay: &[u16])
+    ensures { page.new ≡ typed page.old (delayed_line delay.now) }
 {
-    let a = put_text(out, i, word);
-    let b = put_fields(out, a, xs);
-    put(out, b, b'\n')
-}
-
-pub fn put_delayed(out: &mut [u8], i: usize, delay: &[u16]) -> usize
-    ensures { page out.new result ≡ typed (page out.old i) (delayed_line delay.now) }
-{
-    put_list(out, i, b"delayed", delay)
+    page.put_text(b"delayed");
+    put_fields(page, delay);
+    page.put(b'\n');
 }

@@ -2,12 +2,6 @@
 ghost use Rattle.std.specs.Prelude.{◌≡◌, ◌+◌, ◌*◌, ◌<◌};
 ghost use Rattle.rules.specs.Numbers.Place.{at};
 
-pub fn wide8(x: u8) -> u64
-    ensures { result ≡ x }
-{
-    x as u64
-}
-
 // Byte j of the row k, and 0 past the end.
 fn byte_at(rows: &[u8], k: usize, j: usize) -> u64
     requires { j < 4 }
@@ -16,14 +10,11 @@ fn byte_at(rows: &[u8], k: usize, j: usize) -> u64
     if k > rows.len() / 4 {
         return 0;
     }
-    let i = k * 4 + j;
-    if i >= rows.len() {
-        return 0;
-    }
-    wide8(rows[i])
+    rows.get(k * 4 + j).copied().unwrap_or(0) as u64
 }
 
-// The task that runs after event k, its user word, the second word, and 1 for a call.
+// The task that runs after event k, its user word, the second word, and 1 for a call. They are four
+// functions, since other crates call them by these names and contracts.
 pub fn running(rows: &[u8], k: usize) -> u64
     ensures { result ≡ at rows.now (k * 4) }
 {

@@ -14,10 +14,10 @@ use Rattle.rules.specs.Numbers.Place.{from, tabulate}
 use Rattle.rules.specs.Books.Bytes.{long_bytes}
 use Rattle.rules.specs.Books.Event.{event_number}
 use Rattle.rules.specs.declared.event.Event.{Event}
-use Rattle.rules.specs.declared.refusal.Refusal.{Refusal}
 use Rattle.rules.proofs.Numbers.Choice.{if_true, if_false}
-use Rattle.page.specs.Page.{Page, typed}
-use Rattle.page.proofs.Typed.{typed_two, typed_cons}
+use Rattle.page.specs.declared.Page.{Page}
+use Rattle.page.specs.Page.{typed}
+use Rattle.page.proofs.Typed.{typed_two}
 use Rattle.jobs.specs.Job.{job_events, job_answer, read_with, job_of}
 use Rattle.jobs.specs.Sheet.{record_in}
 use Rattle.jobs.specs.declared.Job.{Job}
@@ -27,8 +27,6 @@ use Rattle.texts.specs.Cut.{newline, until, up_to, before}
 use Rattle.texts.specs.Line.{line_of, job_room, items_of, item_numbers}
 use Rattle.texts.specs.Lines.{longer, lines_of, read_lines, of_part, records_of, is_wrong, first_wrong, count_in, line_of_record}
 use Rattle.texts.specs.At.{between, LineAt}
-use Rattle.texts.specs.declared.kind.Kind.{Kind}
-use Rattle.texts.specs.declared.number.Mistake.{Mistake}
 use Rattle.texts.specs.declared.line.Line.{Line}
 use Rattle.texts.specs.declared.lines.First.{First}
 
@@ -118,68 +116,25 @@ count_no_job part w n line e h = sym (ap (count_in part) e ∙ if_false (eqb par
 
 pub ruleset counts = (count_known, count_own, count_other, count_job, count_no_job)
 
--- nothing is kept of a line that is blank, has a mistake or belongs to another part
-module _ (part : ℕ) (line : Line) (items : List ℕ) (p : Page) where
-  keep_none : (case : Line) → line ≡ case → of_part part case items ≡ [] → p ≡ typed p (of_part part line items)
-  unfolding typed
-  keep_none case e n = sym (ap (typed p) (ap (λ l. of_part part l items) e ∙ n))
-
-  pub keep_blank : line ≡ Line.Blank → p ≡ typed p (of_part part line items)
-  unfolding of_part
-  keep_blank e = keep_none Line.Blank e refl
-
-  pub keep_unknown : line ≡ Line.Unknown → p ≡ typed p (of_part part line items)
-  unfolding of_part
-  keep_unknown e = keep_none Line.Unknown e refl
-
-  pub keep_wrong : (kind : Kind) (word : ℕ) (m : Mistake) → line ≡ Line.Wrong kind word m → p ≡ typed p (of_part part line items)
-  unfolding of_part
-  keep_wrong kind word m e = keep_none (Line.Wrong kind word m) e refl
-
-  pub keep_refused : (why : Refusal) (place : ℕ) → line ≡ Line.Refused why place → p ≡ typed p (of_part part line items)
-  unfolding of_part
-  keep_refused why place e = keep_none (Line.Refused why place) e refl
-
-  pub keep_other : (q w : ℕ) → line ≡ Line.Record q w → (q ≡ part → ⊥) → p ≡ typed p (of_part part line items)
-  unfolding of_part
-  keep_other q w e n = keep_none (Line.Record q w) e (if_false (eqb q part) _ _ (ne_eqb q part n))
-
-  pub keep_no_job : (w n : ℕ) → line ≡ Line.Job w n → (part ≡ 3 → ⊥) → p ≡ typed p (of_part part line items)
-  unfolding of_part
-  keep_no_job w n e h = keep_none (Line.Job w n) e (if_false (eqb part 3) _ _ (ne_eqb part 3 h))
-
-  pub keep_own : (r : Page) (q w : ℕ) → r ≡ typed p (w ∷ []) → line ≡ Line.Record q w → q ≡ part → r ≡ typed p (of_part part line items)
-  unfolding of_part
-  keep_own r q w h e n = h ∙ sym (ap (typed p) (ap (λ l. of_part part l items) e ∙ if_true (eqb q part) _ _ (eq-eqb q part n)))
-
-  pub keep_job : (q r : Page) (w n : ℕ) (found : List ℕ) → q ≡ typed p (w ∷ []) → r ≡ typed q (item_numbers found) → found ≡ items → line ≡ Line.Job w n → part ≡ 3
-      → r ≡ typed p (of_part part line items)
-  unfolding of_part
-  keep_job q r w n found g h f e t =
-      typed_cons p q r w (item_numbers items) g (h ∙ ap (λ x. typed q (item_numbers x)) f)
-      ∙ sym (ap (typed p) (ap (λ l. of_part part l items) e ∙ if_true (eqb part 3) _ _ (eq-eqb part 3 t)))
-
-pub ruleset keeps = (keep_blank, keep_unknown, keep_wrong, keep_refused, keep_other, keep_no_job, keep_own, keep_job)
-
 -- ---- the records of a job, one by one out of event space
 
-pub records_start : (f : ℕ → ℕ) (p : Page) (n : ℕ) → typed p (from f 0 (n - 0)) ≡ typed p (tabulate n f)
+pub records_start : (f : ℕ → ℕ) (p : Page ℕ) (n : ℕ) → typed p (from f 0 (n - 0)) ≡ typed p (tabulate n f)
 records_start f p n = let k : n - 0 ≡ n = omega arith in ap (λ m. typed p (from f 0 m)) k
 
-pub records_next : (f : ℕ → ℕ) (p q r : Page) (n i w : ℕ) → typed q (from f i (n - i)) ≡ typed p (tabulate n f) → i < n → w ≡ f i → r ≡ typed q (w ∷ [])
+pub records_next : (f : ℕ → ℕ) (p q r : Page ℕ) (n i w : ℕ) → typed q (from f i (n - i)) ≡ typed p (tabulate n f) → i < n → w ≡ f i → r ≡ typed q (w ∷ [])
     → typed r (from f (i + 1) (n - (i + 1))) ≡ typed p (tabulate n f)
 unfolding from
 records_next f p q r n i w e l g h =
     let k : n - i ≡ suc (n - (i + 1)) = omega arith in
-    rw (add-one i) (typed_cons q r (typed r (from f (suc i) (n - suc i))) (f i) (from f (suc i) (n - suc i)) (h ∙ ap (λ x. typed q (x ∷ [])) g) refl
+    rw (add-one i) (typed_two q r (typed r (from f (suc i) (n - suc i))) (f i ∷ []) (from f (suc i) (n - suc i)) (h ∙ ap (λ x. typed q (x ∷ [])) g) refl
     ∙ sym (ap (λ m. typed q (from f i m)) (k ∙ ap (λ m. suc (n - m)) (add-one i)))) ∙ e
 
-pub records_end : (f : ℕ → ℕ) (p q : Page) (n i : ℕ) → typed q (from f i (n - i)) ≡ typed p (tabulate n f) → n ≤ i → q ≡ typed p (tabulate n f)
+pub records_end : (f : ℕ → ℕ) (p q : Page ℕ) (n i : ℕ) → typed q (from f i (n - i)) ≡ typed p (tabulate n f) → n ≤ i → q ≡ typed p (tabulate n f)
 unfolding from typed
 records_end f p q n i e l = let k : n - i ≡ 0 = omega arith in sym (ap (λ m. typed q (from f i m)) k) ∙ e
 
 -- what is read into event space is the events' numbers
-pub items_put : (items after : List ℕ) (job : Job) (p r : Page) → read_with job after ≡ job_of items (replicate job_room 0)
+pub items_put : (items after : List ℕ) (job : Job) (p r : Page ℕ) → read_with job after ≡ job_of items (replicate job_room 0)
     → r ≡ typed p (tabulate job.events (record_in after)) → r ≡ typed p (item_numbers items)
 unfolding job_of job_answer item_numbers
 items_put items after job p r h k = go (replicate job_room 0) h (length-replicate {A = ℕ} job_room 0)
@@ -196,7 +151,7 @@ items_put items after job p r h k = go (replicate job_room 0) h (length-replicat
 
 module _ (text : List ℕ) (i end next : ℕ) (line : Line) (A : LineAt text i line end next) where
   -- the records of a part
-  pub collect_next : (part : ℕ) (p q r : Page) → typed q (records_of part (lines_of (drop i text))) ≡ typed p (records_of part (lines_of text))
+  pub collect_next : (part : ℕ) (p q r : Page ℕ) → typed q (records_of part (lines_of (drop i text))) ≡ typed p (records_of part (lines_of text))
       → r ≡ typed q (of_part part line (items_of (between text i end)))
       → typed r (records_of part (lines_of (drop next text))) ≡ typed p (records_of part (lines_of text))
   unfolding records_of
@@ -239,7 +194,7 @@ module _ (text : List ℕ) (i : ℕ) (l : length text ≤ i) where
   unfolding lines_of
   none_left = ap lines_of (drop_of_length-le text l)
 
-  pub collect_ends : (part : ℕ) (p q : Page) → typed q (records_of part (lines_of (drop i text))) ≡ typed p (records_of part (lines_of text))
+  pub collect_ends : (part : ℕ) (p q : Page ℕ) → typed q (records_of part (lines_of (drop i text))) ≡ typed p (records_of part (lines_of text))
       → q ≡ typed p (records_of part (lines_of text))
   unfolding records_of typed
   collect_ends part p q e = sym (ap (λ ls. typed q (records_of part ls)) none_left) ∙ e

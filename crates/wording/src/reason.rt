@@ -1,11 +1,10 @@
 // RULES 19.9: what a call of the kernel and the refusal of an event were about.
-ghost use Rattle.std.specs.Prelude.{◌≡◌, [], ◌∷◌};
-ghost use Rattle.page.specs.Page.{page, typed};
-ghost use Rattle.page.specs.Says.{filled};
-ghost use Rattle.wording.specs.Reasons.{call_line, stop_line, newest_reason, past_reason, reason_of};
+ghost use Rattle.std.specs.Prelude.{◌≡◌};
+ghost use Rattle.page.specs.Page.{typed};
+ghost use Rattle.wording.specs.Reasons.{call_line, stop_line, reason_of};
 
-use crate::mistake::{number_of, put_meaning_line};
-use page::{put_says, put_text};
+use crate::mistake::{number_of, put_refusal_line};
+use page::Page;
 use rules::refusal::Refusal;
 
 // What the state that refused an event has to say: who runs, the task or lock that the event names and its units, how many
@@ -28,151 +27,83 @@ pub struct Facts {
 
 // A call: the event's number, the task that ran before it, the lock that it names, the task that runs after it and its
 // user word.
-pub fn put_call(
-    out: &mut [u8],
-    i: usize,
-    n: u64,
-    before: u64,
-    lock: u64,
-    after: u64,
-    user: u64,
-) -> usize
-    ensures { page out.new result ≡ typed (page out.old i) (call_line n before lock after user) }
+pub fn put_call(page: &mut Page, n: u64, before: u64, lock: u64, after: u64, user: u64)
+    ensures { page.new ≡ typed page.old (call_line n before lock after user) }
 {
     if after == before {
-        let numbers = [n, before, lock, before];
-        return put_says(
-            out,
-            i,
+        page.put_says(
             b"event @: task @ gave lock @ back and called the kernel; nobody had waited for task @\n",
-            &numbers,
+            &[n, before, lock, before],
+        );
+    } else {
+        page.put_says(
+            b"event @: task @ gave lock @ back and called the kernel; task @ had waited for task @ and runs at @\n",
+            &[n, before, lock, after, before, user],
         );
     }
-    let numbers = [n, before, lock, after, before, user];
-    put_says(
-        out,
-        i,
-        b"event @: task @ gave lock @ back and called the kernel; task @ had waited for task @ and runs at @\n",
-        &numbers,
-    )
 }
 
 // The refusal of event n.
-pub fn put_stop(out: &mut [u8], i: usize, n: u64, why: Refusal) -> usize
-    ensures { page out.new result ≡ typed (page out.old i) (stop_line n why) }
+#[tactic(auto, unfolding(crate::specs::Reasons::stop_line, page::specs::Ascii::ascii))]
+pub fn put_stop(page: &mut Page, n: u64, why: Refusal)
+    ensures { page.new ≡ typed page.old (stop_line n why) }
 {
-    let numbers = [n, number_of(why)];
-    let after = put_says(out, i, b"event @: refused @: ", &numbers);
-    put_meaning_line(out, after, why)
-}
-
-fn put_one(out: &mut [u8], i: usize, text: &[u8], a: u64) -> usize
-    ensures { page out.new result ≡ typed (page out.old i) (filled text.now (a ∷ [])) }
-{
-    let numbers = [a];
-    put_says(out, i, text, &numbers)
-}
-
-fn put_two(out: &mut [u8], i: usize, text: &[u8], a: u64, b: u64) -> usize
-    ensures { page out.new result ≡ typed (page out.old i) (filled text.now (a ∷ b ∷ [])) }
-{
-    let numbers = [a, b];
-    put_says(out, i, text, &numbers)
-}
-
-fn put_newest(out: &mut [u8], i: usize, running: u64, depth: u64, newest: u64, named: u64) -> usize
-    ensures { page out.new result ≡ typed (page out.old i) (newest_reason running depth newest named) }
-{
-    if depth == 0 {
-        return put_two(
-            out,
-            i,
-            b"task @ has no lock open, and lock @ was to be given back\n",
-            running,
-            named,
-        );
-    }
-    let numbers = [running, newest, named];
-    put_says(
-        out,
-        i,
-        b"the newest take of task @ is of lock @, and lock @ was to be given back\n",
-        &numbers,
-    )
-}
-
-fn put_past(
-    out: &mut [u8],
-    i: usize,
-    running: u64,
-    units: u64,
-    limit: u64,
-    past: u64,
-    amount: u64,
-) -> usize
-    ensures { page out.new result ≡ typed (page out.old i) (past_reason running units limit past amount) }
-{
-    let numbers = [running, units, limit, past, amount];
-    put_says(
-        out,
-        i,
-        b"task @ worked @ units of the @ that lock @ allows, and @ more would pass them\n",
-        &numbers,
-    )
+    put_refusal_line(page, b"event @: refused @: ", &[n, number_of(why)], why);
 }
 
 // What the refusal of an event was about.
-pub fn put_reason(out: &mut [u8], i: usize, why: Refusal, f: Facts) -> usize
-    ensures { page out.new result ≡ typed (page out.old i) (reason_of why f) }
+#[tactic(auto, using(page::proofs::Typed::typed_none), unfolding(crate::specs::Reasons::reason_of, crate::specs::Reasons::past_reason, page::specs::Ascii::ascii))]
+pub fn put_reason(page: &mut Page, why: Refusal, f: Facts)
+    ensures { page.new ≡ typed page.old (reason_of why f) }
 {
     match why {
-        Refusal::NobodyRuns => put_text(out, i, b"every task that was released has finished\n"),
-        Refusal::Unknown => put_two(
-            out,
-            i,
+        Refusal::NobodyRuns => page.put_text(b"every task that was released has finished\n"),
+        Refusal::Unknown => page.put_says(
             b"the plan has @ tasks and @ locks, counted from 0\n",
-            f.tasks,
-            f.locks,
+            &[f.tasks, f.locks],
         ),
-        Refusal::AlreadyReleased => put_one(
-            out,
-            i,
+        Refusal::AlreadyReleased => page.put_says(
             b"task @ has not finished since its release\n",
-            f.named,
+            &[f.named],
         ),
-        Refusal::NotDeclared => put_two(
-            out,
-            i,
+        Refusal::NotDeclared => page.put_says(
             b"the plan gives task @ no use of lock @\n",
-            f.running,
-            f.named,
+            &[f.running, f.named],
         ),
-        Refusal::OpenElsewhere => put_two(
-            out,
-            i,
+        Refusal::OpenElsewhere => page.put_says(
             b"task @ took lock @ and has not given it back\n",
-            f.holder,
-            f.named,
+            &[f.holder, f.named],
         ),
-        Refusal::RowFull => put_one(out, i, b"task @ may have no more\n", f.running),
-        Refusal::NotNewest => put_newest(out, i, f.running, f.depth, f.newest, f.named),
-        Refusal::PastLimit => put_past(out, i, f.running, f.units, f.limit, f.past, f.amount),
-        Refusal::StillOpen => put_two(out, i, b"task @ has lock @ open\n", f.running, f.newest),
-        Refusal::ShortBook => i,
-        Refusal::WrongCount => i,
-        Refusal::WrongLayout => i,
-        Refusal::WrongTask => i,
-        Refusal::WrongLock => i,
-        Refusal::WrongUse => i,
-        Refusal::WrongCeiling => i,
-        Refusal::WrongEvent => i,
-        Refusal::ShortRows => i,
-        Refusal::Unsound => i,
-        Refusal::Exhausted => i,
-        Refusal::NoWork => i,
-        Refusal::ShortBuffer => i,
-        Refusal::AboveMaximum => i,
-        Refusal::WrongJob => i,
-        Refusal::ShortSpace => i,
+        Refusal::RowFull => page.put_says(b"task @ may have no more\n", &[f.running]),
+        Refusal::NotNewest if f.depth == 0 => page.put_says(
+            b"task @ has no lock open, and lock @ was to be given back\n",
+            &[f.running, f.named],
+        ),
+        Refusal::NotNewest => page.put_says(
+            b"the newest take of task @ is of lock @, and lock @ was to be given back\n",
+            &[f.running, f.newest, f.named],
+        ),
+        Refusal::PastLimit => page.put_says(
+            b"task @ worked @ units of the @ that lock @ allows, and @ more would pass them\n",
+            &[f.running, f.units, f.limit, f.past, f.amount],
+        ),
+        Refusal::StillOpen => page.put_says(b"task @ has lock @ open\n", &[f.running, f.newest]),
+        // No event of a book is refused by these.
+        Refusal::ShortBook
+        | Refusal::WrongCount
+        | Refusal::WrongLayout
+        | Refusal::WrongTask
+        | Refusal::WrongLock
+        | Refusal::WrongUse
+        | Refusal::WrongCeiling
+        | Refusal::WrongEvent
+        | Refusal::ShortRows
+        | Refusal::Unsound
+        | Refusal::Exhausted
+        | Refusal::NoWork
+        | Refusal::ShortBuffer
+        | Refusal::AboveMaximum
+        | Refusal::WrongJob
+        | Refusal::ShortSpace => {}
     }
 }

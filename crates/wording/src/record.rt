@@ -1,12 +1,11 @@
 // RULES 19.7, 19.8: the line of each record of a book, as a number, and of an entry of its contents.
-ghost use Rattle.std.specs.Prelude.{◌≡◌, [], ◌∷◌, ◌%◌, ◌/◌};
-ghost use Rattle.page.specs.Page.{page, typed};
-ghost use Rattle.page.specs.Says.{filled};
+ghost use Rattle.std.specs.Prelude.{◌≡◌, ◌%◌, ◌/◌};
+ghost use Rattle.page.specs.Page.{typed};
 ghost use Rattle.wording.specs.Records.{task_line, lock_line, use_line, event_words, no_event_line, ran_comment, refused_comment, unreached};
 ghost use Rattle.wording.specs.Records.{size_line, entry_line};
 
-use crate::mistake::{number_of, put_meaning_line};
-use page::{put_says, put_text};
+use crate::mistake::{number_of, put_refusal_line};
+use page::Page;
 use rules::capacity::NOBODY;
 use rules::event::Event;
 use rules::refusal::Refusal;
@@ -15,134 +14,114 @@ use rules::refusal::Refusal;
 fn low(w: u32) -> u64
     ensures { result ≡ w % 256 }
 {
-    (w % 256) as u64
+    u64::from(w % 256)
 }
 
 fn second(w: u32) -> u64
     ensures { result ≡ w / 256 % 256 }
 {
-    (w / 256 % 256) as u64
+    u64::from(w / 256 % 256)
 }
 
 fn high(w: u32) -> u64
-    ensures { result ≡ w / 65536 }
-{
-    (w / 65536) as u64
-}
-
-// A lock's limit.
-fn limit(w: u32) -> u64
     ensures { result ≡ w / 65536 % 65536 }
 {
-    (w / 65536 % 65536) as u64
+    u64::from(w / 65536)
 }
 
 // Two numbers of one byte, with the record's number.
-pub fn put_task(out: &mut [u8], i: usize, k: usize, w: u32) -> usize
-    ensures { page out.new result ≡ typed (page out.old i) (task_line k w) }
+#[tactic(auto, unfolding(crate::specs::Records::task_line, page::specs::Ascii::ascii))]
+pub fn put_task(page: &mut Page, k: usize, w: u32)
+    ensures { page.new ≡ typed page.old (task_line k w) }
 {
-    let numbers = [low(w), second(w), k as u64];
-    put_says(out, i, b"task @ @ # @\n", &numbers)
+    page.put_says(b"task @ @ # @\n", &[low(w), second(w), k as u64]);
 }
 
-pub fn put_use(out: &mut [u8], i: usize, k: usize, w: u32) -> usize
-    ensures { page out.new result ≡ typed (page out.old i) (use_line k w) }
+#[tactic(auto, unfolding(crate::specs::Records::use_line, page::specs::Ascii::ascii))]
+pub fn put_use(page: &mut Page, k: usize, w: u32)
+    ensures { page.new ≡ typed page.old (use_line k w) }
 {
-    let numbers = [low(w), second(w), k as u64];
-    put_says(out, i, b"use @ @ # @\n", &numbers)
+    page.put_says(b"use @ @ # @\n", &[low(w), second(w), k as u64]);
 }
 
 // A lock with something in its second byte has no words.
-pub fn put_lock(out: &mut [u8], i: usize, k: usize, w: u32) -> usize
-    ensures { page out.new result ≡ typed (page out.old i) (lock_line k w) }
+#[tactic(auto, using(page::proofs::Choice::choosing), unfolding(crate::specs::Records::lock_line, page::specs::Ascii::ascii))]
+pub fn put_lock(page: &mut Page, k: usize, w: u32)
+    ensures { page.new ≡ typed page.old (lock_line k w) }
 {
     let other = second(w);
     if other == 0 {
-        let numbers = [low(w), limit(w), k as u64];
-        return put_says(out, i, b"lock @ @ # @\n", &numbers);
+        page.put_says(b"lock @ @ # @\n", &[low(w), high(w), k as u64]);
+    } else {
+        page.put_says(
+            b"# lock @ @ with @ in its second byte\n",
+            &[low(w), high(w), other],
+        );
     }
-    let numbers = [low(w), limit(w), other];
-    put_says(out, i, b"# lock @ @ with @ in its second byte\n", &numbers)
 }
 
-// The words of an event that has a number.
-fn put_numbered(out: &mut [u8], i: usize, name: &[u8], n: u64) -> usize
-    ensures { page out.new result ≡ typed (page out.old i) (filled name.now (n ∷ [])) }
-{
-    let numbers = [n];
-    put_says(out, i, name, &numbers)
-}
-
-pub fn put_event(out: &mut [u8], i: usize, event: Event) -> usize
-    ensures { page out.new result ≡ typed (page out.old i) (event_words event) }
+#[tactic(auto, unfolding(crate::specs::Records::event_words, page::specs::Ascii::ascii))]
+pub fn put_event(page: &mut Page, event: Event)
+    ensures { page.new ≡ typed page.old (event_words event) }
 {
     match event {
-        Event::Release(t) => put_numbered(out, i, b"release @", t as u64),
-        Event::Acquire(l) => put_numbered(out, i, b"acquire @", l as u64),
-        Event::Unlock(l) => put_numbered(out, i, b"unlock @", l as u64),
-        Event::Work(a) => put_numbered(out, i, b"work @", a as u64),
-        Event::Finish => put_text(out, i, b"finish"),
-        Event::Tick => put_text(out, i, b"tick"),
+        Event::Release(t) => page.put_says(b"release @", &[t as u64]),
+        Event::Acquire(l) => page.put_says(b"acquire @", &[l as u64]),
+        Event::Unlock(l) => page.put_says(b"unlock @", &[l as u64]),
+        Event::Work(a) => page.put_says(b"work @", &[a as u64]),
+        Event::Finish => page.put_text(b"finish"),
+        Event::Tick => page.put_text(b"tick"),
     }
 }
 
 // A record that 8 refuses has no words.
-pub fn put_no_event(out: &mut [u8], i: usize, w: u32) -> usize
-    ensures { page out.new result ≡ typed (page out.old i) (no_event_line w) }
+#[tactic(auto, unfolding(crate::specs::Records::no_event_line, page::specs::Ascii::ascii))]
+pub fn put_no_event(page: &mut Page, w: u32)
+    ensures { page.new ≡ typed page.old (no_event_line w) }
 {
-    let numbers = [low(w), second(w), high(w)];
-    put_says(out, i, b"# kind @, id @, amount @\n", &numbers)
+    page.put_says(b"# kind @, id @, amount @\n", &[low(w), second(w), high(w)]);
 }
 
-// The comment of event n that ran, was refused or was not reached.
-pub fn put_ran(out: &mut [u8], i: usize, n: u64, task: u64, user: u64) -> usize
-    ensures { page out.new result ≡ typed (page out.old i) (ran_comment n task user) }
+// The comment of event n that ran, was refused or was not reached. The task is as a row has it, so NOBODY stands for nobody.
+pub fn put_ran(page: &mut Page, n: u64, task: u64, user: u64)
+    ensures { page.new ≡ typed page.old (ran_comment n task user) }
 {
     let numbers = [n, task, user];
     if task == NOBODY as u64 {
-        return put_says(out, i, b" # event @: nobody runs\n", &numbers);
+        page.put_says(b" # event @: nobody runs\n", &numbers);
+    } else {
+        page.put_says(b" # event @: task @ runs at @\n", &numbers);
     }
-    put_says(out, i, b" # event @: task @ runs at @\n", &numbers)
 }
 
-pub fn put_refused(out: &mut [u8], i: usize, n: u64, why: Refusal) -> usize
-    ensures { page out.new result ≡ typed (page out.old i) (refused_comment n why) }
+#[tactic(auto, unfolding(crate::specs::Records::refused_comment, page::specs::Ascii::ascii))]
+pub fn put_refused(page: &mut Page, n: u64, why: Refusal)
+    ensures { page.new ≡ typed page.old (refused_comment n why) }
 {
-    let numbers = [n, number_of(why)];
-    let after = put_says(out, i, b" # event @: refused @: ", &numbers);
-    put_meaning_line(out, after, why)
+    put_refusal_line(page, b" # event @: refused @: ", &[n, number_of(why)], why);
 }
 
-pub fn put_unreached(out: &mut [u8], i: usize, n: u64) -> usize
-    ensures { page out.new result ≡ typed (page out.old i) (unreached n) }
+#[tactic(auto, unfolding(crate::specs::Records::unreached, page::specs::Ascii::ascii))]
+pub fn put_unreached(page: &mut Page, n: u64)
+    ensures { page.new ≡ typed page.old (unreached n) }
 {
-    let numbers = [n];
-    put_says(out, i, b" # event @: not reached\n", &numbers)
+    page.put_says(b" # event @: not reached\n", &[n]);
 }
 
 // The size of a book, and an entry of its contents.
-pub fn put_size(out: &mut [u8], i: usize, size: usize) -> usize
-    ensures { page out.new result ≡ typed (page out.old i) (size_line size) }
+#[tactic(auto, unfolding(crate::specs::Records::size_line, page::specs::Ascii::ascii))]
+pub fn put_size(page: &mut Page, size: usize)
+    ensures { page.new ≡ typed page.old (size_line size) }
 {
-    let numbers = [size as u64];
-    put_says(out, i, b"# the book has @ bytes\n", &numbers)
+    page.put_says(b"# the book has @ bytes\n", &[size as u64]);
 }
 
-pub fn put_entry(
-    out: &mut [u8],
-    i: usize,
-    e: usize,
-    kind: usize,
-    count: usize,
-    offset: usize,
-) -> usize
-    ensures { page out.new result ≡ typed (page out.old i) (entry_line e kind count offset) }
+#[tactic(auto, unfolding(crate::specs::Records::entry_line, page::specs::Ascii::ascii))]
+pub fn put_entry(page: &mut Page, e: usize, kind: usize, count: usize, offset: usize)
+    ensures { page.new ≡ typed page.old (entry_line e kind count offset) }
 {
-    let numbers = [e as u64, kind as u64, count as u64, offset as u64];
-    put_says(
-        out,
-        i,
+    page.put_says(
         b"# entry @: kind @, @ records, offset @\n",
-        &numbers,
-    )
+        &[e as u64, kind as u64, count as u64, offset as u64],
+    );
 }

@@ -1,14 +1,11 @@
--- `wording::record::put_lock` meets its contract. By its second byte. Assumes nothing.
+-- `wording::record::put_lock` meets its contract. Its second byte is not 0.
+use Rattle.std.proofs.Common.{arith, ◌≡◌}
+use Rattle.rules.specs.Books.Load.{lock_second}
 use Rattle.page.specs.Ascii.{ascii}
-use Rattle.wording.proofs.Ways.{lock_words, lock_none}
-use Rattle.std.proofs.Common.{rules}
+use Rattle.page.proofs.Choice.{when_other}
 use Rattle.wording.specs.Records.{lock_line}
 use Rattle.wording.proofs.record.put_lock.Goals as goal
 
-pub returns-then-other-eq0 : goal.returns-then-other-eq0
+pub returns-else-other-eq0 : goal.returns-else-other-eq0
 unfolding ascii lock_line
-returns-then-other-eq0 c = search (lock_words, lock_none, rules)
-
-pub returns : goal.returns
-unfolding ascii lock_line
-returns c = search (lock_words, lock_none, rules)
+returns-else-other-eq0 c = let n : lock_second c.args.w ≡ 0 → ⊥ = omega arith in rw (when_other _ _ _ _ n) (cc)

@@ -1,9 +1,0 @@
--- `wording::meaning::put_counts` meets its contract. The words with their numbers. Assumes nothing.
-use Rattle.page.specs.Ascii.{ascii}
-use Rattle.std.proofs.Common.{rules}
-use Rattle.wording.specs.Meaning.{meaning_of}
-use Rattle.wording.proofs.meaning.put_counts.Goals as goal
-
-pub returns : goal.returns
-unfolding ascii meaning_of
-returns c = search rules

@@ -23,8 +23,6 @@ use Rattle.rules.proofs.Numbers.Choice.{lt_or_le, or_false}
 use Rattle.rules.proofs.Numbers.Checks.{Clean, check_left, clean_for, same_faults}
 use Rattle.rules.proofs.Numbers.Place.{renewed_front, get_d_tabulate, length_from}
 use Rattle.rules.proofs.Numbers.Stored.{stored_front}
-use Rattle.page.specs.Page.{page, typed}
-use Rattle.page.proofs.Typed.{typed_bytes, typed_length}
 use Rattle.office.specs.Small.{Small}
 
 -- ---- what a page keeps of a list
@@ -48,12 +46,12 @@ stored_cut xs i (v ∷ vs) l = ⊎_elim
     past xs i (v ∷ vs) h = ap (λ o. stored o (suc i) vs) (set_out xs i v h) ∙ past xs (suc i) vs (omega arith)
 
 -- the front of a list that was put on a page of this length
-pub kept_front : (out ys : List ℕ) (r : ℕ) (recs : List ℕ) → page ys r ≡ typed (page out 0) recs → take r ys ≡ take (length out) recs
-kept_front out ys r recs h =
+pub kept_front : (out ys : List ℕ) (r : ℕ) (recs : List ℕ) → ys ≡ stored out 0 recs → r ≡ min (length recs) (length out) → take r ys ≡ take (length out) recs
+kept_front out ys r recs h e =
     let long : length (take (length out) recs) ≤ length out = omega (arith, length-take (length out) recs) in
-    let n : r ≡ length (take (length out) recs) = omega (arith, typed_length out ys r recs h, length-take (length out) recs) in
+    let n : r ≡ length (take (length out) recs) = omega (arith, e, length-take (length out) recs) in
     let whole : length out - 0 ≡ length out = omega arith in
-    ap (take r) (typed_bytes out ys r recs h ∙ stored_cut out 0 recs (omega arith) ∙ ap (λ k. stored out 0 (take k recs)) whole
+    ap (take r) (h ∙ stored_cut out 0 recs (omega arith) ∙ ap (λ k. stored out 0 (take k recs)) whole
     ∙ stored_front out (take (length out) recs) long)
     ∙ ap (λ k. take k (take (length out) recs ++ drop (length (take (length out) recs)) out)) n ∙ take-append_seam (take (length out) recs) _
 

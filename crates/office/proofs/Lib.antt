@@ -1,4 +1,5 @@
 -- The laws behind the proofs of this crate.
+mod Numbers
 mod Cuts
 mod Composing
 mod Showing

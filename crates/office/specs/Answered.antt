@@ -1,17 +1,29 @@
 -- What composing leaves in the two buffers that it is lent: the book's length, the buffer with the book, and the page with the line that says why there
 -- is none. Assumes nothing.
-use Rattle.std.specs.Prelude.{List, ℕ}
-use Rattle.page.specs.Page.{Page, typed}
+use Rattle.std.specs.Prelude.{List, ℕ, min, length, ◌+◌}
+use Rattle.rules.specs.Numbers.Place.{stored}
 use Rattle.office.specs.Compose.{Composed}
+
+-- bytes, and how many of them are the line
+pub record Said : Type 0 where
+  pub bytes : List ℕ
+  pub place : ℕ
+
+abbrev pub page : List ℕ → ℕ → Said
+page bytes place = record { bytes = bytes; place = place }
+
+-- a text at that place, cut where the bytes end
+abbrev pub said_on : Said → List ℕ → Said
+said_on p text = page (stored p.bytes p.place text) (min (p.place + length text) (length p.bytes))
 
 pub record Answered : Type 0 where
   pub length : ℕ
   pub bytes : List ℕ
-  pub said : Page
+  pub said : Said
 
-abbrev pub answered : ℕ → List ℕ → Page → Answered
+abbrev pub answered : ℕ → List ℕ → Said → Answered
 answered length bytes said = record { length = length; bytes = bytes; said = said }
 
 -- the line is typed at the start of its page
-abbrev pub answer_of : Composed → Page → Answered
-answer_of c p = answered c.length c.bytes (typed p c.said)
+abbrev pub answer_of : Composed → Said → Answered
+answer_of c p = answered c.length c.bytes (said_on p c.said)

@@ -1,17 +1,18 @@
 // RULES 19.5: the book of a text, or the line that says why there is none.
-ghost use Rattle.std.specs.Prelude.{◌≡◌, ◌+◌, ◌%◌, ◌≤◌, length, take};
+ghost use Rattle.std.specs.Prelude.{◌≡◌, ◌+◌, ◌≤◌, min, length, take};
 ghost use Rattle.rules.specs.Numbers.Capacity.{max_tasks, max_uses};
-ghost use Rattle.rules.specs.Numbers.Place.{at, renewed};
+ghost use Rattle.rules.specs.Numbers.Place.{stored};
+ghost use Rattle.rules.specs.Numbers.Refusal.{number_of};
 ghost use Rattle.rules.specs.Books.Write.{write_of, wrote_with};
-ghost use Rattle.page.specs.Page.{page, typed};
-ghost use Rattle.texts.specs.Lines.{lines_of, read_lines};
+ghost use Rattle.page.specs.Page.{typed};
+ghost use Rattle.texts.specs.Lines.{lines_of, read_lines, records_of};
 ghost use Rattle.office.specs.Compose.{too_long, entry_part, refused_part, refused_record, refused_at, refused_by, written, composed_records, compose_of};
-ghost use Rattle.office.specs.Answered.{answered, answer_of};
+ghost use Rattle.office.specs.Answered.{page, answered, answer_of};
 ghost use Rattle.office.specs.Small.{Small};
 
 use crate::space::TEXT_SPACE;
 use book::writer::write;
-use page::put_says;
+use page::Page;
 use plan::count::most_of;
 use rules::answer::{Fault, Written};
 use rules::capacity::{MAX_EVENTS, MAX_LOCKS, MAX_TASKS, MAX_USES};
@@ -35,34 +36,16 @@ pub struct Made {
     pub said: usize,
 }
 
-// Numbers of two bytes, from numbers that fit them.
-fn narrow(from: &[u32], to: &mut [u16])
-    requires { length from.now ≤ length to.old }
-    ensures { to.new ≡ renewed to.old (λ i. at from.now i % 65536) (length from.now) }
+// Numbers of two bytes, from numbers that fit them: they stand at the front of `to`.
+fn narrow<'a>(from: &[u32], to: &'a mut [u16]) -> &'a [u16]
+    requires small { Small from.now }
+    requires fits { length from.now ≤ length to.old }
+    ensures { result.now ≡ from.now }
 {
-    let n = from.len();
-    let mut i: usize = 0;
-    while i < n {
+    for i in 0..from.len() {
         to[i] = (from[i] % 65536) as u16;
-        i += 1;
     }
-}
-
-// The book of the first n tasks and u uses.
-fn write_front(
-    tasks: &[u16],
-    n: usize,
-    locks: &[u32],
-    uses: &[u16],
-    u: usize,
-    events: &[u32],
-    out: &mut [u8],
-) -> Written
-    requires { (n ≤ length tasks.now) × (u ≤ length uses.now) }
-    ensures { wrote_with result out.new ≡ write_of (take n tasks.now) locks.now (take u uses.now)
-        events.now out.old }
-{
-    write(&tasks[..n], locks, &uses[..u], events, out)
+    &to[..from.len()]
 }
 
 // The book of so many records, all as numbers of four bytes.
@@ -80,34 +63,34 @@ fn write_records(
         out.old }
 {
     let mut narrow_tasks = [0u16; TASK_ROOM];
-    narrow(tasks, &mut narrow_tasks);
     let mut narrow_uses = [0u16; USE_ROOM];
-    narrow(uses, &mut narrow_uses);
-    let n = tasks.len();
-    let u = uses.len();
-    write_front(&narrow_tasks, n, locks, &narrow_uses, u, events, out)
+    write(
+        narrow(tasks, &mut narrow_tasks),
+        locks,
+        narrow(uses, &mut narrow_uses),
+        events,
+        out,
+    )
 }
 
-// The book of the first n tasks, m locks, u uses and k events.
-fn write_kept(
-    tasks: &[u32],
-    n: usize,
-    locks: &[u32],
-    m: usize,
-    uses: &[u32],
-    u: usize,
-    events: &[u32],
-    k: usize,
-    out: &mut [u8],
-) -> Written
-    requires n_in_bounds { (n ≤ length tasks.now) × (m ≤ length locks.now) × (u ≤ length uses.now) × (k ≤ length events.now) }
-    requires small { Small (take n tasks.now) }
-    requires small_2 { Small (take u uses.now) }
-    requires n_bound { (n ≤ max_tasks + 1) × (u ≤ max_uses + 1) }
-    ensures { wrote_with result out.new ≡ write_of (take n tasks.now) (take m locks.now) (take u uses.now)
-        (take k events.now) out.old }
+// The records of a part at the front of `out`, as many as it has room for, and how many these are.
+#[tactic(auto, using(page::proofs::Typed::typed_new))]
+fn put_records(text: &[u8], part: u8, out: &mut [u32]) -> usize
+    ensures out_after { out.new ≡ stored out.old 0 (records_of part (lines_of text.now)) }
+    ensures value { result ≡ min (length (records_of part (lines_of text.now))) (length out.old) }
 {
-    write_records(&tasks[..n], &locks[..m], &uses[..u], &events[..k], out)
+    let mut page = Page::new(out);
+    collect(text, part, &mut page);
+    page.place()
+}
+
+// That front.
+#[tactic(auto, using(page::proofs::Typed::front_within, crate::proofs::Cuts::kept_front))]
+fn kept<'a>(text: &[u8], part: u8, out: &'a mut [u32]) -> &'a [u32]
+    ensures { result.now ≡ take (length out.old) (records_of part (lines_of text.now)) }
+{
+    let n = put_records(text, part, out);
+    &out[..n]
 }
 
 // The book of a text's records.
@@ -115,128 +98,131 @@ fn write_text(text: &[u8], out: &mut [u8]) -> Written
     ensures { wrote_with result out.new ≡ written (lines_of text.now) out.old }
 {
     let mut tasks = [0u32; TASK_ROOM];
-    let n = collect(text, 0, &mut tasks);
     let mut locks = [0u32; LOCK_ROOM];
-    let m = collect(text, 1, &mut locks);
     let mut uses = [0u32; USE_ROOM];
-    let u = collect(text, 2, &mut uses);
     let mut events = [0u32; EVENT_ROOM];
-    let k = collect(text, 3, &mut events);
-    write_kept(&tasks, n, &locks, m, &uses, u, &events, k, out)
+    write_records(
+        kept(text, 0, &mut tasks),
+        kept(text, 1, &mut locks),
+        kept(text, 2, &mut uses),
+        kept(text, 3, &mut events),
+        out,
+    )
 }
 
 // The part that an entry of the contents belongs to.
+#[tactic(auto, using(page::proofs::Choice::choosing), unfolding(crate::specs::Compose::entry_part))]
 fn entry_part(e: usize) -> u8
     ensures { result ≡ entry_part e }
 {
-    if e == 1 {
-        return 0;
+    match e {
+        1 => 0,
+        2 => 1,
+        3 => 2,
+        _ => 3,
     }
-    if e == 2 {
-        return 1;
-    }
-    if e == 3 {
-        return 2;
-    }
-    3
 }
 
 // The part and the record that a refusal names.
-fn refused_part(number: u8, place: usize) -> u8
-    ensures { result ≡ refused_part number place }
+#[tactic(auto, using(crate::proofs::Composing::parts))]
+fn refused_part(why: Refusal, place: usize) -> u8
+    ensures { result ≡ refused_part (number_of why) place }
 {
-    if number == 2 {
-        return entry_part(place);
+    match why {
+        Refusal::WrongCount => entry_part(place),
+        Refusal::WrongTask => 0,
+        Refusal::WrongLock | Refusal::WrongCeiling => 1,
+        Refusal::WrongEvent => 3,
+        _ => 2,
     }
-    if number == 4 {
-        return 0;
-    }
-    if number == 5 {
-        return 1;
-    }
-    if number == 7 {
-        return 1;
-    }
-    if number == 8 {
-        return 3;
-    }
-    2
 }
 
-fn refused_record(number: u8, place: usize) -> usize
-    ensures { result ≡ refused_record number place }
+#[tactic(auto, using(crate::proofs::Composing::records))]
+fn refused_record(why: Refusal, place: usize) -> usize
+    ensures { result ≡ refused_record (number_of why) place }
 {
-    if number == 2 {
-        let part = entry_part(place);
-        return most_of(part as usize);
+    if why == Refusal::WrongCount {
+        most_of(entry_part(place) as usize)
+    } else {
+        place
     }
-    place
 }
 
 // A refusal, with its line where one can be named.
-fn put_refused_at(said: &mut [u8], n: usize, why: Refusal, place: usize) -> usize
-    ensures { page said.new result ≡ typed (page said.old 0) (refused_at n why place) }
+#[tactic(auto, using(page::proofs::Choice::choosing), unfolding(crate::specs::Compose::refused_at))]
+fn put_refused_at(page: &mut Page, n: usize, why: Refusal, place: usize)
+    ensures { page.new ≡ typed page.old (refused_at n why place) }
 {
     if n == 0 {
-        return put_refusal(said, 0, why, place);
+        put_refusal(page, why, place);
+    } else {
+        put_refusal_at(page, why, place, n as u64);
     }
-    put_refusal_at(said, 0, why, place, n as u64)
 }
 
-fn put_refused_by(text: &[u8], said: &mut [u8], why: Refusal, place: usize) -> usize
-    ensures { page said.new result ≡ typed (page said.old 0) (refused_by (read_lines text.now) why place) }
+#[tactic(auto, unfolding(crate::specs::Compose::refused_by))]
+fn put_refused_by(text: &[u8], page: &mut Page, why: Refusal, place: usize)
+    ensures { page.new ≡ typed page.old (refused_by (read_lines text.now) why place) }
 {
-    let number = u8::from(why);
-    let part = refused_part(number, place);
-    let record = refused_record(number, place);
-    let n = line_of_record(text, part, record);
-    put_refused_at(said, n, why, place)
+    let record = refused_record(why, place);
+    let n = line_of_record(text, refused_part(why, place), record);
+    put_refused_at(page, n, why, place);
 }
 
-// A text without a mistake.
-fn compose_records(text: &[u8], out: &mut [u8], said: &mut [u8]) -> Made
-    ensures { answered result.length out.new (page said.new result.said)
-        ≡ answer_of (composed_records text.now out.old) (page said.old 0) }
+// A text without a mistake: the length of its book, which is 0 where there is none.
+fn compose_records(text: &[u8], out: &mut [u8], page: &mut Page) -> usize
+    ensures value { result ≡ (composed_records text.now out.old).length }
+    ensures out_after { out.new ≡ (composed_records text.now out.old).bytes }
+    ensures page_after { page.new ≡ typed page.old (composed_records text.now out.old).said }
 {
     let written = write_text(text, out);
-    let verdict = written.verdict;
-    match verdict {
-        Ok(()) => Made {
-            length: written.length,
-            said: 0,
-        },
+    match written.verdict {
+        Ok(()) => written.length,
         Err(Fault { why, place }) => {
-            let n = put_refused_by(text, said, why, place);
-            Made { length: 0, said: n }
+            put_refused_by(text, page, why, place);
+            0
         }
     }
 }
 
-fn put_too_long(said: &mut [u8]) -> usize
-    ensures { page said.new result ≡ typed (page said.old 0) too_long }
+#[tactic(auto, unfolding(crate::specs::Compose::too_long, page::specs::Ascii::ascii))]
+fn put_too_long(page: &mut Page)
+    ensures { page.new ≡ typed page.old too_long }
 {
-    let numbers = [TEXT_SPACE as u64];
-    put_says(said, 0, b"the text has more than @ bytes\n", &numbers)
+    page.put_says(b"the text has more than @ bytes\n", &[TEXT_SPACE as u64]);
+}
+
+// The same of any text.
+#[tactic(auto, using(crate::proofs::Composing::wholes))]
+fn compose_text(text: &[u8], out: &mut [u8], page: &mut Page) -> usize
+    ensures value { result ≡ (compose_of text.now out.old).length }
+    ensures out_after { out.new ≡ (compose_of text.now out.old).bytes }
+    ensures page_after { page.new ≡ typed page.old (compose_of text.now out.old).said }
+{
+    if text.len() > TEXT_SPACE {
+        put_too_long(page);
+        return 0;
+    }
+    match first_wrong(text) {
+        First::None => compose_records(text, out, page),
+        First::At(n, line) => {
+            put_mistake(page, n as u64, line);
+            0
+        }
+    }
 }
 
 // The book at the start of `out`, or the line that says why there is none at the start of `said`, cut where that ends. All other
 // bytes stay.
+#[tactic(auto, using(page::proofs::Typed::typed_new))]
 pub fn compose(text: &[u8], out: &mut [u8], said: &mut [u8]) -> Made
     ensures { answered result.length out.new (page said.new result.said)
         ≡ answer_of (compose_of text.now out.old) (page said.old 0) }
 {
-    if text.len() > TEXT_SPACE {
-        let n = put_too_long(said);
-        return Made { length: 0, said: n };
-    }
-    match first_wrong(text) {
-        First::None => compose_records(text, out, said),
-        First::At(n, line) => {
-            let size = put_mistake(said, 0, n as u64, line);
-            Made {
-                length: 0,
-                said: size,
-            }
-        }
+    let mut page = Page::new(said);
+    let length = compose_text(text, out, &mut page);
+    Made {
+        length,
+        said: page.place(),
     }
 }

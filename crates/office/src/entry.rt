@@ -1,16 +1,18 @@
 // RULES 19.8: the line of an entry of the contents.
 ghost use Rattle.std.specs.Prelude.{◌≡◌, ◌<◌};
-ghost use Rattle.page.specs.Page.{page, typed};
+ghost use Rattle.page.specs.Page.{typed};
 ghost use Rattle.office.specs.Show.{entry_of};
 
 use book::look::entry_at;
+use page::Page;
 use wording::record::put_entry;
 
 // Entry e of the contents.
-pub fn put_entry_of(out: &mut [u8], i: usize, b: &[u8], e: usize) -> usize
+#[tactic(auto, unfolding(crate::specs::Show::entry_of))]
+pub fn put_entry_of(page: &mut Page, b: &[u8], e: usize)
     requires { e < 4 }
-    ensures { page out.new result ≡ typed (page out.old i) (entry_of b.now e) }
+    ensures { page.new ≡ typed page.old (entry_of b.now e) }
 {
     let entry = entry_at(b, e);
-    put_entry(out, i, e + 1, entry.kind, entry.count, entry.offset)
+    put_entry(page, e + 1, entry.kind, entry.count, entry.offset);
 }

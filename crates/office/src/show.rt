@@ -1,20 +1,21 @@
 // RULES 19.7, 19.8: the text of a book.
-ghost use Rattle.std.specs.Prelude.{◌≡◌, [], ◌∷◌, ◌+◌, ◌<◌, ◌^◌, min, length};
+ghost use Rattle.std.specs.Prelude.{◌≡◌, [], ◌∷◌, ◌++◌, ◌+◌, ◌<◌, ◌^◌, min, length};
 ghost use Rattle.rules.specs.Numbers.Place.{stored};
-ghost use Rattle.page.specs.Page.{page, typed};
+ghost use Rattle.rules.specs.Numbers.Refusal.{number_of};
+ghost use Rattle.page.specs.Page.{typed};
 ghost use Rattle.page.specs.Says.{filled};
 ghost use Rattle.book.specs.Look.{entry_in};
 ghost use Rattle.wording.specs.Records.{event_line};
 ghost use Rattle.office.specs.Show.{task_lines, lock_lines, use_lines, stop_comment, comment_of, event_lines};
-ghost use Rattle.office.specs.Show.{task_part, lock_part, use_part, event_part, first_parts, last_parts, parts_of, entry_pair, entries_of, refused_body, refused_head, shown_as, shown_of};
+ghost use Rattle.office.specs.Show.{task_part, lock_part, use_part, event_part, parts_of, entries_of, refused_body, refused_head, shown_as, shown_of};
 
 use crate::entry::put_entry_of;
+use crate::space::ROW_SPACE;
 use book::look::{entry_at, event, lock, task, usage};
 use book::record::{number_event, number_fault};
-use page::{put_says, put_text};
+use page::Page;
 use report::row::{running, user};
 use rules::answer::Fault;
-use rules::capacity::MAX_EVENTS;
 use rules::protocol::Protocol;
 use rules::refusal::Refusal;
 use scheduler::replay;
@@ -24,285 +25,229 @@ use wording::record::{
     put_use,
 };
 
-// Four row bytes for each event that a book may have.
-const ROW_SPACE: usize = MAX_EVENTS * 4;
+// What a run came to: its verdict, how many events it accepted, and its row bytes.
+#[derive(Clone, Copy)]
+struct Run<'a> {
+    verdict: Result<(), Fault>,
+    accepted: usize,
+    rows: &'a [u8],
+}
 
 // The first n tasks.
-fn put_tasks(out: &mut [u8], i: usize, b: &[u8], n: usize) -> usize
-    ensures { page out.new result ≡ typed (page out.old i) (task_lines b.now n) }
+#[tactic(auto, using(page::proofs::Typed::typing, crate::proofs::Showing::lines))]
+fn put_tasks(page: &mut Page, b: &[u8], n: usize)
+    ensures { page.new ≡ typed page.old (task_lines b.now n) }
 {
-    let mut place = i;
-    let mut k: usize = 0;
-    while k < n {
-        let w = task(b, k);
-        place = put_task(out, place, k, w);
-        k += 1;
+    for k in 0..n {
+        put_task(page, k, task(b, k));
     }
-    place
 }
 
-fn put_locks(out: &mut [u8], i: usize, b: &[u8], n: usize) -> usize
-    ensures { page out.new result ≡ typed (page out.old i) (lock_lines b.now n) }
+#[tactic(auto, using(page::proofs::Typed::typing, crate::proofs::Showing::lines))]
+fn put_locks(page: &mut Page, b: &[u8], n: usize)
+    ensures { page.new ≡ typed page.old (lock_lines b.now n) }
 {
-    let mut place = i;
-    let mut k: usize = 0;
-    while k < n {
-        let w = lock(b, k);
-        place = put_lock(out, place, k, w);
-        k += 1;
+    for k in 0..n {
+        put_lock(page, k, lock(b, k));
     }
-    place
 }
 
-fn put_uses(out: &mut [u8], i: usize, b: &[u8], n: usize) -> usize
-    ensures { page out.new result ≡ typed (page out.old i) (use_lines b.now n) }
+#[tactic(auto, using(page::proofs::Typed::typing, crate::proofs::Showing::lines))]
+fn put_uses(page: &mut Page, b: &[u8], n: usize)
+    ensures { page.new ≡ typed page.old (use_lines b.now n) }
 {
-    let mut place = i;
-    let mut k: usize = 0;
-    while k < n {
-        let w = usage(b, k);
-        place = put_use(out, place, k, w);
-        k += 1;
+    for k in 0..n {
+        put_use(page, k, usage(b, k));
     }
-    place
 }
 
 // The comment of the event at which a run ended.
-fn put_stop(out: &mut [u8], i: usize, verdict: Result<(), Fault>, n: u64) -> usize
-    ensures { page out.new result ≡ typed (page out.old i) (stop_comment verdict n) }
+#[tactic(auto, unfolding(crate::specs::Show::stop_comment))]
+fn put_stop(page: &mut Page, verdict: Result<(), Fault>, n: u64)
+    ensures { page.new ≡ typed page.old (stop_comment verdict n) }
 {
     match verdict {
-        Ok(()) => put_unreached(out, i, n),
-        Err(Fault { why, .. }) => put_refused(out, i, n, why),
+        Ok(()) => put_unreached(page, n),
+        Err(Fault { why, .. }) => put_refused(page, n, why),
     }
 }
 
 // The comment of event k.
-fn put_comment(
-    out: &mut [u8],
-    i: usize,
-    verdict: Result<(), Fault>,
-    accepted: usize,
-    rows: &[u8],
-    k: usize,
-) -> usize
+#[tactic(auto, using(page::proofs::Choice::choosing), unfolding(crate::specs::Show::comment_of))]
+fn put_comment(page: &mut Page, run: &Run, k: usize)
     requires { k + 1 < 2 ^ 64 }
-    ensures { page out.new result ≡ typed (page out.old i) (comment_of verdict accepted rows.now k) }
+    ensures { page.new ≡ typed page.old (comment_of run.now.verdict run.now.accepted run.now.rows.now k) }
 {
-    let next = k + 1;
-    let n = next as u64;
-    if k < accepted {
-        let task = running(rows, k);
-        let word = user(rows, k);
-        return put_ran(out, i, n, task, word);
+    let n = k as u64 + 1;
+    if k < run.accepted {
+        put_ran(page, n, running(run.rows, k), user(run.rows, k));
+    } else if k == run.accepted {
+        put_stop(page, run.verdict, n);
+    } else {
+        put_unreached(page, n);
     }
-    if k == accepted {
-        return put_stop(out, i, verdict, n);
-    }
-    put_unreached(out, i, n)
 }
 
 // An event's words and its comment.
-fn put_commented(
-    out: &mut [u8],
-    i: usize,
-    w: u32,
-    verdict: Result<(), Fault>,
-    accepted: usize,
-    rows: &[u8],
-    k: usize,
-) -> usize
+#[tactic(auto, using(page::proofs::Typed::typing, crate::proofs::Showing::events))]
+fn put_commented(page: &mut Page, w: u32, run: &Run, k: usize)
     requires { k + 1 < 2 ^ 64 }
-    ensures { page out.new result ≡ typed (page out.old i) (event_line w (comment_of verdict accepted rows.now k)) }
+    ensures { page.new ≡ typed page.old
+        (event_line w (comment_of run.now.verdict run.now.accepted run.now.rows.now k)) }
 {
     if number_fault(w) {
-        return put_no_event(out, i, w);
+        put_no_event(page, w);
+    } else {
+        put_event(page, number_event(w));
+        put_comment(page, run, k);
     }
-    let after = put_event(out, i, number_event(w));
-    put_comment(out, after, verdict, accepted, rows, k)
 }
 
 // The first n events, with what came of each.
-fn put_events(
-    out: &mut [u8],
-    i: usize,
-    b: &[u8],
-    verdict: Result<(), Fault>,
-    accepted: usize,
-    rows: &[u8],
-    n: usize,
-) -> usize
-    ensures { page out.new result ≡ typed (page out.old i) (event_lines b.now verdict accepted rows.now n) }
+#[tactic(auto, using(page::proofs::Typed::typing, crate::proofs::Showing::lines))]
+fn put_events(page: &mut Page, b: &[u8], run: &Run, n: usize)
+    ensures { page.new ≡ typed page.old (event_lines b.now run.now.verdict run.now.accepted run.now.rows.now n) }
 {
-    let mut place = i;
-    let mut k: usize = 0;
-    while k < n {
-        let w = event(b, k);
-        place = put_commented(out, place, w, verdict, accepted, rows, k);
-        k += 1;
+    for k in 0..n {
+        put_commented(page, event(b, k), run, k);
     }
-    place
 }
 
 // The line that counts a part's records.
-fn put_heading(out: &mut [u8], i: usize, text: &[u8], n: usize) -> usize
-    ensures { page out.new result ≡ typed (page out.old i) (filled text.now (n ∷ [])) }
+fn put_heading(page: &mut Page, text: &[u8], n: usize)
+    ensures { page.new ≡ typed page.old (filled text.now (n ∷ [])) }
 {
-    let numbers = [n as u64];
-    put_says(out, i, text, &numbers)
+    page.put_says(text, &[n as u64]);
 }
 
-fn put_task_part(out: &mut [u8], i: usize, b: &[u8], n: usize) -> usize
-    ensures { page out.new result ≡ typed (page out.old i) (task_part b.now n) }
+#[tactic(auto, using(page::proofs::Typed::typing), unfolding(crate::specs::Show::task_part, page::specs::Ascii::ascii))]
+fn put_task_part(page: &mut Page, b: &[u8], n: usize)
+    ensures { page.new ≡ typed page.old (task_part b.now n) }
 {
-    let after = put_heading(out, i, b"# @ tasks: base, maximum\n", n);
-    put_tasks(out, after, b, n)
+    put_heading(page, b"# @ tasks: base, maximum\n", n);
+    put_tasks(page, b, n);
 }
 
-fn put_lock_part(out: &mut [u8], i: usize, b: &[u8], n: usize) -> usize
-    ensures { page out.new result ≡ typed (page out.old i) (lock_part b.now n) }
+#[tactic(auto, using(page::proofs::Typed::typing), unfolding(crate::specs::Show::lock_part, page::specs::Ascii::ascii))]
+fn put_lock_part(page: &mut Page, b: &[u8], n: usize)
+    ensures { page.new ≡ typed page.old (lock_part b.now n) }
 {
-    let after = put_heading(out, i, b"# @ locks: ceiling, limit\n", n);
-    put_locks(out, after, b, n)
+    put_heading(page, b"# @ locks: ceiling, limit\n", n);
+    put_locks(page, b, n);
 }
 
-fn put_use_part(out: &mut [u8], i: usize, b: &[u8], n: usize) -> usize
-    ensures { page out.new result ≡ typed (page out.old i) (use_part b.now n) }
+#[tactic(auto, using(page::proofs::Typed::typing), unfolding(crate::specs::Show::use_part, page::specs::Ascii::ascii))]
+fn put_use_part(page: &mut Page, b: &[u8], n: usize)
+    ensures { page.new ≡ typed page.old (use_part b.now n) }
 {
-    let after = put_heading(out, i, b"# @ uses: task, lock\n", n);
-    put_uses(out, after, b, n)
+    put_heading(page, b"# @ uses: task, lock\n", n);
+    put_uses(page, b, n);
 }
 
-fn put_event_part(
-    out: &mut [u8],
-    i: usize,
-    b: &[u8],
-    verdict: Result<(), Fault>,
-    accepted: usize,
-    rows: &[u8],
-    n: usize,
-) -> usize
-    ensures { page out.new result ≡ typed (page out.old i) (event_part b.now verdict accepted rows.now n) }
+#[tactic(auto, using(page::proofs::Typed::typing), unfolding(crate::specs::Show::event_part, page::specs::Ascii::ascii))]
+fn put_event_part(page: &mut Page, b: &[u8], run: &Run, n: usize)
+    ensures { page.new ≡ typed page.old (event_part b.now run.now.verdict run.now.accepted run.now.rows.now n) }
 {
-    let after = put_heading(out, i, b"# @ events\n", n);
-    put_events(out, after, b, verdict, accepted, rows, n)
+    put_heading(page, b"# @ events\n", n);
+    put_events(page, b, run, n);
 }
 
 // How many records a part has.
 fn count(b: &[u8], e: usize) -> usize
     ensures { result ≡ (entry_in b.now e).count }
 {
-    let entry = entry_at(b, e);
-    entry.count
+    entry_at(b, e).count
 }
 
-// The plan's tasks and locks.
-fn put_first_parts(out: &mut [u8], i: usize, b: &[u8]) -> usize
-    ensures { page out.new result ≡ typed (page out.old i) (first_parts b.now) }
+// The plan's tasks, locks and uses, and the events.
+#[tactic(auto, using(page::proofs::Typed::typing), unfolding(crate::specs::Show::parts_of, crate::specs::Show::first_parts, crate::specs::Show::last_parts))]
+fn put_parts(page: &mut Page, b: &[u8], run: &Run)
+    ensures { page.new ≡ typed page.old (parts_of b.now run.now.verdict run.now.accepted run.now.rows.now) }
 {
-    let after = put_task_part(out, i, b, count(b, 0));
-    put_lock_part(out, after, b, count(b, 1))
+    put_task_part(page, b, count(b, 0));
+    put_lock_part(page, b, count(b, 1));
+    put_use_part(page, b, count(b, 2));
+    put_event_part(page, b, run, count(b, 3));
 }
 
-// Its uses, and the events.
-fn put_last_parts(
-    out: &mut [u8],
-    i: usize,
-    b: &[u8],
-    verdict: Result<(), Fault>,
-    accepted: usize,
-    rows: &[u8],
-) -> usize
-    ensures { page out.new result ≡ typed (page out.old i) (last_parts b.now verdict accepted rows.now) }
+// The size and the four entries.
+#[tactic(auto, using(page::proofs::Typed::typing), unfolding(crate::specs::Show::entries_of, crate::specs::Show::entry_pair))]
+fn put_entries(page: &mut Page, b: &[u8])
+    ensures { page.new ≡ typed page.old (entries_of b.now) }
 {
-    let after = put_use_part(out, i, b, count(b, 2));
-    put_event_part(out, after, b, verdict, accepted, rows, count(b, 3))
+    put_size(page, b.len());
+    put_entry_of(page, b, 0);
+    put_entry_of(page, b, 1);
+    put_entry_of(page, b, 2);
+    put_entry_of(page, b, 3);
 }
 
-fn put_parts(
-    out: &mut [u8],
-    i: usize,
-    b: &[u8],
-    verdict: Result<(), Fault>,
-    accepted: usize,
-    rows: &[u8],
-) -> usize
-    ensures { page out.new result ≡ typed (page out.old i) (parts_of b.now verdict accepted rows.now) }
+// What can be read of a book that is refused.
+#[tactic(auto, using(crate::proofs::Showing::bodies))]
+fn put_refused_body(page: &mut Page, why: Refusal, b: &[u8])
+    ensures { page.new ≡ typed page.old (refused_body (number_of why) b.now) }
 {
-    let after = put_first_parts(out, i, b);
-    put_last_parts(out, after, b, verdict, accepted, rows)
-}
-
-// That one and the next.
-fn put_pair(out: &mut [u8], i: usize, b: &[u8], e: usize) -> usize
-    requires { e < 3 }
-    ensures { page out.new result ≡ typed (page out.old i) (entry_pair b.now e) }
-{
-    let after = put_entry_of(out, i, b, e);
-    put_entry_of(out, after, b, e + 1)
-}
-
-fn put_entries(out: &mut [u8], i: usize, b: &[u8]) -> usize
-    ensures { page out.new result ≡ typed (page out.old i) (entries_of b.now) }
-{
-    let first = put_size(out, i, b.len());
-    let third = put_pair(out, first, b, 0);
-    put_pair(out, third, b, 2)
-}
-
-// What can be read of a book that this number refuses.
-fn put_refused_body(out: &mut [u8], i: usize, number: u8, b: &[u8]) -> usize
-    ensures { page out.new result ≡ typed (page out.old i) (refused_body number b.now) }
-{
-    if number == 1 {
-        return put_size(out, i, b.len());
+    match why {
+        Refusal::ShortBook => put_size(page, b.len()),
+        Refusal::WrongCount | Refusal::WrongLayout => put_entries(page, b),
+        _ => put_parts(
+            page,
+            b,
+            &Run {
+                verdict: Ok(()),
+                accepted: 0,
+                rows: &[],
+            },
+        ),
     }
-    if number <= 3 {
-        return put_entries(out, i, b);
-    }
-    put_parts(out, i, b, Ok(()), 0, &b[..0])
 }
 
 // The refusal, in a comment.
-fn put_refused_head(out: &mut [u8], why: Refusal, place: usize) -> usize
-    ensures { page out.new result ≡ typed (page out.old 0) (refused_head why place) }
+#[tactic(auto, using(page::proofs::Typed::typing), unfolding(crate::specs::Show::refused_head, page::specs::Ascii::ascii))]
+fn put_refused_head(page: &mut Page, why: Refusal, place: usize)
+    ensures { page.new ≡ typed page.old (refused_head why place) }
 {
-    let mark = put_text(out, 0, b"# ");
-    put_refusal(out, mark, why, place)
+    page.put_text(b"# ");
+    put_refusal(page, why, place);
 }
 
-fn put_refused_book(out: &mut [u8], b: &[u8], why: Refusal, place: usize) -> usize
-    ensures { page out.new result ≡ typed (page out.old 0) (shown_as (refused_at why place) b.now) }
+#[tactic(auto, using(page::proofs::Typed::typing), unfolding(crate::specs::Show::shown_as))]
+fn put_refused_book(page: &mut Page, b: &[u8], why: Refusal, place: usize)
+    ensures { page.new ≡ typed page.old (shown_as (refused_at why place) b.now) }
 {
-    let after = put_refused_head(out, why, place);
-    put_refused_body(out, after, u8::from(why), b)
+    put_refused_head(page, why, place);
+    put_refused_body(page, why, b);
 }
 
-fn put_accepted(out: &mut [u8], b: &[u8]) -> usize
-    ensures { page out.new result ≡ typed (page out.old 0) (shown_as (Ok tt) b.now) }
+fn put_accepted(page: &mut Page, b: &[u8])
+    ensures { page.new ≡ typed page.old (shown_as (Ok tt) b.now) }
 {
     let mut rows = [0u8; ROW_SPACE];
     let replayed = replay(Protocol::Second, b, &mut rows);
-    let verdict = replayed.verdict;
-    let accepted = replayed.state.head.accepted as usize;
-    put_parts(out, 0, b, verdict, accepted, &rows)
+    let run = Run {
+        verdict: replayed.verdict,
+        accepted: replayed.state.head.accepted as usize,
+        rows: &rows,
+    };
+    put_parts(page, b, &run);
 }
 
-fn put_shown(out: &mut [u8], b: &[u8]) -> usize
-    ensures { page out.new result ≡ typed (page out.old 0) (shown_of b.now) }
+fn put_shown(page: &mut Page, b: &[u8])
+    ensures { page.new ≡ typed page.old (shown_of b.now) }
 {
-    let checked = book::check(b, ROW_SPACE);
-    let verdict = checked.verdict;
-    match verdict {
-        Ok(()) => put_accepted(out, b),
-        Err(Fault { why, place }) => put_refused_book(out, b, why, place),
+    match book::check(b, ROW_SPACE).verdict {
+        Ok(()) => put_accepted(page, b),
+        Err(Fault { why, place }) => put_refused_book(page, b, why, place),
     }
 }
 
 // The text of a book at the start of `out`, cut where that ends, and how many bytes of it stand there.
+#[tactic(auto, using(page::proofs::Typed::typed_new))]
 pub fn show(b: &[u8], out: &mut [u8]) -> usize
     ensures out_after { out.new ≡ stored out.old 0 (shown_of b.now) }
     ensures value { result ≡ min (length (shown_of b.now)) (length out.old) }
 {
-    put_shown(out, b)
+    let mut page = Page::new(out);
+    put_shown(&mut page, b);
+    page.place()
 }

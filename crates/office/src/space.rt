@@ -2,6 +2,11 @@
 ghost use Rattle.std.specs.Prelude.{◌≡◌, ◌+◌, length};
 ghost use Rattle.office.specs.Compose.{text_space};
 
+use rules::capacity::MAX_EVENTS;
+
+// Four row bytes for each event that a book may have.
+pub(crate) const ROW_SPACE: usize = MAX_EVENTS * 4;
+
 // The most bytes that a text may have.
 pub const TEXT_SPACE: usize = 1048576;
 

@@ -18,7 +18,14 @@ impl<'a, T: Copy> Page<'a, T> {
     pub fn new(out: &'a mut [T]) -> Page<'a, T>
         ensures { result ≡ page out.entry 0 }
     {
-        Page { out, place: 0 }
+        Page::at(out, 0)
+    }
+
+    // A page on which something stands up to a place.
+    pub fn at(out: &'a mut [T], place: usize) -> Page<'a, T>
+        ensures { result ≡ page out.entry place }
+    {
+        Page { out, place }
     }
 
     // How many bytes stand on it.

@@ -11,8 +11,8 @@ use borrow.Author.Tests.{lt-ltb, le-ltb, eq-eqb, ne_eqb, eqb-true, eqb-false}
 use Rattle.rules.specs.declared.refusal.Refusal.{Refusal}
 use Rattle.rules.specs.Numbers.Verdict.{refused_at}
 use Rattle.rules.proofs.Numbers.Choice.{if_true, if_false, by_test}
-use Rattle.jobs.specs.Job.{job_answer}
-use Rattle.jobs.specs.declared.Job.{Job}
+use Rattle.jobs.specs.Job.{Job, job_with, job_answer}
+use Rattle.rules.specs.declared.answer.Fault.{Fault}
 use Rattle.rules.specs.Numbers.Place.{at}
 use Rattle.texts.specs.Cut.{return, space, hash, up_to, spaces_of, without_spaces, before, trimmed, bare}
 use Rattle.texts.specs.Kind.{kind_named, fields_of, most_of, part_of, record_of, has_items}
@@ -101,14 +101,14 @@ unfolding ended
 ended_plain kind a b bytes t r h e f = h ∙ sym (if_false (has_items kind) _ _ (sym e ∙ f))
 
 -- a job
-module _ (items : List ℕ) (w : ℕ) (job : Job) (h : job ≡ job_answer items job_room) where
-  pub job_right : job.verdict ≡ Ok tt → Line.Job w (job.events + 1) ≡ job_line w items
-  unfolding job_line job_said
-  job_right f = rw (sym h) (ap (λ x. job_said w x job.events) (sym f))
+module _ (items : List ℕ) (w : ℕ) where
+  pub job_right : (n : ℕ) → job_with (Ok n) ≡ job_answer items job_room → Line.Job w (n + 1) ≡ job_line w items
+  unfolding job_line job_said job_with
+  job_right n h = ap (λ (j : Job). job_said w j.verdict j.events) h
 
-  pub job_wrong : (why : Refusal) (place : ℕ) → job.verdict ≡ refused_at why place → Line.Refused why place ≡ job_line w items
-  unfolding job_line job_said
-  job_wrong why place f = rw (sym h) (ap (λ x. job_said w x job.events) (sym f))
+  pub job_wrong : (f : Fault) → job_with (Err f) ≡ job_answer items job_room → Line.Refused f.why f.place ≡ job_line w items
+  unfolding job_line job_said job_with
+  job_wrong f h = ap (λ (j : Job). job_said w j.verdict j.events) h
 
 pub ended_job : (kind : Kind) (a b n w : ℕ) (bytes : List ℕ) (t : Bool) (r : Line) → r ≡ job_line w (take n bytes) → w ≡ record_of kind a b → n ≡ without_spaces bytes
     → t ≡ has_items kind → t ≡ true

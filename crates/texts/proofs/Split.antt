@@ -1,5 +1,5 @@
 -- The lines of a text, one after the other, and the ways through the code that goes along them. Assumes nothing.
-use Rattle.std.specs.Prelude.{if◌then◌else◌}
+use Rattle.std.specs.Prelude.{Ok, Err, if◌then◌else◌}
 use mathlib.Core.Path.{◌≡◌, refl, sym, ◌∙◌, ap}
 use mathlib.Core.Bool.{Bool, true, false}
 use mathlib.Core.Logic.{◌⊎◌, inl, inr, ⊎_elim}
@@ -15,13 +15,13 @@ use Rattle.rules.specs.Numbers.Place.{from, tabulate}
 use Rattle.rules.specs.Books.Bytes.{long_bytes}
 use Rattle.rules.specs.Books.Event.{event_number}
 use Rattle.rules.specs.declared.event.Event.{Event}
-use Rattle.rules.specs.declared.refusal.Refusal.{Refusal}
+use Rattle.rules.specs.declared.answer.Fault.{Fault}
 use Rattle.rules.proofs.Numbers.Choice.{if_true, if_false, by_test}
-use Rattle.page.specs.Page.{Page, typed}
-use Rattle.page.proofs.Typed.{typed_two, typed_cons}
-use Rattle.jobs.specs.Job.{job_events, job_answer, read_with, job_of}
+use Rattle.page.specs.declared.Page.{Page}
+use Rattle.page.specs.Page.{typed}
+use Rattle.page.proofs.Typed.{typed_two, typed_none}
+use Rattle.jobs.specs.Job.{Job, job_with, job_events, job_answer, read_with, job_of}
 use Rattle.jobs.specs.Sheet.{record_in}
-use Rattle.jobs.specs.declared.Job.{Job}
 use Rattle.jobs.proofs.Sheets.{records_back}
 use Rattle.texts.specs.Cut.{newline, until, up_to, spaces_of}
 use Rattle.texts.specs.Line.{without_return, words_line, line_of, job_room, items_of, item_numbers}
@@ -126,68 +126,25 @@ count_no_job part w n line e h = sym (ap (count_in part) e ∙ if_false (eqb par
 
 pub ruleset counts = (count_known, count_own, count_other, count_job, count_no_job)
 
--- nothing is kept of a line that is blank, has a mistake or belongs to another part
-module _ (part : ℕ) (line : Line) (items : List ℕ) (p : Page) where
-  keep_none : (case : Line) → line ≡ case → of_part part case items ≡ [] → p ≡ typed p (of_part part line items)
-  unfolding typed
-  keep_none case e n = sym (ap (typed p) (ap (λ l. of_part part l items) e ∙ n))
-
-  pub keep_blank : line ≡ Line.Blank → p ≡ typed p (of_part part line items)
-  unfolding of_part
-  keep_blank e = keep_none Line.Blank e refl
-
-  pub keep_unknown : line ≡ Line.Unknown → p ≡ typed p (of_part part line items)
-  unfolding of_part
-  keep_unknown e = keep_none Line.Unknown e refl
-
-  pub keep_wrong : (kind : Kind) (word : ℕ) (m : Mistake) → line ≡ Line.Wrong kind word m → p ≡ typed p (of_part part line items)
-  unfolding of_part
-  keep_wrong kind word m e = keep_none (Line.Wrong kind word m) e refl
-
-  pub keep_refused : (why : Refusal) (place : ℕ) → line ≡ Line.Refused why place → p ≡ typed p (of_part part line items)
-  unfolding of_part
-  keep_refused why place e = keep_none (Line.Refused why place) e refl
-
-  pub keep_other : (q w : ℕ) → line ≡ Line.Record q w → (q ≡ part → ⊥) → p ≡ typed p (of_part part line items)
-  unfolding of_part
-  keep_other q w e n = keep_none (Line.Record q w) e (if_false (eqb q part) _ _ (ne_eqb q part n))
-
-  pub keep_no_job : (w n : ℕ) → line ≡ Line.Job w n → (part ≡ 3 → ⊥) → p ≡ typed p (of_part part line items)
-  unfolding of_part
-  keep_no_job w n e h = keep_none (Line.Job w n) e (if_false (eqb part 3) _ _ (ne_eqb part 3 h))
-
-  pub keep_own : (r : Page) (q w : ℕ) → r ≡ typed p (w ∷ []) → line ≡ Line.Record q w → q ≡ part → r ≡ typed p (of_part part line items)
-  unfolding of_part
-  keep_own r q w h e n = h ∙ sym (ap (typed p) (ap (λ l. of_part part l items) e ∙ if_true (eqb q part) _ _ (eq-eqb q part n)))
-
-  pub keep_job : (q r : Page) (w n : ℕ) (found : List ℕ) → q ≡ typed p (w ∷ []) → r ≡ typed q (item_numbers found) → found ≡ items → line ≡ Line.Job w n → part ≡ 3
-      → r ≡ typed p (of_part part line items)
-  unfolding of_part
-  keep_job q r w n found g h f e t =
-      typed_cons p q r w (item_numbers items) g (h ∙ ap (λ x. typed q (item_numbers x)) f)
-      ∙ sym (ap (typed p) (ap (λ l. of_part part l items) e ∙ if_true (eqb part 3) _ _ (eq-eqb part 3 t)))
-
-pub ruleset keeps = (keep_blank, keep_unknown, keep_wrong, keep_refused, keep_other, keep_no_job, keep_own, keep_job)
-
 -- ---- the records of a job, one by one out of event space
 
-pub records_start : (f : ℕ → ℕ) (p : Page) (n : ℕ) → typed p (from f 0 (n - 0)) ≡ typed p (tabulate n f)
+pub records_start : (f : ℕ → ℕ) (p : Page ℕ) (n : ℕ) → typed p (from f 0 (n - 0)) ≡ typed p (tabulate n f)
 records_start f p n = let k : n - 0 ≡ n = omega arith in ap (λ m. typed p (from f 0 m)) k
 
-pub records_next : (f : ℕ → ℕ) (p q r : Page) (n i w : ℕ) → typed q (from f i (n - i)) ≡ typed p (tabulate n f) → i < n → w ≡ f i → r ≡ typed q (w ∷ [])
+pub records_next : (f : ℕ → ℕ) (p q r : Page ℕ) (n i w : ℕ) → typed q (from f i (n - i)) ≡ typed p (tabulate n f) → i < n → w ≡ f i → r ≡ typed q (w ∷ [])
     → typed r (from f (i + 1) (n - (i + 1))) ≡ typed p (tabulate n f)
 unfolding from
 records_next f p q r n i w e l g h =
     let k : n - i ≡ suc (n - (i + 1)) = omega arith in
-    rw (add-one i) (typed_cons q r (typed r (from f (suc i) (n - suc i))) (f i) (from f (suc i) (n - suc i)) (h ∙ ap (λ x. typed q (x ∷ [])) g) refl
+    rw (add-one i) (typed_two q r (typed r (from f (suc i) (n - suc i))) (f i ∷ []) (from f (suc i) (n - suc i)) (h ∙ ap (λ x. typed q (x ∷ [])) g) refl
     ∙ sym (ap (λ m. typed q (from f i m)) (k ∙ ap (λ m. suc (n - m)) (add-one i)))) ∙ e
 
-pub records_end : (f : ℕ → ℕ) (p q : Page) (n i : ℕ) → typed q (from f i (n - i)) ≡ typed p (tabulate n f) → n ≤ i → q ≡ typed p (tabulate n f)
+pub records_end : (f : ℕ → ℕ) (p q : Page ℕ) (n i : ℕ) → typed q (from f i (n - i)) ≡ typed p (tabulate n f) → n ≤ i → q ≡ typed p (tabulate n f)
 unfolding from typed
 records_end f p q n i e l = let k : n - i ≡ 0 = omega arith in sym (ap (λ m. typed q (from f i m)) k) ∙ e
 
 -- what is read into event space is the events' numbers
-pub items_put : (items after : List ℕ) (job : Job) (p r : Page) → read_with job after ≡ job_of items (replicate job_room 0)
+pub items_put : (items after : List ℕ) (job : Job) (p r : Page ℕ) → read_with job after ≡ job_of items (replicate job_room 0)
     → r ≡ typed p (tabulate job.events (record_in after)) → r ≡ typed p (item_numbers items)
 unfolding job_of job_answer item_numbers
 items_put items after job p r h k = go (replicate job_room 0) h (length-replicate {A = ℕ} job_room 0)
@@ -199,6 +156,16 @@ items_put items after job p r h k = go (replicate job_room 0) h (length-replicat
         let s : after ≡ long_bytes (map event_number es) ++ drop (length es * 4) space = ap (λ x. x.space) h in
         k ∙ ap (typed p) (ap (λ m. tabulate m (record_in after)) n ∙ ap (λ x. tabulate (length (map event_number es)) (record_in x)) s
         ∙ records_back (map event_number es) (drop (length es * 4) space) ∙ ap (λ m. map event_number (job_events items m)) l)
+
+-- where they are refused there are none
+pub items_none : (items after : List ℕ) (f : Fault) (p : Page ℕ) → read_with (job_with (Err f)) after ≡ job_of items (replicate job_room 0) → p ≡ typed p (item_numbers items)
+unfolding job_with tabulate
+items_none items after f p h = items_put items after (job_with (Err f)) p p h (sym (typed_none p))
+
+pub items_some : (items after : List ℕ) (n : ℕ) (p r : Page ℕ) → read_with (job_with (Ok n)) after ≡ job_of items (replicate job_room 0)
+    → r ≡ typed p (tabulate n (record_in after)) → r ≡ typed p (item_numbers items)
+unfolding job_with
+items_some items after n p r h k = items_put items after (job_with (Ok n)) p r h k
 
 -- ---- loops over the lines
 
@@ -218,7 +185,7 @@ module _ (ls : List (List ℕ)) (k : ℕ) (b : List ℕ) (l : k < length ls) (e 
   here = drop-cons ls k b l ∙ ap (λ x. x ∷ drop (suc k) ls) (sym e)
 
   -- the records of a part
-  pub collect_next : (part : ℕ) (p q r : Page) → typed q (records_of part (drop k ls)) ≡ typed p (records_of part ls) → r ≡ typed q (of_part part (line_of b) (items_of b))
+  pub collect_next : (part : ℕ) (p q r : Page ℕ) → typed q (records_of part (drop k ls)) ≡ typed p (records_of part ls) → r ≡ typed q (of_part part (line_of b) (items_of b))
       → typed r (records_of part (drop (k + 1) ls)) ≡ typed p (records_of part ls)
   unfolding records_of
   collect_next part p q r h g = rw (add-one k)
@@ -257,7 +224,7 @@ module _ (ls : List (List ℕ)) (k : ℕ) (l : k ≡ length ls) where
   none_left : drop k ls ≡ []
   none_left = drop_of_length-le ls (omega arith)
 
-  pub collect_ends : (part : ℕ) (p q : Page) → typed q (records_of part (drop k ls)) ≡ typed p (records_of part ls) → q ≡ typed p (records_of part ls)
+  pub collect_ends : (part : ℕ) (p q : Page ℕ) → typed q (records_of part (drop k ls)) ≡ typed p (records_of part ls) → q ≡ typed p (records_of part ls)
   unfolding records_of typed
   collect_ends part p q e = sym (ap (λ x. typed q (records_of part x)) none_left) ∙ e
 

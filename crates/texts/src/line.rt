@@ -75,9 +75,8 @@ fn plain_line(kind: Kind, a: u32, b: u32, bytes: &[u8]) -> Line
 fn job_line(w: u32, items: &[u8]) -> Line
     ensures { result ≡ job_line w items.now }
 {
-    let job = check_job(items, JOB_ROOM);
-    match job.verdict {
-        Ok(()) => Line::Job(w, job.events + 1),
+    match check_job(items, JOB_ROOM) {
+        Ok(events) => Line::Job(w, events + 1),
         Err(Fault { why, place }) => Line::Refused(why, place),
     }
 }

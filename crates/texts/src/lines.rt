@@ -1,6 +1,6 @@
 // RULES 19.1, 19.3, 19.4: the lines of a text, read one after the other.
 ghost use Rattle.std.specs.Prelude.{◌≡◌, [], ◌∷◌};
-ghost use Rattle.page.specs.Page.{page, typed};
+ghost use Rattle.page.specs.Page.{typed};
 ghost use Rattle.rules.specs.Numbers.Place.{tabulate};
 ghost use Rattle.jobs.specs.Sheet.{record_in};
 ghost use Rattle.texts.specs.Line.{items_of, item_numbers};
@@ -9,6 +9,7 @@ ghost use Rattle.texts.specs.Lines.{lines_of, read_lines, of_part, records_of, i
 use crate::line::{JOB_ROOM, Line, items, line_of};
 use jobs::read_job;
 use jobs::record::record_at;
+use page::Page;
 
 // No line, or the first with a mistake: its number from 1, and what it says.
 #[derive(Clone, Copy)]
@@ -41,69 +42,54 @@ pub fn first_wrong(text: &[u8]) -> First
     First::None
 }
 
-// One number more, while there is room.
-fn put(out: &mut [u32], place: usize, number: u32) -> usize
-    ensures { page out.new result ≡ typed (page out.old place) (number ∷ []) }
-{
-    if place < out.len() {
-        out[place] = number;
-        return place + 1;
-    }
-    place
-}
-
 // The numbers of the first n records in event space.
-fn put_records(out: &mut [u32], place: usize, space: &[u8], n: usize) -> usize
-    ensures { page out.new result ≡ typed (page out.old place) (tabulate n (record_in space.now)) }
+#[tactic(auto, using(crate::proofs::Split::records_start, crate::proofs::Split::records_next, crate::proofs::Split::records_end))]
+fn put_records(page: &mut Page<u32>, space: &[u8], n: usize)
+    ensures { page.new ≡ typed page.old (tabulate n (record_in space.now)) }
 {
-    let mut next = place;
     for i in 0..n {
-        next = put(out, next, record_at(space, i));
+        page.put(record_at(space, i));
     }
-    next
 }
 
-// The numbers of the events of a job's items.
-fn put_items(out: &mut [u32], place: usize, items: &[u8]) -> usize
-    ensures { page out.new result ≡ typed (page out.old place) (item_numbers items.now) }
+// The numbers of the events of a job's items; there are none where these are refused.
+fn put_items(page: &mut Page<u32>, items: &[u8])
+    ensures { page.new ≡ typed page.old (item_numbers items.now) }
 {
     let mut space = [0u8; JOB_ROOM];
-    let job = read_job(items, &mut space);
-    put_records(out, place, &space, job.events)
+    if let Ok(count) = read_job(items, &mut space) {
+        put_records(page, &space, count);
+    }
 }
 
 // The numbers of a line that says records of this part.
-#[tactic(auto, using(crate::proofs::Split::keeps))]
-fn keep(out: &mut [u32], place: usize, line: Line, bytes: &[u8], part: u8) -> usize
-    ensures { page out.new result ≡ typed (page out.old place) (of_part part line (items_of bytes.now)) }
+#[tactic(auto, using(page::proofs::Typed::typing, page::proofs::Choice::choosing), unfolding(crate::specs::Lines::of_part))]
+fn keep(page: &mut Page<u32>, line: Line, bytes: &[u8], part: u8)
+    ensures { page.new ≡ typed page.old (of_part part line (items_of bytes.now)) }
 {
     match line {
-        Line::Record(p, number) => if p == part {
-            put(out, place, number)
-        } else {
-            place
-        },
-        Line::Job(number, _) => {
-            if part == 3 {
-                let next = put(out, place, number);
-                put_items(out, next, items(bytes))
-            } else {
-                place
+        Line::Record(p, number) => {
+            if p == part {
+                page.put(number);
             }
         }
-        Line::Blank | Line::Unknown | Line::Wrong(_, _, _) | Line::Refused(_, _) => place,
+        Line::Job(number, _) => {
+            if part == 3 {
+                page.put(number);
+                put_items(page, items(bytes));
+            }
+        }
+        Line::Blank | Line::Unknown | Line::Wrong(_, _, _) | Line::Refused(_, _) => {}
     }
 }
 
-// The records of a part, as many as there is room for, and how many these are.
-pub fn collect(text: &[u8], part: u8, out: &mut [u32]) -> usize
-    ensures { page out.new result ≡ typed (page out.old 0) (records_of part (lines_of text.now)) }
+// The records of a part, as many as the page has room for.
+pub fn collect(text: &[u8], part: u8, page: &mut Page<u32>)
+    ensures { page.new ≡ typed page.old (records_of part (lines_of text.now)) }
 {
-    let mut place = 0;
     for bytes in text.split(|&c| c == b'\n') {
-        place = keep(out, place, line_of(bytes), bytes, part);
+        keep(page, line_of(bytes), bytes, part);
     }
-    place
 }
 
 // How many records of a part a line says.

@@ -2,7 +2,7 @@
 use mathlib.Core.Path.{◌≡◌, refl, sym, ◌∙◌, ap}
 use mathlib.Core.Bool.{Bool, true, false}
 use mathlib.Core.List.{List, [], ◌∷◌}
-use Prim.Native.Nat.{ℕ, ◌+◌, ◌-◌, ◌≤◌, ◌<◌}
+use Prim.Native.Nat.{ℕ, ◌+◌, ◌-◌, ◌*◌, ◌≤◌, ◌<◌}
 use native.Mathlib.Omega.{arith}
 use lib.Dec.{eqb, ltb}
 use lib.ListN.{length, take, drop}
@@ -101,6 +101,10 @@ unfolding ended
 ended_plain kind a b bytes t r h e f = h ∙ sym (if_false (has_items kind) _ _ (sym e ∙ f))
 
 -- a job
+pub room_left : (n room : ℕ) → (job_with (Ok n)).events * 4 ≤ room → n * 4 ≤ room
+unfolding job_with
+room_left n room h = h
+
 module _ (items : List ℕ) (w : ℕ) where
   pub job_right : (n : ℕ) → job_with (Ok n) ≡ job_answer items job_room → Line.Job w (n + 1) ≡ job_line w items
   unfolding job_line job_said job_with

@@ -159,7 +159,7 @@ items_put items after job p r h k = go (replicate job_room 0) h (length-replicat
 
 -- where they are refused there are none
 pub items_none : (items after : List ℕ) (f : Fault) (p : Page ℕ) → read_with (job_with (Err f)) after ≡ job_of items (replicate job_room 0) → p ≡ typed p (item_numbers items)
-unfolding job_with tabulate
+unfolding job_with from
 items_none items after f p h = items_put items after (job_with (Err f)) p p h (sym (typed_none p))
 
 pub items_some : (items after : List ℕ) (n : ℕ) (p r : Page ℕ) → read_with (job_with (Ok n)) after ≡ job_of items (replicate job_room 0)

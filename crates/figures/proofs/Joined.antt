@@ -10,8 +10,8 @@ module _ {M : Type 0} {IsZero : M → Type 0} {CanJoin : M → M → Type 0} {Jo
   one_behind (y ∷ xs) x = rw (laws.more y z (xs ++ (x ∷ [])) is, laws.more y z xs is, one_behind xs x) (sym (and_assoc (eq y z) (zeros xs) (eq x z)))
 
   -- before the first, and after one more
-  pub joined_none : eq z z ≡ zeros []
-  joined_none = laws.zero z is ∙ sym laws.none
+  pub joined_first : eq z z ≡ zeros []
+  joined_first = laws.zero z is ∙ sym laws.none
 
   pub joined_more : (xs : List M) (a x b : M) → eq a z ≡ zeros xs → Joins a x b → eq b z ≡ zeros (xs ++ (x ∷ []))
   joined_more xs a x b e j = laws.joined a x z b is j ∙ ap (λ t. t && eq x z) e ∙ sym (one_behind xs x)

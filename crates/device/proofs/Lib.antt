@@ -3,3 +3,4 @@ mod Spelled
 mod Kept
 pub mod SameAsBook
 pub mod BookOfTable
+mod Checked

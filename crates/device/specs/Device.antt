@@ -15,7 +15,7 @@ use Rattle.rules.specs.Books.Book.{Checked}
 use Rattle.rules.specs.Books.Load.{Loaded}
 use Rattle.rules.specs.declared.answer.Stepped.{Stepped}
 use Rattle.rules.specs.declared.refusal.Refusal.TheVariants.{WrongEvent}
-use Rattle.jobs.specs.declared.Job.{Job}
+use Rattle.jobs.specs.Job.{Job}
 use Rattle.device.specs.declared.check.DeviceCheck.{DeviceCheck}
 use Rattle.device.specs.declared.job.DeviceJob.{DeviceJob}
 use Rattle.device.specs.declared.load.DeviceLoad.{DeviceLoad}

@@ -14,5 +14,8 @@ pub const FULL_ROOM: usize = MAX_EVENTS * 4;
 pub extern "C" fn recorder_bound(book: &[u8], task: usize) -> u16
     ensures { result ≡ bound_of (checked_of book.now full_room).plan task }
 {
-    plan::bound(book::check(book, FULL_ROOM).plan, task)
+    match book::check(book, FULL_ROOM) {
+        Ok(opened) => plan::bound(opened.plan, task),
+        Err(_) => 0,
+    }
 }

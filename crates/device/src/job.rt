@@ -1,9 +1,9 @@
 // RULES 16.10: the text of a job read into event records.
 ghost use Rattle.std.specs.Prelude.{◌≡◌};
-ghost use Rattle.jobs.specs.Job.{job_of};
+ghost use Rattle.jobs.specs.Job.{job_of, job_with};
 ghost use Rattle.device.specs.Device.{job_spelled};
 
-use rules::answer::{verdict_number, verdict_place};
+use rules::answer::Fault;
 
 // The refusal's number and place; how many events the job has, 0 beside a refusal.
 #[repr(C)]
@@ -14,6 +14,18 @@ pub struct DeviceJob {
     pub events: usize,
 }
 
+impl From<Result<usize, Fault>> for DeviceJob {
+    ghost from_gives = { λ r d. d ≡ job_spelled (job_with r) };
+
+    #[tactic(auto, unfolding(jobs::specs::Job::job_with, rules::specs::Numbers::Answer::verdict_number, rules::specs::Numbers::Answer::verdict_place))]
+    fn from(job: Result<usize, Fault>) -> DeviceJob {
+        match job {
+            Ok(events) => DeviceJob { number: 0, place: 0, events },
+            Err(Fault { why, place }) => DeviceJob { number: u8::from(why), place, events: 0 },
+        }
+    }
+}
+
 // 25 and 26; where one refuses, no byte of the space changes. Else the events' records stand at its start, and the bytes after
 // them stay.
 #[unsafe(no_mangle)]
@@ -21,10 +33,5 @@ pub extern "C" fn recorder_read_job(text: &[u8], space: &mut [u8]) -> DeviceJob
     ensures value { result ≡ job_spelled (job_of text.now space.old).answer }
     ensures space_after { space.new ≡ (job_of text.now space.old).space }
 {
-    let job = jobs::read_job(text, space);
-    DeviceJob {
-        number: verdict_number(job.verdict),
-        place: verdict_place(job.verdict),
-        events: job.events,
-    }
+    DeviceJob::from(jobs::read_job(text, space))
 }

@@ -1,10 +1,11 @@
 // RULES 6.3: a thin loader over a lent table, which hands the numbers of its records to the plan check.
 ghost use Rattle.std.specs.Prelude.{◌≡◌};
-ghost use Rattle.rules.specs.Books.Load.{load_of};
+ghost use Rattle.rules.specs.Books.Load.{load_of, loaded_with};
 ghost use Rattle.device.specs.Table.{numbers_of};
 
-use rules::answer::Loaded;
+use rules::answer::Fault;
 use rules::capacity::MAX_TASKS;
+use rules::plan::Plan;
 
 // One more than a plan may have: enough to see that there are too many.
 const ROOM: usize = MAX_TASKS + 1;
@@ -30,8 +31,8 @@ impl TaskRecord {
 
 // The plan of a table of records with its locks and uses, or the first offender of 2,
 // 4 to 7 and 24.
-pub fn load_table(tasks: &[TaskRecord], locks: &[u32], uses: &[u16]) -> Loaded
-    ensures { result ≡ load_of (numbers_of tasks.now) locks.now uses.now }
+pub fn load_table(tasks: &[TaskRecord], locks: &[u32], uses: &[u16]) -> Result<Plan, Fault>
+    ensures { loaded_with result ≡ load_of (numbers_of tasks.now) locks.now uses.now }
 {
     let seen = &tasks[..tasks.len().min(ROOM)];
     let mut numbers = [0u16; ROOM];

@@ -1,9 +1,9 @@
 // RULES 6.5, 6.6: a book written from its records.
-ghost use Rattle.std.specs.Prelude.{◌≡◌};
-ghost use Rattle.rules.specs.Books.Write.{write_of};
+ghost use Rattle.std.specs.Prelude.{◌≡◌, List, ℕ};
+ghost use Rattle.rules.specs.Books.Write.{write_of, wrote_with};
 ghost use Rattle.device.specs.Device.{write_spelled};
 
-use rules::answer::{verdict_number, verdict_place};
+use rules::answer::Fault;
 
 // The refusal's number and place; the book's length, 0 beside a refusal.
 #[repr(C)]
@@ -12,6 +12,18 @@ pub struct DeviceWrite {
     pub number: u8,
     pub place: usize,
     pub length: usize,
+}
+
+impl From<Result<usize, Fault>> for DeviceWrite {
+    ghost from_gives = { λ r d. (bytes : List ℕ) → d ≡ write_spelled (wrote_with r bytes) };
+
+    #[tactic(auto, unfolding(rules::specs::Books::Write::wrote_with, rules::specs::Numbers::Answer::verdict_number, rules::specs::Numbers::Answer::verdict_place))]
+    fn from(written: Result<usize, Fault>) -> DeviceWrite {
+        match written {
+            Ok(length) => DeviceWrite { number: 0, place: 0, length },
+            Err(Fault { why, place }) => DeviceWrite { number: u8::from(why), place, length: 0 },
+        }
+    }
 }
 
 // 2, 4 to 7, 24, 8 and 23; where one refuses, no byte of the buffer changes. Else the book stands at its
@@ -28,10 +40,5 @@ pub extern "C" fn recorder_write(
     ensures buffer_after { buffer.new ≡ (write_of tasks.now locks.now uses.now events.now
         buffer.old).bytes }
 {
-    let written = book::writer::write(tasks, locks, uses, events, buffer);
-    DeviceWrite {
-        number: verdict_number(written.verdict),
-        place: verdict_place(written.verdict),
-        length: written.length,
-    }
+    DeviceWrite::from(book::writer::write(tasks, locks, uses, events, buffer))
 }

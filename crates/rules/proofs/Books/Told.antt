@@ -1,6 +1,6 @@
 -- A load, a check and a writing in memory come to one answer of the code: two answers that come to the same are equal. Assumes nothing.
 use Rattle.std.specs.Prelude.{Result, Ok, Err}
-use mathlib.Core.Path.{◌≡◌, sym, ap}
+use mathlib.Core.Path.{◌≡◌, refl, sym, ap}
 use mathlib.Core.List.{List}
 use Prim.Native.Nat.{ℕ}
 use native.Mathlib.Omega.{arith}
@@ -39,3 +39,9 @@ wrote_same (Ok n) (Ok m) x y e = (ap (λ (w : Wrote). Ok w.length) e, ap (λ (w 
 wrote_same (Ok n) (Err g) x y e = apart g (ap (λ (w : Wrote). w.verdict) e)
 wrote_same (Err f) (Ok m) x y e = apart f (sym (ap (λ (w : Wrote). w.verdict) e))
 wrote_same (Err f) (Err g) x y e = (ap (λ (h : Fault). Err h) (fault_same f g (ap (λ (w : Wrote). w.verdict) e)), ap (λ (w : Wrote). w.bytes) e)
+
+-- the bytes beside an answer of the writer are those that it leaves
+pub wrote_bytes : (r : Result ℕ Fault) (x : List ℕ) → (wrote_with r x).bytes ≡ x
+unfolding wrote_with
+wrote_bytes (Ok n) x = refl
+wrote_bytes (Err f) x = refl

@@ -3,70 +3,31 @@ use Rattle.rules.specs.Schedulers.Lazy.{lazy_call}
 use Rattle.kernel.proofs.EventLaws.{acquire_stands, work_stands, ticked_stands}
 use Rattle.kernel.proofs.act.accept.Goals as goal
 
-pub release-requires : goal.release-requires
-release-requires c = rw c.in-Release.is at c.requires
-
 pub returns-in-Release-clause-call : goal.returns-in-Release-clause-call
 unfolding lazy_call
 returns-in-Release-clause-call c = rw c.in-Release.is
-
-pub returns-in-Release-clause-state_after : goal.returns-in-Release-clause-state_after
-returns-in-Release-clause-state_after c = rw c.in-Release.is (c.release.ensures.state_after)
-
-pub acquire-requires : goal.acquire-requires
-acquire-requires c = rw c.in-Acquire.is at c.requires.0
 
 pub returns-in-Acquire-clause-call : goal.returns-in-Acquire-clause-call
 unfolding lazy_call
 returns-in-Acquire-clause-call c = rw c.in-Acquire.is
 
-pub returns-in-Acquire-clause-state_after : goal.returns-in-Acquire-clause-state_after
-returns-in-Acquire-clause-state_after c = rw c.in-Acquire.is (c.acquire.ensures c.args.protocol)
-
 pub returns-in-Acquire-clause-tree_after : goal.returns-in-Acquire-clause-tree_after
 returns-in-Acquire-clause-tree_after c = acquire_stands _ _ _ _ _ _ c.requires.1 _ (c.acquire.ensures c.args.protocol)
-
-pub unlock-requires : goal.unlock-requires
-unlock-requires c = rw c.in-Unlock.is at c.requires
-
-pub returns-in-Unlock-clause-call : goal.returns-in-Unlock-clause-call
-returns-in-Unlock-clause-call c = rw c.in-Unlock.is c.unlock.ensures.call
-
-pub returns-in-Unlock-clause-state_after : goal.returns-in-Unlock-clause-state_after
-returns-in-Unlock-clause-state_after c = rw c.in-Unlock.is (c.unlock.ensures.state_after)
-
-pub work-requires : goal.work-requires
-work-requires c = rw c.in-Work.is at c.requires
 
 pub returns-in-Work-clause-call : goal.returns-in-Work-clause-call
 unfolding lazy_call
 returns-in-Work-clause-call c = rw c.in-Work.is
 
-pub returns-in-Work-clause-state_after : goal.returns-in-Work-clause-state_after
-returns-in-Work-clause-state_after c = rw c.in-Work.is (c.work.ensures c.args.protocol)
-
 pub returns-in-Work-clause-tree_after : goal.returns-in-Work-clause-tree_after
 returns-in-Work-clause-tree_after c = work_stands _ _ _ _ _ _ c.requires.1 _ (c.work.ensures c.args.protocol)
-
-pub finish-requires : goal.finish-requires
-finish-requires c = rw c.in-Finish.is at c.requires
 
 pub returns-in-Finish-clause-call : goal.returns-in-Finish-clause-call
 unfolding lazy_call
 returns-in-Finish-clause-call c = rw c.in-Finish.is
 
-pub returns-in-Finish-clause-state_after : goal.returns-in-Finish-clause-state_after
-returns-in-Finish-clause-state_after c = rw c.in-Finish.is (c.finish.ensures.state_after)
-
-pub tick-requires : goal.tick-requires
-tick-requires c = rw c.in-Tick.is at c.requires
-
 pub returns-in-Tick-clause-call : goal.returns-in-Tick-clause-call
 unfolding lazy_call
 returns-in-Tick-clause-call c = rw c.in-Tick.is
-
-pub returns-in-Tick-clause-state_after : goal.returns-in-Tick-clause-state_after
-returns-in-Tick-clause-state_after c = rw c.in-Tick.is (c.tick.ensures)
 
 pub returns-in-Tick-clause-tree_after : goal.returns-in-Tick-clause-tree_after
 returns-in-Tick-clause-tree_after c = ticked_stands _ _ _ _ _ _ c.requires.1 c.tick.ensures

@@ -1,19 +1,8 @@
 -- `kernel::refusals::acquire_refusal` meets its contract. Each test in its order. Assumes nothing.
-use Rattle.std.proofs.Common.{arith}
 use Rattle.rules.specs.Books.Plan.{declares}
 use Rattle.rules.specs.Schedulers.EventRefusals.{tests_of, acquire_order}
-use Rattle.kernel.proofs.Ready.{tasks_in, runs_in}
 use Rattle.kernel.proofs.TestLaws.{order}
 use Rattle.kernel.proofs.refusals.acquire_refusal.Goals as goal
-
-pub open_elsewhere-requires : goal.open_elsewhere-requires
-open_elsewhere-requires c = record { sound = c.requires; known = (c.if-plan-l.false, runs_in c.requires c.if-state.false) }
-
-pub bounds-plan-x : goal.bounds-plan-x
-bounds-plan-x c = omega (arith, runs_in c.requires c.if-state.false, tasks_in c.requires)
-
-pub bounds-state-x : goal.bounds-state-x
-bounds-state-x c = omega (arith, runs_in c.requires c.if-state.false, tasks_in c.requires)
 
 pub returns-then-state : goal.returns-then-state
 unfolding tests_of acquire_order declares

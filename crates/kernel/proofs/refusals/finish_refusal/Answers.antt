@@ -1,12 +1,7 @@
 -- `kernel::refusals::finish_refusal` meets its contract. Each test in its order. Assumes nothing.
-use Rattle.std.proofs.Common.{arith}
 use Rattle.rules.specs.Schedulers.EventRefusals.{tests_of, finish_order}
-use Rattle.kernel.proofs.Ready.{tasks_in, runs_in}
 use Rattle.kernel.proofs.TestLaws.{order}
 use Rattle.kernel.proofs.refusals.finish_refusal.Goals as goal
-
-pub bounds-state-state : goal.bounds-state-state
-bounds-state-state c = omega (arith, runs_in c.requires c.if-state.false, tasks_in c.requires)
 
 pub returns-then-state : goal.returns-then-state
 unfolding tests_of finish_order

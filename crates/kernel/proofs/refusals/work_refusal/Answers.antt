@@ -1,11 +1,7 @@
 -- `kernel::refusals::work_refusal` meets its contract. Each test in its order. Assumes nothing.
 use Rattle.rules.specs.Schedulers.EventRefusals.{tests_of, work_order}
-use Rattle.kernel.proofs.Ready.{runs_in}
 use Rattle.kernel.proofs.TestLaws.{order}
 use Rattle.kernel.proofs.refusals.work_refusal.Goals as goal
-
-pub past-requires : goal.past-requires
-past-requires c = record { sound = c.requires; known = runs_in c.requires c.if-state.false }
 
 pub returns-then-a-eq0 : goal.returns-then-a-eq0
 unfolding tests_of work_order

@@ -57,6 +57,7 @@ pub fn put_meaning_line(page: &mut Page, why: Refusal)
     page.put(b'\n');
 }
 
+// The number of a refusal, as a sentence takes it.
 pub fn number_of(why: Refusal) -> u64
     ensures { result ≡ number_of why }
 {

@@ -14,19 +14,19 @@ use rules::refusal::Refusal;
 fn low(w: u32) -> u64
     ensures { result ≡ w % 256 }
 {
-    u64::from(w % 256)
+    (w % 256) as u64
 }
 
 fn second(w: u32) -> u64
     ensures { result ≡ w / 256 % 256 }
 {
-    u64::from(w / 256 % 256)
+    (w / 256 % 256) as u64
 }
 
 fn high(w: u32) -> u64
     ensures { result ≡ w / 65536 % 65536 }
 {
-    u64::from(w / 65536)
+    (w / 65536) as u64
 }
 
 // Two numbers of one byte, with the record's number.

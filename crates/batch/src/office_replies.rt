@@ -7,6 +7,7 @@ use office::compose::compose;
 use office::explain::explain;
 use office::show::show;
 use office::space::text_room;
+use page::Page;
 use rules::protocol::Protocol;
 
 // Room for every book, and for every line.
@@ -45,6 +46,8 @@ pub fn show_reply(book: &[u8]) {
 
 pub fn explain_reply(protocol: Protocol, book: &[u8]) {
     let mut out = text_room();
-    let n = explain(protocol, book, &mut out, 0);
+    let mut page = Page::new(&mut out);
+    explain(protocol, book, &mut page);
+    let n = page.place();
     write_sized(&out, n);
 }

@@ -43,14 +43,8 @@ fn put_call_line(page: &mut Page, b: &[u8], rows: &[u8], k: usize)
 {
     let ran = running(rows, k.saturating_sub(1));
     let lock = u64::from(record_id(event(b, k)));
-    put_call(
-        page,
-        k as u64 + 1,
-        ran,
-        lock,
-        running(rows, k),
-        user(rows, k),
-    );
+    let task = running(rows, k);
+    put_call(page, k as u64 + 1, ran, lock, task, user(rows, k));
 }
 
 #[tactic(auto, using(page::proofs::Typed::typing, page::proofs::Choice::choosing), unfolding(crate::specs::Explain::call_of))]
@@ -137,12 +131,13 @@ fn facts(plan: &Plan, state: &State, w: u32) -> Facts
 
 // The refusal of an event, which is the one after those that were accepted.
 #[tactic(auto, using(page::proofs::Typed::typing), unfolding(crate::specs::Explain::stop_words))]
-fn put_stop_words(page: &mut Page, b: &[u8], plan: &Plan, state: &State, why: Refusal)
-    ensures { page.new ≡ typed page.old (stop_words b.now plan.now state.now why) }
+fn put_stop_words(page: &mut Page, b: &[u8], replayed: &Replayed, why: Refusal)
+    ensures { page.new ≡ typed page.old (stop_words b.now replayed.now.plan replayed.now.state why) }
 {
-    let accepted = state.head.accepted;
+    let accepted = replayed.state.head.accepted;
+    let w = event(b, accepted as usize);
     put_stop(page, u64::from(accepted) + 1, why);
-    put_reason(page, why, facts(plan, state, event(b, accepted as usize)));
+    put_reason(page, why, facts(&replayed.plan, &replayed.state, w));
 }
 
 // What stands at the place of 2 or 3.
@@ -201,20 +196,14 @@ fn of_book(why: Refusal) -> bool
 }
 
 #[tactic(auto, using(crate::proofs::Explaining::refusals))]
-fn put_refused_words(
-    page: &mut Page,
-    b: &[u8],
-    plan: &Plan,
-    state: &State,
-    why: Refusal,
-    place: usize,
-)
-    ensures { page.new ≡ typed page.old (refused_words b.now plan.now state.now why place) }
+fn put_refused_words(page: &mut Page, b: &[u8], replayed: &Replayed, why: Refusal, place: usize)
+    ensures { page.new ≡ typed page.old
+        (refused_words b.now replayed.now.plan replayed.now.state why place) }
 {
     if of_book(why) {
         put_book_words(page, b, why, place);
     } else {
-        put_stop_words(page, b, plan, state, why);
+        put_stop_words(page, b, replayed, why);
     }
 }
 
@@ -224,9 +213,7 @@ fn put_end_words(page: &mut Page, b: &[u8], replayed: &Replayed)
 {
     match replayed.verdict {
         Ok(()) => {}
-        Err(Fault { why, place }) => {
-            put_refused_words(page, b, &replayed.plan, &replayed.state, why, place);
-        }
+        Err(Fault { why, place }) => put_refused_words(page, b, replayed, why, place),
     }
 }
 

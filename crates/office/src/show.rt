@@ -33,7 +33,8 @@ struct Run<'a> {
     rows: &'a [u8],
 }
 
-// The first n tasks.
+// The first n tasks. Not one function for the three parts, with a closure for the line: its contract would have to say what each
+// call of the closure puts, and is longer than these loops.
 #[tactic(auto, using(page::proofs::Typed::typing, crate::proofs::Showing::lines))]
 fn put_tasks(page: &mut Page, b: &[u8], n: usize)
     ensures { page.new ≡ typed page.old (task_lines b.now n) }

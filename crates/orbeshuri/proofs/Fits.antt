@@ -31,8 +31,8 @@ use Rattle.rules.proofs.Demands.Replayed.{replayed}
 use Rattle.rules.proofs.Demands.Sizes.{place_few, few_events, row_small, lazy_few, eager_few, bound_word}
 use Rattle.report.specs.Report.{report_of}
 use Rattle.office.specs.Ran.{row_space, ran_of}
-use Rattle.orbeshuri.specs.Text.{report_space, text_of}
-use Rattle.orbeshuri.proofs.Written.{rows_room, reported, text_is, refused_text}
+use Rattle.orbeshuri.specs.Text.{report_space, reported, text_of}
+use Rattle.orbeshuri.proofs.Written.{rows_room, text_is, refused_text}
 use Rattle.orbeshuri.proofs.Length.{SmallAt, passed_long, stopped_long}
 
 -- the first n of a list whose figures are below v

@@ -2,3 +2,4 @@
 mod Written
 mod Length
 mod Fits
+mod Asking

@@ -23,7 +23,7 @@ use Rattle.rules.proofs.Books.Obeyed.{few_tasks}
 use Rattle.rules.proofs.Books.Passes.{passed_obeys}
 use Rattle.report.specs.Report.{report_of}
 use Rattle.office.specs.Ran.{row_space, ran_of}
-use Rattle.orbeshuri.specs.Text.{input_space, text_of}
+use Rattle.orbeshuri.specs.Text.{input_space, reported, text_of}
 
 -- the plan of a book, or the blank one, has no more tasks than there are places
 tasks_by : (b : List ℕ) (room : ℕ) (v : Verdict) → check_of b room ≡ v → (checked_as v b).plan.tasks ≤ max_tasks
@@ -40,11 +40,6 @@ front_length xs n e h = length-take-le n xs (omega arith)
 
 pub rows_room : length (replicate {A = ℕ} row_space 0) ≡ row_space
 rows_room = length-replicate {A = ℕ} row_space 0
-
--- what a replay answered and left in the rows, reported
-abbrev pub reported : Replayed → List ℕ → List ℕ
-reported r rows =
-    report_of r.verdict r.state.head.accepted rows r.state.head.lazy r.state.head.eager (take r.plan.tasks r.state.delay)
 
 pub text_is : (pr : Protocol) (b rows : List ℕ) (r : Replayed) → ran_as r rows ≡ ran_of pr b → r.plan ≡ (checked_of b (length (replicate {A = ℕ} row_space 0))).plan
     → reported r rows ≡ text_of pr b

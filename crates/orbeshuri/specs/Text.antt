@@ -3,6 +3,7 @@
 use Rattle.std.specs.Prelude.{List, ℕ, take}
 use Rattle.rules.specs.Books.Book.{checked_of}
 use Rattle.rules.specs.declared.protocol.Protocol.{Protocol}
+use Rattle.rules.specs.declared.answer.Replayed.{Replayed}
 use Rattle.report.specs.Report.{report_of}
 use Rattle.office.specs.Ran.{row_space, ran_of}
 
@@ -13,6 +14,11 @@ input_space = 65_536
 -- room for every text
 abbrev pub report_space : ℕ
 report_space = 262_144
+
+-- what a replay answered and left in the rows, reported
+abbrev pub reported : Replayed → List ℕ → List ℕ
+reported r rows =
+    report_of r.verdict r.state.head.accepted rows r.state.head.lazy r.state.head.eager (take r.plan.tasks r.state.delay)
 
 abbrev pub text_of : Protocol → List ℕ → List ℕ
 text_of pr b =

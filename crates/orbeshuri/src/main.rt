@@ -7,18 +7,17 @@ mod words;
 ghost use Rattle.std.specs.Prelude.{◌≡◌, ◌≤◌, min, length, take};
 ghost use Rattle.rules.specs.Numbers.Capacity.{max_tasks};
 ghost use Rattle.rules.specs.Numbers.Place.{stored};
-ghost use Rattle.report.specs.Report.{report_of};
 ghost use Rattle.io.specs.Counts.{IsPrefixLen};
 ghost use Rattle.office.specs.Explain.{explained_of};
-ghost use Rattle.orbeshuri.specs.Text.{report_space, text_of};
+ghost use Rattle.orbeshuri.specs.Text.{report_space, reported, text_of};
 
 use office::explain::explain;
 use office::space::text_room;
+use page::Page;
 use report::report;
-use rules::answer::Fault;
-use rules::capacity::{MAX_EVENTS, MAX_TASKS};
+use rules::answer::Replayed;
+use rules::capacity::MAX_EVENTS;
 use rules::protocol::Protocol;
-use rules::state::Head;
 use scheduler::replay;
 use std::env::{Env, FillError};
 use words::{Asked, asked_by};
@@ -29,30 +28,21 @@ const ROW_SPACE: usize = MAX_EVENTS * 4;
 // Room for every report, as proved: the header, a row of 20 bytes or fewer for each event, the calls and a delay for each task.
 const REPORT_SPACE: usize = 262144;
 
-// The delays of the first n tasks are reported.
-fn report_state(
-    out: &mut [u8],
-    verdict: Result<(), Fault>,
-    rows: &[u8],
-    head: Head,
-    delay: [u16; MAX_TASKS],
-    tasks: usize,
-) -> usize
-    requires { tasks ≤ max_tasks }
-    ensures out_after { out.new ≡ stored out.old 0 (report_of verdict head.accepted rows.now head.lazy head.eager
-        (take tasks delay)) }
-    ensures value { result ≡ min (length (report_of verdict head.accepted rows.now head.lazy head.eager (take tasks delay)))
-        (length out.old) }
+// The delays of the plan's tasks are reported.
+fn report_state(out: &mut [u8], replayed: &Replayed, rows: &[u8]) -> usize
+    requires { replayed.now.plan.tasks ≤ max_tasks }
+    ensures out_after { out.new ≡ stored out.old 0 (reported replayed.now rows.now) }
+    ensures value { result ≡ min (length (reported replayed.now rows.now)) (length out.old) }
 {
-    let accepted = head.accepted as usize;
+    let head = replayed.state.head;
     report(
         out,
-        verdict,
-        accepted,
+        replayed.verdict,
+        head.accepted as usize,
         rows,
         head.lazy,
         head.eager,
-        &delay[..tasks],
+        &replayed.state.delay[..replayed.plan.tasks],
     )
 }
 
@@ -66,19 +56,18 @@ fn text(protocol: Protocol, book: &[u8], out: &mut [u8]) -> usize
 {
     let mut rows = [0u8; ROW_SPACE];
     let replayed = replay(protocol, book, &mut rows);
-    let verdict = replayed.verdict;
-    let tasks = replayed.plan.tasks;
-    let head = replayed.state.head;
-    let delay = replayed.state.delay;
-    report_state(out, verdict, &rows, head, delay, tasks)
+    report_state(out, &replayed, &rows)
 }
 
-// The words for a book at the front of `out`, and how many bytes they have.
+// The words for a book at the front of `out`, cut where that ends, and how many bytes of them stand there.
+#[tactic(auto, using(page::proofs::Typed::typed_new))]
 fn words_of(protocol: Protocol, book: &[u8], out: &mut [u8]) -> usize
     ensures out_after { out.new ≡ stored out.old 0 (explained_of protocol book.now) }
-    ensures prefix_len { IsPrefixLen result out.new }
+    ensures value { result ≡ min (length (explained_of protocol book.now)) (length out.old) }
 {
-    explain(protocol, book, out, 0)
+    let mut page = Page::new(out);
+    explain(protocol, book, &mut page);
+    page.place()
 }
 
 fn write_report(protocol: Protocol, book: &[u8]) {
@@ -95,12 +84,13 @@ fn write_words(protocol: Protocol, book: &[u8]) {
 
 // RULES 15.7: the buffer is larger than the largest book. What is read of a longer input has the
 // report of all of it.
-fn report_input(protocol: Protocol, explained: bool) {
+fn report_input(asked: Asked) {
     let mut book = io::large_buffer();
     let n = io::read_full(0, &mut book);
-    write_report(protocol, &book[..n]);
-    if explained {
-        write_words(protocol, &book[..n]);
+    let book = &book[..n];
+    write_report(asked.protocol, book);
+    if asked.explained {
+        write_words(asked.protocol, book);
     }
 }
 
@@ -115,13 +105,16 @@ fn word(env: &impl Env, i: usize, out: &mut [u8]) -> usize
     }
 }
 
+// Whether there is a word i. What the host gives no contract can say.
 fn has_word(env: &impl Env, i: usize) -> bool {
     let mut out = [0u8; 8];
     !matches!(env.arg(i, &mut out), Err(FillError::NotPresent))
 }
 
 // How many words there are, the program's own name among them, but never more than 4: with so many nothing is asked for.
-fn word_count(env: &impl Env) -> usize {
+fn word_count(env: &impl Env) -> usize
+    ensures { (1 ≤ result) × (result ≤ 4) }
+{
     for i in 1..4usize {
         if !has_word(env, i) {
             return i;
@@ -137,9 +130,8 @@ fn main(rt: HostRuntime) {
     let mut two = [0u8; 8];
     let m = word(&rt, 2, &mut two);
     match asked_by(word_count(&rt), &one[..n], &two[..m]) {
-        Asked::By(protocol) => report_input(protocol, false),
-        Asked::Explain(protocol) => report_input(protocol, true),
-        Asked::Unknown => {
+        Some(asked) => report_input(asked),
+        None => {
             io::write_all(2, b"usage: orbeshuri [first] [explain] <BOOK\n");
         }
     }

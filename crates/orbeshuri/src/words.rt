@@ -1,55 +1,72 @@
 // The words that the program is started with: none for the second protocol, `first` for the first, and after that `explain`
 // where the replay is to be explained.
 ghost use Rattle.std.specs.Prelude.{◌≡◌};
-ghost use Rattle.orbeshuri.specs.Words.{by_one, by_two, asked_by};
+ghost use Rattle.orbeshuri.specs.Words.{report_by, words_by, by_one, by_two, asked_by};
 
 use rules::protocol::Protocol;
 use texts::word::same;
 
-// A report by the protocol, a report with its words, or words that ask for nothing.
+// What is asked for: a report by this protocol, and its words where it is to be explained.
 #[derive(Clone, Copy)]
-pub enum Asked {
-    By(Protocol),
-    Explain(Protocol),
-    Unknown,
+pub struct Asked {
+    pub protocol: Protocol,
+    pub explained: bool,
 }
 
-fn by_one(word: &[u8]) -> Asked
+impl Asked {
+    fn report(protocol: Protocol) -> Asked
+        ensures { result ≡ report_by protocol }
+    {
+        Asked {
+            protocol,
+            explained: false,
+        }
+    }
+
+    fn words(protocol: Protocol) -> Asked
+        ensures { result ≡ words_by protocol }
+    {
+        Asked {
+            protocol,
+            explained: true,
+        }
+    }
+}
+
+#[tactic(auto, using(crate::proofs::Asking::asking), unfolding(page::specs::Ascii::ascii))]
+fn by_one(word: &[u8]) -> Option<Asked>
     ensures { result ≡ by_one word.now }
 {
     if same(word, b"first") {
-        return Asked::By(Protocol::First);
+        Some(Asked::report(Protocol::First))
+    } else if same(word, b"explain") {
+        Some(Asked::words(Protocol::Second))
+    } else {
+        None
     }
-    if same(word, b"explain") {
-        return Asked::Explain(Protocol::Second);
-    }
-    Asked::Unknown
 }
 
-fn by_two(one: &[u8], two: &[u8]) -> Asked
+#[tactic(auto, using(crate::proofs::Asking::asking), unfolding(page::specs::Ascii::ascii))]
+fn by_two(one: &[u8], two: &[u8]) -> Option<Asked>
     ensures { result ≡ by_two one.now two.now }
 {
-    if same(one, b"first") {
-        if same(two, b"explain") {
-            return Asked::Explain(Protocol::First);
-        }
-        return Asked::Unknown;
+    if same(one, b"first") && same(two, b"explain") {
+        Some(Asked::words(Protocol::First))
+    } else {
+        None
     }
-    Asked::Unknown
 }
 
-// By how many words there are, the program's own name among them, and the first two after that name.
-pub fn asked_by(count: usize, one: &[u8], two: &[u8]) -> Asked
+// By how many words there are, the program's own name among them, and the first two after that name. None where they ask for
+// nothing.
+#[tactic(auto, using(crate::proofs::Asking::counts))]
+pub fn asked_by(count: usize, one: &[u8], two: &[u8]) -> Option<Asked>
     ensures { result ≡ asked_by count one.now two.now }
 {
-    if count <= 1 {
-        return Asked::By(Protocol::Second);
+    match count {
+        0 | 1 => Some(Asked::report(Protocol::Second)),
+        2 => by_one(one),
+        3 => by_two(one, two),
+        _ => None,
     }
-    if count == 2 {
-        return by_one(one);
-    }
-    if count == 3 {
-        return by_two(one, two);
-    }
-    Asked::Unknown
 }

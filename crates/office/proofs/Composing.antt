@@ -1,6 +1,5 @@
 -- The ways through the code that composes a book. Assumes nothing.
-use Rattle.std.specs.Prelude.{Ok, if◌then◌else◌}
-use Rattle.rules.specs.Numbers.Verdict.{Verdict, refused_at}
+use Rattle.std.specs.Prelude.{Err, Ok, if◌then◌else◌}
 use mathlib.Core.Path.{◌≡◌, sym, ◌∙◌, ap}
 use mathlib.Core.List.{List, [], ◌∷◌}
 use Prim.Native.Nat.{ℕ, zero, suc, ◌≤◌, ◌<◌}
@@ -13,7 +12,7 @@ use Rattle.rules.specs.Numbers.Place.{at}
 use Rattle.rules.specs.Numbers.Refusal.{number_of}
 use Rattle.rules.specs.Books.Plan.{most}
 use Rattle.rules.specs.Books.Write.{Wrote, write_of, wrote_with}
-use Rattle.rules.specs.declared.answer.Written.{Written}
+use Rattle.rules.specs.declared.answer.Fault.{Fault}
 use Rattle.rules.specs.declared.refusal.Refusal.{Refusal}
 use Rattle.rules.specs.declared.refusal.Refusal.TheVariants.{WrongCount, WrongTask, WrongLock, WrongCeiling, WrongEvent}
 use Rattle.rules.proofs.Numbers.Choice.{if_true, if_false}
@@ -110,19 +109,20 @@ pub ruleset records = (record_count, record_there)
 
 -- ---- the whole
 
-module _ (text buffer bytes : List ℕ) (w : Written) (h : wrote_with w bytes ≡ written (lines_of text) buffer) where
-  as_told : (v : Verdict) → w.verdict ≡ v → composed_records text buffer ≡ composed_as v (read_lines text) (wrote_with w bytes)
+module _ (text buffer bytes : List ℕ) where
+  as_told : (w : Wrote) → w ≡ written (lines_of text) buffer → composed_records text buffer ≡ composed_as w.verdict (read_lines text) w
   unfolding composed_records
-  as_told v e = rw (sym h) (ap (λ x. composed_as x (read_lines text) (wrote_with w bytes)) e)
+  as_told w h = ap (λ (x : Wrote). composed_as x.verdict (read_lines text) x) (sym h)
 
-  pub records_written : w.verdict ≡ Ok tt → composed_records text buffer ≡ record { length = w.length; bytes = bytes; said = [] }
-  unfolding composed_as
-  records_written e = as_told (Ok tt) e
+  pub records_written : (n : ℕ) → wrote_with (Ok n) bytes ≡ written (lines_of text) buffer
+      → composed_records text buffer ≡ record { length = n; bytes = bytes; said = [] }
+  unfolding composed_as wrote_with
+  records_written n h = as_told (wrote_with (Ok n) bytes) h
 
-  pub records_refused : (why : Refusal) (place : ℕ) → w.verdict ≡ refused_at why place
-      → composed_records text buffer ≡ record { length = 0; bytes = bytes; said = refused_by (read_lines text) why place }
-  unfolding composed_as
-  records_refused why place e = as_told (refused_at why place) e
+  pub records_refused : (f : Fault) → wrote_with (Err f) bytes ≡ written (lines_of text) buffer
+      → composed_records text buffer ≡ record { length = 0; bytes = bytes; said = refused_by (read_lines text) f.why f.place }
+  unfolding composed_as wrote_with
+  records_refused f h = as_told (wrote_with (Err f) bytes) h
 
 module _ (text buffer : List ℕ) where
   pub text_long : text_space < length text → compose_of text buffer ≡ unwritten buffer too_long

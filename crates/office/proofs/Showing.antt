@@ -1,6 +1,6 @@
 -- Laws of the lines of a book's text. Assumes nothing.
 use Rattle.std.specs.Prelude.{Ok, Err, if◌then◌else◌}
-use Rattle.rules.specs.Numbers.Verdict.{Verdict, refused_at}
+use Rattle.rules.specs.Numbers.Verdict.{Verdict}
 use mathlib.Core.Path.{◌≡◌, refl, sym, ◌∙◌, ap}
 use mathlib.Core.Bool.{true, false}
 use mathlib.Core.List.{List, [], ◌++◌}
@@ -11,8 +11,10 @@ use lib.ListN.{length}
 use borrow.Author.Tests.{ne_eqb, lt-leb}
 use Rattle.rules.specs.Numbers.Refusal.{number_of}
 use Rattle.rules.specs.Books.Event.{number_fault, number_event}
-use Rattle.rules.specs.Books.Book.{check_of, checked_as, checked_of}
+use Rattle.rules.specs.Books.Book.{check_of, checked_as, checked_of, checked_with}
 use Rattle.rules.specs.Books.Book.{Checked}
+use Rattle.rules.specs.declared.answer.Fault.{Fault}
+use Rattle.rules.specs.declared.answer.Opened.{Opened}
 use Rattle.rules.specs.declared.answer.Replayed.{Replayed}
 use Rattle.rules.specs.declared.protocol.Protocol.TheVariants.{Second}
 use Rattle.rules.specs.declared.refusal.Refusal.{Refusal}
@@ -113,14 +115,15 @@ pub shown_ran : (b rows : List ℕ) (s : Replayed) (p r : Page ℕ) → r ≡ ty
 unfolding shown_as
 shown_ran b rows s p r h e = h ∙ ap (λ x. typed p (parts_of b x.verdict x.state.head.accepted x.rows)) e
 
-module _ (b : List ℕ) (c : Checked) (h : c ≡ checked_of b row_space) (p r : Page ℕ) where
-  told : (v : Verdict) → c.verdict ≡ v → shown_of b ≡ shown_as v b
+module _ (b : List ℕ) (p r : Page ℕ) where
+  told : (c : Checked) → c ≡ checked_of b row_space → shown_of b ≡ shown_as c.verdict b
   unfolding shown_of
-  told v e = ap (λ x. shown_as x b) (sym (checked_verdict b (check_of b row_space)) ∙ sym (ap (λ x. x.verdict) h) ∙ e)
+  told c h = ap (λ x. shown_as x b) (sym (checked_verdict b (check_of b row_space)) ∙ sym (ap (λ (k : Checked). k.verdict) h))
 
-  pub shown_accepted : r ≡ typed p (shown_as (Ok tt) b) → c.verdict ≡ Ok tt → r ≡ typed p (shown_of b)
-  shown_accepted g e = g ∙ ap (typed p) (sym (told (Ok tt) e))
+  pub shown_accepted : (o : Opened) → checked_with (Ok o) ≡ checked_of b row_space → r ≡ typed p (shown_as (Ok tt) b) → r ≡ typed p (shown_of b)
+  unfolding checked_with
+  shown_accepted o h g = g ∙ ap (typed p) (sym (told (checked_with (Ok o)) h))
 
-  pub shown_not : (why : Refusal) (place : ℕ) → r ≡ typed p (shown_as (refused_at why place) b) → c.verdict ≡ refused_at why place
-      → r ≡ typed p (shown_of b)
-  shown_not why place g e = g ∙ ap (typed p) (sym (told (refused_at why place) e))
+  pub shown_not : (f : Fault) → checked_with (Err f) ≡ checked_of b row_space → r ≡ typed p (shown_as (Err f) b) → r ≡ typed p (shown_of b)
+  unfolding checked_with
+  shown_not f h g = g ∙ ap (typed p) (sym (told (checked_with (Err f)) h))

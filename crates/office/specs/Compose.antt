@@ -1,6 +1,6 @@
 -- RULES 19.5: the book of a text, or the line that says why there is none. Assumes nothing.
 use Rattle.std.specs.Prelude.{List, [], ◌∷◌, ℕ, eqb, ltb, length, Ok, Err, if◌then◌else◌}
-use Rattle.rules.specs.Numbers.Verdict.{Verdict, refused_at}
+use Rattle.rules.specs.Numbers.Verdict.{Verdict}
 use Rattle.rules.specs.Numbers.Refusal.{number_of}
 use Rattle.rules.specs.Books.Plan.{most}
 use Rattle.rules.specs.Books.Write.{Wrote, write_of}

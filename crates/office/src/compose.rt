@@ -14,7 +14,7 @@ use crate::space::TEXT_SPACE;
 use book::writer::write;
 use page::Page;
 use plan::count::most_of;
-use rules::answer::{Fault, Written};
+use rules::answer::Fault;
 use rules::capacity::{MAX_EVENTS, MAX_LOCKS, MAX_TASKS, MAX_USES};
 use rules::refusal::Refusal;
 use texts::lines::{First, collect, first_wrong, line_of_record};
@@ -55,7 +55,7 @@ fn write_records(
     uses: &[u32],
     events: &[u32],
     out: &mut [u8],
-) -> Written
+) -> Result<usize, Fault>
     requires small { Small tasks.now }
     requires small_2 { Small uses.now }
     requires tasks_len_bound { (length tasks.now ≤ max_tasks + 1) × (length uses.now ≤ max_uses + 1) }
@@ -94,7 +94,7 @@ fn kept<'a>(text: &[u8], part: u8, out: &'a mut [u32]) -> &'a [u32]
 }
 
 // The book of a text's records.
-fn write_text(text: &[u8], out: &mut [u8]) -> Written
+fn write_text(text: &[u8], out: &mut [u8]) -> Result<usize, Fault>
     ensures { wrote_with result out.new ≡ written (lines_of text.now) out.old }
 {
     let mut tasks = [0u32; TASK_ROOM];
@@ -175,9 +175,8 @@ fn compose_records(text: &[u8], out: &mut [u8], page: &mut Page) -> usize
     ensures out_after { out.new ≡ (composed_records text.now out.old).bytes }
     ensures page_after { page.new ≡ typed page.old (composed_records text.now out.old).said }
 {
-    let written = write_text(text, out);
-    match written.verdict {
-        Ok(()) => written.length,
+    match write_text(text, out) {
+        Ok(length) => length,
         Err(Fault { why, place }) => {
             put_refused_by(text, page, why, place);
             0

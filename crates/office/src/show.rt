@@ -1,7 +1,8 @@
 // RULES 19.7, 19.8: the text of a book.
-ghost use Rattle.std.specs.Prelude.{◌≡◌, [], ◌∷◌, ◌++◌, ◌+◌, ◌<◌, ◌^◌, min, length};
+ghost use Rattle.std.specs.Prelude.{Ok, ◌≡◌, [], ◌∷◌, ◌++◌, ◌+◌, ◌<◌, ◌^◌, min, length};
 ghost use Rattle.rules.specs.Numbers.Place.{stored};
 ghost use Rattle.rules.specs.Numbers.Refusal.{number_of};
+ghost use Rattle.rules.specs.Numbers.Verdict.{refused_at};
 ghost use Rattle.page.specs.Page.{typed};
 ghost use Rattle.page.specs.Says.{filled};
 ghost use Rattle.book.specs.Look.{entry_in};
@@ -236,8 +237,8 @@ fn put_accepted(page: &mut Page, b: &[u8])
 fn put_shown(page: &mut Page, b: &[u8])
     ensures { page.new ≡ typed page.old (shown_of b.now) }
 {
-    match book::check(b, ROW_SPACE).verdict {
-        Ok(()) => put_accepted(page, b),
+    match book::check(b, ROW_SPACE) {
+        Ok(_) => put_accepted(page, b),
         Err(Fault { why, place }) => put_refused_book(page, b, why, place),
     }
 }

@@ -8,8 +8,8 @@ pub fn reply(text: &[u8], space: &mut [u8]) {
     space.fill(0xEE);
     let job = jobs::read_job(text, space);
     let mut out = Reply::<REPLY>::new();
-    out.put_verdict(job.verdict);
-    out.put_place(job.events);
+    out.put_fault(job.err());
+    out.put_place(job.unwrap_or(0));
     out.send();
     io::write_all(1, space);
 }

@@ -21,7 +21,7 @@ mod wire;
 mod write;
 
 use office::space::text_room;
-use rules::protocol::{Protocol, named};
+use rules::protocol::Protocol;
 use wire::Input;
 
 // More bytes than the largest book and its rows have.

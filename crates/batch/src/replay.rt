@@ -15,7 +15,7 @@ pub fn reply(protocol: Protocol, book: &[u8], rows: &mut [u8]) {
     let plan = replayed.plan;
     let state = replayed.state;
     let mut out = Reply::<REPLY>::new();
-    out.put_verdict(replayed.verdict);
+    out.put_fault(replayed.verdict.err());
     out.put(&state.head.lazy.to_le_bytes());
     out.put(&state.head.eager.to_le_bytes());
     out.put(&plan.tasks.to_le_bytes()[..1]);

@@ -1,6 +1,6 @@
 // Numbers by their bytes, the lowest first. What lies past the end of the input reads as 0, and what comes past the room of a
 // reply is not sent.
-use rules::answer::{Fault, verdict_number, verdict_place};
+use rules::answer::Fault;
 
 // The bytes of a command that are still to be read.
 #[derive(Clone, Copy)]
@@ -62,10 +62,14 @@ impl<const N: usize> Reply<N> {
         self.put(&place.to_le_bytes()[..4]);
     }
 
-    // A refusal's number, or 0, and its place.
-    pub fn put_verdict(&mut self, verdict: Result<(), Fault>) {
-        self.put(&[verdict_number(verdict)]);
-        self.put_place(verdict_place(verdict));
+    // A refusal's number and its place, both 0 where there is none.
+    pub fn put_fault(&mut self, fault: Option<Fault>) {
+        let (number, place) = match fault {
+            Some(Fault { why, place }) => (u8::from(why), place),
+            None => (0, 0),
+        };
+        self.put(&[number]);
+        self.put_place(place);
     }
 
     // To standard output.

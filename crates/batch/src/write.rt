@@ -4,7 +4,7 @@
 ghost use Rattle.std.specs.Prelude.{◌+◌, ◌<◌, ◌≤◌, ◌^◌, length};
 
 use crate::wire::{Input, Reply};
-use rules::answer::Written;
+use rules::answer::Fault;
 
 // Places for tasks and uses, and for locks and events: of each kind more than two bytes can count.
 const MOST: usize = 131200;
@@ -40,8 +40,8 @@ pub fn reply(input: &[u8], buffer: &mut [u8]) -> bool {
     buffer.fill(0xEE);
     let written = write(&mut numbers, counts, &mut [0; MOST], &mut [0; MOST], buffer);
     let mut out = Reply::<REPLY>::new();
-    out.put_verdict(written.verdict);
-    out.put_place(written.length);
+    out.put_fault(written.err());
+    out.put_place(written.unwrap_or(0));
     out.send();
     io::write_all(1, buffer);
     true
@@ -60,7 +60,7 @@ fn write(
     words: &mut [u16],
     longs: &mut [u32],
     buffer: &mut [u8],
-) -> Written
+) -> Result<usize, Fault>
     requires words { counts.tasks + counts.uses ≤ length words.old }
     requires longs { counts.locks + counts.events ≤ length longs.old }
 {

@@ -11,7 +11,7 @@ const BOOK_SPACE: usize = 65536;
 // Room for every line.
 const LINE_SPACE: usize = 512;
 
-// Writes the first n bytes.
+// Writes the first n bytes. That n is no more than there are, `compose` says only through the definition of the book.
 fn write_front(fd: i32, bytes: &[u8], n: usize) {
     if n <= bytes.len() {
         io::write_all(fd, &bytes[..n]);

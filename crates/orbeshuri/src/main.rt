@@ -99,10 +99,7 @@ fn report_input(asked: Asked) {
 fn word(env: &impl Env, i: usize, out: &mut [u8]) -> usize
     ensures { IsPrefixLen result out.new }
 {
-    match env.arg(i, out) {
-        Ok(n) => n,
-        Err(_) => 0,
-    }
+    env.arg(i, out).unwrap_or(0)
 }
 
 // Whether there is a word i. What the host gives no contract can say.

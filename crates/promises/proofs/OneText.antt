@@ -7,7 +7,6 @@ use Prim.Native.Nat.{ℕ}
 use contract.Lifetimes.{Lfts}
 use Rattle.std.specs.Prelude.{Option, Result}
 use Rattle.rules.specs.declared.event.Event.{Event}
-use Rattle.page.specs.Page.{Page, page}
 use Rattle.book.specs.declared.look.Entry.{Entry}
 use Rattle.jobs.specs.Job.{ReadInto, read_with}
 use Rattle.jobs.specs.declared.Job.{Job}
@@ -15,13 +14,16 @@ use Rattle.texts.specs.declared.kind.Kind.{Kind}
 use Rattle.texts.specs.declared.number.Mistake.{Mistake}
 use Rattle.texts.specs.declared.line.Line.{Line}
 use Rattle.texts.specs.declared.lines.First.{First}
-use Rattle.office.specs.Answered.{Answered, answered}
+use Rattle.office.specs.Answered.{Answered, page, answered}
 use Rattle.office.specs.declared.compose.Made.{Made}
-use Rattle.page.proofs.put.Reads as put
-use Rattle.page.proofs.put_text.Reads as put-text
-use Rattle.page.proofs.put_number.Reads as put-number
-use Rattle.page.proofs.put_field.Reads as put-field
-use Rattle.page.proofs.put_says.Reads as put-says
+use Rattle.page.proofs.Page.new.Reads as new
+use Rattle.page.proofs.Page.at.Reads as at_lem
+use Rattle.page.proofs.Page.place.Reads as place
+use Rattle.page.proofs.Page.put.Reads as put
+use Rattle.page.proofs.Page.put_text.Reads as put-text
+use Rattle.page.proofs.Page.put_number.Reads as put-number
+use Rattle.page.proofs.Page.put_field.Reads as put-field
+use Rattle.page.proofs.Page.put_says.Reads as put-says
 use Rattle.wording.proofs.meaning.put_meaning.Reads as said-put-meaning
 use Rattle.wording.proofs.mistake.put_mistake.Reads as said-put-mistake
 use Rattle.wording.proofs.mistake.put_meaning_line.Reads as said-put-meaning-line
@@ -40,7 +42,6 @@ use Rattle.wording.proofs.record.put_entry.Reads as said-put-entry
 use Rattle.wording.proofs.reason.put_call.Reads as said-put-call
 use Rattle.wording.proofs.reason.put_stop.Reads as said-put-stop
 use Rattle.wording.proofs.reason.put_reason.Reads as said-put-reason
-use Rattle.report.proofs.row.wide8.Reads as row-wide8
 use Rattle.report.proofs.row.running.Reads as row_running
 use Rattle.report.proofs.row.user.Reads as row_user
 use Rattle.report.proofs.row.next.Reads as row_next
@@ -77,9 +78,6 @@ use Rattle.office.proofs.show.show.Reads as show
 use Rattle.office.proofs.explain.explain.Reads as explain
 
 -- ---- figures
-
-pub one_row_wide8 : (a : _) (b c : _) (r q : ℕ) → row-wide8.Post tt a r b → row-wide8.Post tt a q c → r ≡ q
-one_row_wide8 a b c r q h k = h ∙ sym k
 
 pub one_row_running : (κs : Lfts 1) (a : _) (b c : _) (r q : ℕ) → row_running.Post κs a r b → row_running.Post κs a q c → r ≡ q
 one_row_running κs a b c r q h k = h ∙ sym k
@@ -178,83 +176,90 @@ one_record_at κs a b c r q h k = h ∙ sym k
 
 -- ---- words put on a page
 
-same_page : (x y : List ℕ) (r q : ℕ) (p : Page) → page x r ≡ p → page y q ≡ p → (r ≡ q) × (x ≡ y)
-same_page x y r q p h k = let e : page x r ≡ page y q = h ∙ sym k in (ap (λ (s : Page). s.place) e, ap (λ (s : Page). s.bytes) e)
+-- of items of any type T, which t, u, v and d say can be copied
+pub one_place : (T t u v d κs : _) (a : _) (b c : _) (r q : _) → place.Post T t u v d κs a r b → place.Post T t u v d κs a q c → r ≡ q
+one_place T t u v d κs a b c r q h k = h ∙ sym k
 
-pub one_put : (κs : Lfts 1) (a : _) (b c : _) (r q : ℕ) → put.Post κs a r b → put.Post κs a q c → (r ≡ q) × (b.0.now ≡ c.0.now)
-one_put κs a b c r q h k = same_page _ _ r q _ h k
+pub one_new : (T t u v d κs : _) (a : _) (b c : _) (r q : _) → new.Post T t u v d κs a r b → new.Post T t u v d κs a q c → r ≡ q
+one_new T t u v d κs a b c r q h k = h ∙ sym k
 
-pub one_put_text : (κs : Lfts 2) (a : _) (b c : _) (r q : ℕ) → put-text.Post κs a r b → put-text.Post κs a q c → (r ≡ q) × (b.0.now ≡ c.0.now)
-one_put_text κs a b c r q h k = same_page _ _ r q _ h k
+pub one_at : (T t u v d κs : _) (a : _) (b c : _) (r q : _) → at_lem.Post T t u v d κs a r b → at_lem.Post T t u v d κs a q c → r ≡ q
+one_at T t u v d κs a b c r q h k = h ∙ sym k
 
-pub one_put_number : (κs : Lfts 1) (a : _) (b c : _) (r q : ℕ) → put-number.Post κs a r b → put-number.Post κs a q c → (r ≡ q) × (b.0.now ≡ c.0.now)
-one_put_number κs a b c r q h k = same_page _ _ r q _ h k
+pub one_put : (T t u v d κs : _) (a : _) (b c : _) (r q : _) → put.Post T t u v d κs a r b → put.Post T t u v d κs a q c → b.0.now ≡ c.0.now
+one_put T t u v d κs a b c r q h k = h ∙ sym k
 
-pub one_put_field : (κs : Lfts 1) (a : _) (b c : _) (r q : ℕ) → put-field.Post κs a r b → put-field.Post κs a q c → (r ≡ q) × (b.0.now ≡ c.0.now)
-one_put_field κs a b c r q h k = same_page _ _ r q _ h k
+pub one_put_text : (κs : _) (a : _) (b c : _) (r q : _) → put-text.Post κs a r b → put-text.Post κs a q c → b.0.now ≡ c.0.now
+one_put_text κs a b c r q h k = h ∙ sym k
 
-pub one_put_says : (κs : Lfts 3) (a : _) (b c : _) (r q : ℕ) → put-says.Post κs a r b → put-says.Post κs a q c → (r ≡ q) × (b.0.now ≡ c.0.now)
-one_put_says κs a b c r q h k = same_page _ _ r q _ h k
+pub one_put_number : (κs : _) (a : _) (b c : _) (r q : _) → put-number.Post κs a r b → put-number.Post κs a q c → b.0.now ≡ c.0.now
+one_put_number κs a b c r q h k = h ∙ sym k
 
-pub one_said_put_meaning : (κs : Lfts 1) (a : _) (b c : _) (r q : ℕ) → said-put-meaning.Post κs a r b → said-put-meaning.Post κs a q c → (r ≡ q) × (b.0.now ≡ c.0.now)
-one_said_put_meaning κs a b c r q h k = same_page _ _ r q _ h k
+pub one_put_field : (κs : _) (a : _) (b c : _) (r q : _) → put-field.Post κs a r b → put-field.Post κs a q c → b.0.now ≡ c.0.now
+one_put_field κs a b c r q h k = h ∙ sym k
 
-pub one_said_put_mistake : (κs : Lfts 1) (a : _) (b c : _) (r q : ℕ) → said-put-mistake.Post κs a r b → said-put-mistake.Post κs a q c → (r ≡ q) × (b.0.now ≡ c.0.now)
-one_said_put_mistake κs a b c r q h k = same_page _ _ r q _ h k
+pub one_put_says : (κs : _) (a : _) (b c : _) (r q : _) → put-says.Post κs a r b → put-says.Post κs a q c → b.0.now ≡ c.0.now
+one_put_says κs a b c r q h k = h ∙ sym k
 
-pub one_said_put_meaning_line : (κs : Lfts 1) (a : _) (b c : _) (r q : ℕ) → said-put-meaning-line.Post κs a r b → said-put-meaning-line.Post κs a q c → (r ≡ q) × (b.0.now ≡ c.0.now)
-one_said_put_meaning_line κs a b c r q h k = same_page _ _ r q _ h k
+pub one_said_put_meaning : (κs : _) (a : _) (b c : _) (r q : _) → said-put-meaning.Post κs a r b → said-put-meaning.Post κs a q c → b.0.now ≡ c.0.now
+one_said_put_meaning κs a b c r q h k = h ∙ sym k
 
-pub one_said_put_refusal : (κs : Lfts 1) (a : _) (b c : _) (r q : ℕ) → said-put-refusal.Post κs a r b → said-put-refusal.Post κs a q c → (r ≡ q) × (b.0.now ≡ c.0.now)
-one_said_put_refusal κs a b c r q h k = same_page _ _ r q _ h k
+pub one_said_put_mistake : (κs : _) (a : _) (b c : _) (r q : _) → said-put-mistake.Post κs a r b → said-put-mistake.Post κs a q c → b.0.now ≡ c.0.now
+one_said_put_mistake κs a b c r q h k = h ∙ sym k
 
-pub one_said_put_refusal_at : (κs : Lfts 1) (a : _) (b c : _) (r q : ℕ) → said-put-refusal-at.Post κs a r b → said-put-refusal-at.Post κs a q c → (r ≡ q) × (b.0.now ≡ c.0.now)
-one_said_put_refusal_at κs a b c r q h k = same_page _ _ r q _ h k
+pub one_said_put_meaning_line : (κs : _) (a : _) (b c : _) (r q : _) → said-put-meaning-line.Post κs a r b → said-put-meaning-line.Post κs a q c → b.0.now ≡ c.0.now
+one_said_put_meaning_line κs a b c r q h k = h ∙ sym k
 
-pub one_said_put_task : (κs : Lfts 1) (a : _) (b c : _) (r q : ℕ) → said-put-task.Post κs a r b → said-put-task.Post κs a q c → (r ≡ q) × (b.0.now ≡ c.0.now)
-one_said_put_task κs a b c r q h k = same_page _ _ r q _ h k
+pub one_said_put_refusal : (κs : _) (a : _) (b c : _) (r q : _) → said-put-refusal.Post κs a r b → said-put-refusal.Post κs a q c → b.0.now ≡ c.0.now
+one_said_put_refusal κs a b c r q h k = h ∙ sym k
 
-pub one_said_put_use : (κs : Lfts 1) (a : _) (b c : _) (r q : ℕ) → said-put-use.Post κs a r b → said-put-use.Post κs a q c → (r ≡ q) × (b.0.now ≡ c.0.now)
-one_said_put_use κs a b c r q h k = same_page _ _ r q _ h k
+pub one_said_put_refusal_at : (κs : _) (a : _) (b c : _) (r q : _) → said-put-refusal-at.Post κs a r b → said-put-refusal-at.Post κs a q c → b.0.now ≡ c.0.now
+one_said_put_refusal_at κs a b c r q h k = h ∙ sym k
 
-pub one_said_put_lock : (κs : Lfts 1) (a : _) (b c : _) (r q : ℕ) → said-put-lock.Post κs a r b → said-put-lock.Post κs a q c → (r ≡ q) × (b.0.now ≡ c.0.now)
-one_said_put_lock κs a b c r q h k = same_page _ _ r q _ h k
+pub one_said_put_task : (κs : _) (a : _) (b c : _) (r q : _) → said-put-task.Post κs a r b → said-put-task.Post κs a q c → b.0.now ≡ c.0.now
+one_said_put_task κs a b c r q h k = h ∙ sym k
 
-pub one_said_put_event : (κs : Lfts 1) (a : _) (b c : _) (r q : ℕ) → said-put-event.Post κs a r b → said-put-event.Post κs a q c → (r ≡ q) × (b.0.now ≡ c.0.now)
-one_said_put_event κs a b c r q h k = same_page _ _ r q _ h k
+pub one_said_put_use : (κs : _) (a : _) (b c : _) (r q : _) → said-put-use.Post κs a r b → said-put-use.Post κs a q c → b.0.now ≡ c.0.now
+one_said_put_use κs a b c r q h k = h ∙ sym k
 
-pub one_said_put_no_event : (κs : Lfts 1) (a : _) (b c : _) (r q : ℕ) → said-put-no-event.Post κs a r b → said-put-no-event.Post κs a q c → (r ≡ q) × (b.0.now ≡ c.0.now)
-one_said_put_no_event κs a b c r q h k = same_page _ _ r q _ h k
+pub one_said_put_lock : (κs : _) (a : _) (b c : _) (r q : _) → said-put-lock.Post κs a r b → said-put-lock.Post κs a q c → b.0.now ≡ c.0.now
+one_said_put_lock κs a b c r q h k = h ∙ sym k
 
-pub one_said_put_ran : (κs : Lfts 1) (a : _) (b c : _) (r q : ℕ) → said-put-ran.Post κs a r b → said-put-ran.Post κs a q c → (r ≡ q) × (b.0.now ≡ c.0.now)
-one_said_put_ran κs a b c r q h k = same_page _ _ r q _ h k
+pub one_said_put_event : (κs : _) (a : _) (b c : _) (r q : _) → said-put-event.Post κs a r b → said-put-event.Post κs a q c → b.0.now ≡ c.0.now
+one_said_put_event κs a b c r q h k = h ∙ sym k
 
-pub one_said_put_refused : (κs : Lfts 1) (a : _) (b c : _) (r q : ℕ) → said-put-refused.Post κs a r b → said-put-refused.Post κs a q c → (r ≡ q) × (b.0.now ≡ c.0.now)
-one_said_put_refused κs a b c r q h k = same_page _ _ r q _ h k
+pub one_said_put_no_event : (κs : _) (a : _) (b c : _) (r q : _) → said-put-no-event.Post κs a r b → said-put-no-event.Post κs a q c → b.0.now ≡ c.0.now
+one_said_put_no_event κs a b c r q h k = h ∙ sym k
 
-pub one_said_put_unreached : (κs : Lfts 1) (a : _) (b c : _) (r q : ℕ) → said-put-unreached.Post κs a r b → said-put-unreached.Post κs a q c → (r ≡ q) × (b.0.now ≡ c.0.now)
-one_said_put_unreached κs a b c r q h k = same_page _ _ r q _ h k
+pub one_said_put_ran : (κs : _) (a : _) (b c : _) (r q : _) → said-put-ran.Post κs a r b → said-put-ran.Post κs a q c → b.0.now ≡ c.0.now
+one_said_put_ran κs a b c r q h k = h ∙ sym k
 
-pub one_said_put_size : (κs : Lfts 1) (a : _) (b c : _) (r q : ℕ) → said-put-size.Post κs a r b → said-put-size.Post κs a q c → (r ≡ q) × (b.0.now ≡ c.0.now)
-one_said_put_size κs a b c r q h k = same_page _ _ r q _ h k
+pub one_said_put_refused : (κs : _) (a : _) (b c : _) (r q : _) → said-put-refused.Post κs a r b → said-put-refused.Post κs a q c → b.0.now ≡ c.0.now
+one_said_put_refused κs a b c r q h k = h ∙ sym k
 
-pub one_said_put_entry : (κs : Lfts 1) (a : _) (b c : _) (r q : ℕ) → said-put-entry.Post κs a r b → said-put-entry.Post κs a q c → (r ≡ q) × (b.0.now ≡ c.0.now)
-one_said_put_entry κs a b c r q h k = same_page _ _ r q _ h k
+pub one_said_put_unreached : (κs : _) (a : _) (b c : _) (r q : _) → said-put-unreached.Post κs a r b → said-put-unreached.Post κs a q c → b.0.now ≡ c.0.now
+one_said_put_unreached κs a b c r q h k = h ∙ sym k
 
-pub one_said_put_call : (κs : Lfts 1) (a : _) (b c : _) (r q : ℕ) → said-put-call.Post κs a r b → said-put-call.Post κs a q c → (r ≡ q) × (b.0.now ≡ c.0.now)
-one_said_put_call κs a b c r q h k = same_page _ _ r q _ h k
+pub one_said_put_size : (κs : _) (a : _) (b c : _) (r q : _) → said-put-size.Post κs a r b → said-put-size.Post κs a q c → b.0.now ≡ c.0.now
+one_said_put_size κs a b c r q h k = h ∙ sym k
 
-pub one_said_put_stop : (κs : Lfts 1) (a : _) (b c : _) (r q : ℕ) → said-put-stop.Post κs a r b → said-put-stop.Post κs a q c → (r ≡ q) × (b.0.now ≡ c.0.now)
-one_said_put_stop κs a b c r q h k = same_page _ _ r q _ h k
+pub one_said_put_entry : (κs : _) (a : _) (b c : _) (r q : _) → said-put-entry.Post κs a r b → said-put-entry.Post κs a q c → b.0.now ≡ c.0.now
+one_said_put_entry κs a b c r q h k = h ∙ sym k
 
-pub one_said_put_reason : (κs : Lfts 1) (a : _) (b c : _) (r q : ℕ) → said-put-reason.Post κs a r b → said-put-reason.Post κs a q c → (r ≡ q) × (b.0.now ≡ c.0.now)
-one_said_put_reason κs a b c r q h k = same_page _ _ r q _ h k
+pub one_said_put_call : (κs : _) (a : _) (b c : _) (r q : _) → said-put-call.Post κs a r b → said-put-call.Post κs a q c → b.0.now ≡ c.0.now
+one_said_put_call κs a b c r q h k = h ∙ sym k
 
-pub one_collect : (κs : Lfts 2) (a : _) (b c : _) (r q : ℕ) → collect.Post κs a r b → collect.Post κs a q c → (r ≡ q) × (b.1.1.0.now ≡ c.1.1.0.now)
-one_collect κs a b c r q h k = same_page _ _ r q _ h k
+pub one_said_put_stop : (κs : _) (a : _) (b c : _) (r q : _) → said-put-stop.Post κs a r b → said-put-stop.Post κs a q c → b.0.now ≡ c.0.now
+one_said_put_stop κs a b c r q h k = h ∙ sym k
 
-pub one_explain : (κs : Lfts 2) (a : _) (b c : _) (r q : ℕ) → explain.Post κs a r b → explain.Post κs a q c → (r ≡ q) × (b.1.1.0.now ≡ c.1.1.0.now)
-one_explain κs a b c r q h k = same_page _ _ r q _ h k
+pub one_said_put_reason : (κs : _) (a : _) (b c : _) (r q : _) → said-put-reason.Post κs a r b → said-put-reason.Post κs a q c → b.0.now ≡ c.0.now
+one_said_put_reason κs a b c r q h k = h ∙ sym k
+
+pub one_collect : (κs : _) (a : _) (b c : _) (r q : _) → collect.Post κs a r b → collect.Post κs a q c → b.1.1.0.now ≡ c.1.1.0.now
+one_collect κs a b c r q h k = h ∙ sym k
+
+pub one_explain : (κs : _) (a : _) (b c : _) (r q : _) → explain.Post κs a r b → explain.Post κs a q c → b.1.1.0.now ≡ c.1.1.0.now
+one_explain κs a b c r q h k = h ∙ sym k
 
 pub one_show : (κs : Lfts 2) (a : _) (b c : _) (r q : ℕ) → show.Post κs a r b → show.Post κs a q c → (r ≡ q) × (b.1.0.now ≡ c.1.0.now)
 one_show κs a b c r q h k = (h.1 ∙ sym k.1, h.0 ∙ sym k.0)

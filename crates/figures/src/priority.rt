@@ -1,8 +1,8 @@
 // RULES 1.11: the two kinds of priority, words of user space and records of the kernel. Here alone a
-// number of the one kind becomes one of the other, meets it, or becomes a byte of a table and comes
-// back: tables are lent, and what is lent holds plain numbers. These are functions and no `From` of the
-// types, so that whoever changes the kind has to name this module.
-ghost use Rattle.std.specs.Prelude.{◌≡◌, max, eqb, leb, ltb};
+// number of the one kind becomes one of the other or meets it; and a byte of a table becomes one of
+// either, or comes back. These are functions and no `From` of the types, so that whoever changes the kind
+// has to name this module. Priorities of one kind are compared as they are.
+ghost use Rattle.std.specs.Prelude.{◌≡◌, leb, ltb};
 ghost use Rattle.rules.specs.Schedulers.Lazy.{calls_for, cut_to};
 
 use rules::priority::{KernelPriority, UserPriority};
@@ -61,13 +61,6 @@ pub fn at_most(k: KernelPriority, user: UserPriority) -> bool
     k.0 <= user.0
 }
 
-// Whether one record is strictly above another.
-pub fn exceeds(a: KernelPriority, b: KernelPriority) -> bool
-    ensures { result ≡ ltb b.0 a.0 }
-{
-    a > b
-}
-
 // The rule for a call: the word put back is strictly below the second word.
 #[tactic(auto, unfolding(rules::specs::Schedulers::Lazy::calls_for))]
 pub fn calls_for(back: UserPriority, next: KernelPriority) -> bool
@@ -81,30 +74,4 @@ pub fn cut_to(maximum: KernelPriority, user: UserPriority) -> UserPriority
     ensures { result.0 ≡ cut_to maximum.0 user.0 }
 {
     shown(maximum).min(user)
-}
-
-// The greater of two words, and of two records.
-pub fn raised(a: UserPriority, b: UserPriority) -> UserPriority
-    ensures { result.0 ≡ max a.0 b.0 }
-{
-    a.max(b)
-}
-
-pub fn higher(a: KernelPriority, b: KernelPriority) -> KernelPriority
-    ensures { result.0 ≡ max a.0 b.0 }
-{
-    a.max(b)
-}
-
-// Whether two words, or two records, are the same.
-pub fn same_word(a: UserPriority, b: UserPriority) -> bool
-    ensures { result ≡ eqb a.0 b.0 }
-{
-    a == b
-}
-
-pub fn same_record(a: KernelPriority, b: KernelPriority) -> bool
-    ensures { result ≡ eqb a.0 b.0 }
-{
-    a == b
 }

@@ -45,27 +45,3 @@ pub fn spare<T: Figure>(xs: &[T], n: usize) -> bool
     let rest = &xs[n.min(xs.len())..];
     rest.iter().fold(zero, |joined, &x| joined | x) == zero
 }
-
-pub fn spare8(xs: &[u8], n: usize) -> bool
-    ensures { result ≡ zeros (drop n xs.now) }
-{
-    spare(xs, n)
-}
-
-pub fn spare16(xs: &[u16], n: usize) -> bool
-    ensures { result ≡ zeros (drop n xs.now) }
-{
-    spare(xs, n)
-}
-
-pub fn spare32(xs: &[u32], n: usize) -> bool
-    ensures { result ≡ zeros (drop n xs.now) }
-{
-    spare(xs, n)
-}
-
-pub fn spare64(xs: &[u64], n: usize) -> bool
-    ensures { result ≡ zeros (drop n xs.now) }
-{
-    spare(xs, n)
-}

@@ -8,7 +8,7 @@ ghost use Rattle.plan.specs.Shared.{SharedLocks};
 use crate::ceilings::shared_locks;
 use crate::walk::users_of;
 use figures::mask::has_bit;
-use figures::spare::{spare8, spare16, spare32};
+use figures::spare::spare;
 use rules::plan::Plan;
 
 #[tactic(auto, using(crate::proofs::Tests::task_said))]
@@ -53,9 +53,9 @@ pub fn locks_obey(p: &Plan) -> bool
 pub fn spare_obeys(p: &Plan) -> bool
     ensures { result ≡ spare_obeys p.now }
 {
-    spare8(&p.base, p.tasks)
-        && spare8(&p.maximum, p.tasks)
-        && spare32(&p.uses, p.tasks)
-        && spare8(&p.ceiling, p.locks)
-        && spare16(&p.limit, p.locks)
+    spare(&p.base, p.tasks)
+        && spare(&p.maximum, p.tasks)
+        && spare(&p.uses, p.tasks)
+        && spare(&p.ceiling, p.locks)
+        && spare(&p.limit, p.locks)
 }

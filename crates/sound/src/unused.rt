@@ -2,7 +2,7 @@
 ghost use Rattle.std.specs.Prelude.{◌≡◌};
 ghost use Rattle.rules.specs.Soundness.SoundTest.{spare_test};
 
-use figures::spare::{spare8, spare16, spare32, spare64};
+use figures::spare::spare;
 use rules::plan::Plan;
 use rules::state::State;
 
@@ -10,12 +10,12 @@ use rules::state::State;
 pub fn unused_sound(p: &Plan, s: &State) -> bool
     ensures { result ≡ spare_test p.now s.now }
 {
-    spare32(&s.released, p.tasks)
-        && spare8(&s.kept, p.tasks)
-        && spare16(&s.delay, p.tasks)
-        && spare8(&s.depth, p.tasks)
-        && spare64(&s.takes, p.tasks)
-        && spare64(&s.saved, p.tasks)
-        && spare16(&s.units, p.locks)
-        && spare8(&s.owner, p.locks)
+    spare(&s.released, p.tasks)
+        && spare(&s.kept, p.tasks)
+        && spare(&s.delay, p.tasks)
+        && spare(&s.depth, p.tasks)
+        && spare(&s.takes, p.tasks)
+        && spare(&s.saved, p.tasks)
+        && spare(&s.units, p.locks)
+        && spare(&s.owner, p.locks)
 }

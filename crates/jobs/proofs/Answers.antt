@@ -15,6 +15,7 @@ use Rattle.rules.specs.declared.refusal.Refusal.{Refusal}
 use Rattle.rules.specs.declared.refusal.Refusal.TheVariants.{WrongJob, ShortSpace}
 use Rattle.rules.proofs.Numbers.Choice.{if_true, if_false, by_test}
 use Rattle.rules.proofs.Numbers.Stored.{stored_front}
+use Rattle.rules.proofs.Books.Told.{apart, fault_same}
 use Rattle.rules.proofs.Books.ReadBack.{long_size}
 use Rattle.rules.specs.declared.answer.Fault.{Fault}
 use Rattle.jobs.specs.Reader.{Answer, read_job}
@@ -151,3 +152,12 @@ module _ (text s : List ℕ) where
   read_passed s' o n h g =
       ap (λ a. read_with a s') h
       ∙ ap (read_with (job_answer text (length s))) (by_answer s' o g (read_job text) refl (ap (λ (j : Job). j.verdict) (sym h)))
+
+-- ---- two answers that come to the same are equal
+
+pub job_same : (r q : Result ℕ Fault) → job_with r ≡ job_with q → r ≡ q
+unfolding job_with
+job_same (Ok n) (Ok m) e = ap (λ (j : Job). Ok j.events) e
+job_same (Ok n) (Err g) e = apart g (ap (λ (j : Job). j.verdict) e)
+job_same (Err f) (Ok m) e = apart f (sym (ap (λ (j : Job). j.verdict) e))
+job_same (Err f) (Err g) e = ap (λ (h : Fault). Err h) (fault_same f g (ap (λ (j : Job). j.verdict) e))

@@ -48,7 +48,7 @@ book_of_refused =
 
 printed : (text_of Second book ≡ block) × (text_of First book ≡ block_by_first) × (text_of Second book_of_refused ≡ block_of_refused)
 unfolding book block block_by_first book_of_refused block_of_refused
-    if◌then◌else◌ all_true every any count greatest first_from from renewed zeros number_of first_true found first_fault event_fault event_of has_bit
+    all_true every any count greatest first_from from renewed zeros number_of first_true found first_fault event_fault event_of has_bit
     with_bit most count_fault task_fault lock_fault declares users users_base users_fault ceiling_fault maximum_fault above_fault task_fault_at lock_fault_at count_fault_of
     use_fault use_above masks_of plan_of
     record_checks load_checks size_of body_at layout_fault contents_checks event_checks check_of checked_as

@@ -1,5 +1,5 @@
 -- What is promised of the reading of a job, said of the code. Assumes nothing.
-use Rattle.std.specs.Prelude.{Ok}
+use Rattle.std.specs.Prelude.{Result, Ok}
 use Rattle.rules.specs.Numbers.Verdict.{Verdict, refused_at}
 use mathlib.Core.Path.{◌≡◌, sym, ◌∙◌, ap}
 use mathlib.Core.List.{List}
@@ -8,9 +8,9 @@ use contract.Lifetimes.{Lfts}
 use lib.ListN.{length}
 use Rattle.rules.specs.declared.refusal.Refusal.TheVariants.{WrongJob, ShortSpace}
 use Rattle.jobs.specs.Grammar.{events_of}
-use Rattle.jobs.specs.Job.{job_verdict, job_answer, ReadInto, read_with, with_events, job_of}
+use Rattle.jobs.specs.Job.{Job, job_with, job_verdict, job_answer, ReadInto, read_with, with_events, job_of}
 use Rattle.jobs.specs.Promised.{AcceptsTheGrammar}
-use Rattle.jobs.specs.declared.Job.{Job}
+use Rattle.rules.specs.declared.answer.Fault.{Fault}
 use Rattle.jobs.proofs.Kept.{jobs_kept}
 use Rattle.jobs.proofs.read_job.Reads as read-job
 use Rattle.promises.specs.Jobs.{JobRead}
@@ -39,5 +39,5 @@ module _ (text space : List ℕ) (r : Job) (after : List ℕ) (h : read_with r a
     placed = λ n e. kept.placed text (length space) n (sym told ∙ e);
   }
 
-pub job_keeps : (κs : Lfts 2) (a : _) (b : _) (r : Job) → read-job.Post κs a r b → JobRead a.0.now a.1.0.now r b.1.0.now
-job_keeps κs a b r h = keeps a.0.now a.1.0.now r b.1.0.now h
+pub job_keeps : (κs : Lfts 2) (a : _) (b : _) (r : Result ℕ Fault) → read-job.Post κs a r b → JobRead a.0.now a.1.0.now (job_with r) b.1.0.now
+job_keeps κs a b r h = keeps a.0.now a.1.0.now (job_with r) b.1.0.now h

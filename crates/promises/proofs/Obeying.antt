@@ -5,12 +5,15 @@ use mathlib.Core.Bool.{true}
 use mathlib.Core.List.{List}
 use Prim.Native.Nat.{ℕ, ◌≤◌, ◌<◌}
 use contract.Lifetimes.{Lfts}
+use Rattle.std.specs.Prelude.{Result}
 use Rattle.rules.specs.Numbers.Answer.{verdict_number}
 use Rattle.rules.specs.Numbers.Place.{at}
 use Rattle.rules.specs.Books.Plan.{declares, Shared, Obeys}
-use Rattle.rules.specs.Books.Load.{load_of}
+use Rattle.rules.specs.Books.Load.{load_of, loaded_with}
 use Rattle.rules.specs.declared.plan.Plan.{Plan}
-use Rattle.rules.specs.Books.Book.{Checked}
+use Rattle.rules.specs.Books.Book.{Checked, checked_with}
+use Rattle.rules.specs.declared.answer.Fault.{Fault}
+use Rattle.rules.specs.declared.answer.Opened.{Opened}
 use Rattle.rules.specs.Books.Load.{Loaded}
 use Rattle.device.specs.Table.{numbers_of}
 use Rattle.device.specs.Device.{load_spelled}
@@ -25,11 +28,11 @@ use Rattle.plan.proofs.obeys.Reads as obeys
 use Rattle.book.proofs.check.Reads as check
 use Rattle.device.proofs.check.recorder_check.Reads as recorder-check
 
-pub load_obeys : (κs : Lfts 3) (a : _) (b : _) (r : Loaded) → load.Post κs a r b → verdict_number r.verdict ≡ 0 → Obeys r.plan
+pub load_obeys : (κs : Lfts 3) (a : _) (b : _) (r : Result Plan Fault) → load.Post κs a r b → verdict_number (loaded_with r).verdict ≡ 0 → Obeys (loaded_with r).plan
 load_obeys κs a b r h = subst (λ (l : Loaded). verdict_number l.verdict ≡ 0 → Obeys l.plan) (sym h)
     (demand1.load a.0.now a.1.0.now a.1.1.0.now).obeys
 
-pub check_obeys : (κs : Lfts 1) (a : _) (b : _) (r : Checked) → check.Post κs a r b → verdict_number r.verdict ≡ 0 → Obeys r.plan
+pub check_obeys : (κs : Lfts 1) (a : _) (b : _) (r : Result Opened Fault) → check.Post κs a r b → verdict_number (checked_with r).verdict ≡ 0 → Obeys (checked_with r).plan
 check_obeys κs a b r h = subst (λ (c : Checked). verdict_number c.verdict ≡ 0 → Obeys c.plan) (sym h) (demand1.check a.0.now a.1.0).obeys
 
 pub obeys_obeys : (p : Plan) (r : _) → obeys.Post tt (p, tt) r (p, tt) → r ≡ true → Obeys p

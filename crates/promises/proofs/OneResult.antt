@@ -5,6 +5,7 @@ use mathlib.Core.Bool.{Bool}
 use mathlib.Core.List.{List}
 use Prim.Native.Nat.{ℕ}
 use contract.Lifetimes.{Lfts}
+use Rattle.std.specs.Prelude.{Result}
 use Rattle.rules.specs.Books.Write.{Wrote, wrote_with}
 use Rattle.rules.specs.Numbers.Verdict.{Answer}
 use Rattle.rules.specs.Replays.Run.{Ran}
@@ -15,12 +16,12 @@ use Rattle.rules.specs.declared.state.State.{State}
 use Rattle.rules.specs.declared.event.Event.{Event}
 use Rattle.rules.specs.declared.priority.KernelPriority.{KernelPriority}
 use Rattle.rules.specs.declared.priority.UserPriority.{UserPriority}
-use Rattle.rules.specs.Books.Book.{Checked}
 use Rattle.rules.specs.declared.answer.Found.{Found}
-use Rattle.rules.specs.Books.Load.{Loaded}
 use Rattle.rules.specs.declared.answer.Stepped.{Stepped}
 use Rattle.rules.specs.declared.answer.Replayed.{Replayed}
-use Rattle.rules.specs.declared.answer.Written.{Written}
+use Rattle.rules.specs.declared.answer.Fault.{Fault}
+use Rattle.rules.specs.declared.answer.Opened.{Opened}
+use Rattle.rules.proofs.Books.Told.{loaded_same, checked_same, wrote_same}
 use Rattle.device.specs.declared.check.DeviceCheck.{DeviceCheck}
 use Rattle.device.specs.declared.step.DeviceStep.{DeviceStep}
 use Rattle.device.specs.declared.replay.DeviceReplay.{DeviceReplay}
@@ -36,26 +37,17 @@ use Rattle.device.proofs.write.recorder_write.Reads as recorder-write
 use Rattle.device.proofs.job.recorder_read_job.Reads as recorder-read-job
 use Rattle.device.proofs.replay.recorder_replay.Reads as recorder-replay
 use Rattle.kernel.proofs.act.act.Reads as act
-use Rattle.rules.proofs.refusal.number.Reads as number
-use Rattle.rules.proofs.protocol.number.Reads as protocol-number
-use Rattle.rules.proofs.protocol.named.Reads as named
+use Rattle.rules.proofs.refusal.U8FromRefusal.from.Reads as number
+use Rattle.rules.proofs.protocol.U8FromProtocol.from.Reads as protocol-number
+use Rattle.rules.proofs.protocol.ProtocolFromU8.from.Reads as named
 use Rattle.rules.proofs.answer.verdict_number.Reads as verdict-number
 use Rattle.rules.proofs.answer.verdict_place.Reads as verdict-place
 use Rattle.rules.proofs.answer.answer_number.Reads as answer-number
 use Rattle.rules.proofs.answer.answer_calls.Reads as answer-calls
 use Rattle.rules.proofs.plan.blank.Reads as blank
 use Rattle.rules.proofs.state.fresh.Reads as fresh
-use Rattle.figures.proofs.all.all_five.Reads as all-five
-use Rattle.figures.proofs.all.all_six.Reads as all-six
-use Rattle.figures.proofs.all.all_eight.Reads as all-eight
 use Rattle.figures.proofs.mask.has_bit.Reads as has-bit
 use Rattle.figures.proofs.mask.with_bit.Reads as with-bit
-use Rattle.figures.proofs.number.place_of.Reads as place_of
-use Rattle.figures.proofs.number.wide_byte.Reads as wide-byte
-use Rattle.figures.proofs.number.wide_word.Reads as wide_word
-use Rattle.figures.proofs.number.greater_byte.Reads as greater-byte
-use Rattle.figures.proofs.number.greater_word.Reads as greater-word
-use Rattle.figures.proofs.number.least.Reads as least
 use Rattle.figures.proofs.priority.kernel_of.Reads as kernel-of
 use Rattle.figures.proofs.priority.kernel_byte.Reads as kernel-byte
 use Rattle.figures.proofs.priority.user_of.Reads as user-of
@@ -64,23 +56,14 @@ use Rattle.figures.proofs.priority.shown.Reads as shown
 use Rattle.figures.proofs.priority.recorded.Reads as recorded
 use Rattle.figures.proofs.priority.above.Reads as above
 use Rattle.figures.proofs.priority.at_most.Reads as at_most
-use Rattle.figures.proofs.priority.exceeds.Reads as exceeds
 use Rattle.figures.proofs.priority.calls_for.Reads as calls-for
 use Rattle.figures.proofs.priority.cut_to.Reads as cut-to
-use Rattle.figures.proofs.priority.raised.Reads as raised
-use Rattle.figures.proofs.priority.higher.Reads as higher
-use Rattle.figures.proofs.priority.same_word.Reads as same_word
-use Rattle.figures.proofs.priority.same_record.Reads as same-record
 use Rattle.figures.proofs.row.newest_of.Reads as newest-of
 use Rattle.figures.proofs.row.under_of.Reads as under_of
 use Rattle.figures.proofs.row.push_on.Reads as push-on
 use Rattle.figures.proofs.row.has_lock.Reads as has-lock
 use Rattle.figures.proofs.row.newest_word.Reads as newest-word
 use Rattle.figures.proofs.row.push_word.Reads as push-word
-use Rattle.figures.proofs.spare.spare8.Reads as spare8
-use Rattle.figures.proofs.spare.spare16.Reads as spare16
-use Rattle.figures.proofs.spare.spare32.Reads as spare32
-use Rattle.figures.proofs.spare.spare64.Reads as spare64
 use Rattle.tournament.proofs.tree.Tournament.of.Reads as tournament-of
 use Rattle.tournament.proofs.tree.Tournament.top.Reads as top
 use Rattle.tournament.proofs.tree.Tournament.put.Reads as put
@@ -140,40 +123,13 @@ one_blank a b c r q h k = h ∙ sym k
 pub one_fresh : (a : _) (b c : _) (r q : State) → fresh.Post tt a r b → fresh.Post tt a q c → r ≡ q
 one_fresh a b c r q h k = h ∙ sym k
 
--- ---- the numbers of `figures`: tests that all hold, sets of locks, widths, the two kinds of priority, rows, and the rest of a table
-
-pub one_all_five : (a : _) (b c : _) (r q : Bool) → all-five.Post tt a r b → all-five.Post tt a q c → r ≡ q
-one_all_five a b c r q h k = h ∙ sym k
-
-pub one_all_six : (a : _) (b c : _) (r q : Bool) → all-six.Post tt a r b → all-six.Post tt a q c → r ≡ q
-one_all_six a b c r q h k = h ∙ sym k
-
-pub one_all_eight : (a : _) (b c : _) (r q : Bool) → all-eight.Post tt a r b → all-eight.Post tt a q c → r ≡ q
-one_all_eight a b c r q h k = h ∙ sym k
+-- ---- the numbers of `figures`: sets of locks, the two kinds of priority, and rows
 
 pub one_has_bit : (a : _) (b c : _) (r q : Bool) → has-bit.Post tt a r b → has-bit.Post tt a q c → r ≡ q
 one_has_bit a b c r q h k = h ∙ sym k
 
 pub one_with_bit : (a : _) (b c : _) (r q : ℕ) → with-bit.Post tt a r b → with-bit.Post tt a q c → r ≡ q
 one_with_bit a b c r q h k = h ∙ sym k
-
-pub one_place_of : (a : _) (b c : _) (r q : ℕ) → place_of.Post tt a r b → place_of.Post tt a q c → r ≡ q
-one_place_of a b c r q h k = h.0 ∙ sym k.0
-
-pub one_wide_byte : (a : _) (b c : _) (r q : ℕ) → wide-byte.Post tt a r b → wide-byte.Post tt a q c → r ≡ q
-one_wide_byte a b c r q h k = h.0 ∙ sym k.0
-
-pub one_wide_word : (a : _) (b c : _) (r q : ℕ) → wide_word.Post tt a r b → wide_word.Post tt a q c → r ≡ q
-one_wide_word a b c r q h k = h.0 ∙ sym k.0
-
-pub one_greater_byte : (a : _) (b c : _) (r q : ℕ) → greater-byte.Post tt a r b → greater-byte.Post tt a q c → r ≡ q
-one_greater_byte a b c r q h k = h ∙ sym k
-
-pub one_greater_word : (a : _) (b c : _) (r q : ℕ) → greater-word.Post tt a r b → greater-word.Post tt a q c → r ≡ q
-one_greater_word a b c r q h k = h ∙ sym k
-
-pub one_least : (a : _) (b c : _) (r q : ℕ) → least.Post tt a r b → least.Post tt a q c → r ≡ q
-one_least a b c r q h k = h ∙ sym k
 
 pub one_kernel_of : (a : _) (b c : _) (r q : KernelPriority) → kernel-of.Post tt a r b → kernel-of.Post tt a q c → r ≡ q
 one_kernel_of a b c r q h k = same_kernel r q (h ∙ sym k)
@@ -199,26 +155,11 @@ one_above a b c r q h k = h ∙ sym k
 pub one_at_most : (a : _) (b c : _) (r q : Bool) → at_most.Post tt a r b → at_most.Post tt a q c → r ≡ q
 one_at_most a b c r q h k = h ∙ sym k
 
-pub one_exceeds : (a : _) (b c : _) (r q : Bool) → exceeds.Post tt a r b → exceeds.Post tt a q c → r ≡ q
-one_exceeds a b c r q h k = h ∙ sym k
-
 pub one_calls_for : (a : _) (b c : _) (r q : Bool) → calls-for.Post tt a r b → calls-for.Post tt a q c → r ≡ q
 one_calls_for a b c r q h k = h ∙ sym k
 
 pub one_cut_to : (a : _) (b c : _) (r q : UserPriority) → cut-to.Post tt a r b → cut-to.Post tt a q c → r ≡ q
 one_cut_to a b c r q h k = same_user r q (h ∙ sym k)
-
-pub one_raised : (a : _) (b c : _) (r q : UserPriority) → raised.Post tt a r b → raised.Post tt a q c → r ≡ q
-one_raised a b c r q h k = same_user r q (h ∙ sym k)
-
-pub one_higher : (a : _) (b c : _) (r q : KernelPriority) → higher.Post tt a r b → higher.Post tt a q c → r ≡ q
-one_higher a b c r q h k = same_kernel r q (h ∙ sym k)
-
-pub one_same_word : (a : _) (b c : _) (r q : Bool) → same_word.Post tt a r b → same_word.Post tt a q c → r ≡ q
-one_same_word a b c r q h k = h ∙ sym k
-
-pub one_same_record : (a : _) (b c : _) (r q : Bool) → same-record.Post tt a r b → same-record.Post tt a q c → r ≡ q
-one_same_record a b c r q h k = h ∙ sym k
 
 pub one_newest_of : (a : _) (b c : _) (r q : ℕ) → newest-of.Post tt a r b → newest-of.Post tt a q c → r ≡ q
 one_newest_of a b c r q h k = h ∙ sym k
@@ -238,25 +179,13 @@ one_newest_word a b c r q h k = same_user r q (h ∙ sym k)
 pub one_push_word : (a : _) (b c : _) (r q : ℕ) → push-word.Post tt a r b → push-word.Post tt a q c → r ≡ q
 one_push_word a b c r q h k = h.0 ∙ sym k.0
 
-pub one_spare8 : (κs : Lfts 1) (a : _) (b c : _) (r q : Bool) → spare8.Post κs a r b → spare8.Post κs a q c → r ≡ q
-one_spare8 κs a b c r q h k = h ∙ sym k
-
-pub one_spare16 : (κs : Lfts 1) (a : _) (b c : _) (r q : Bool) → spare16.Post κs a r b → spare16.Post κs a q c → r ≡ q
-one_spare16 κs a b c r q h k = h ∙ sym k
-
-pub one_spare32 : (κs : Lfts 1) (a : _) (b c : _) (r q : Bool) → spare32.Post κs a r b → spare32.Post κs a q c → r ≡ q
-one_spare32 κs a b c r q h k = h ∙ sym k
-
-pub one_spare64 : (κs : Lfts 1) (a : _) (b c : _) (r q : Bool) → spare64.Post κs a r b → spare64.Post κs a q c → r ≡ q
-one_spare64 κs a b c r q h k = h ∙ sym k
-
 -- ---- the plan
 
 pub one_count_fault : (a : _) (b c : _) (r q : Bool) → count-fault.Post tt a r b → count-fault.Post tt a q c → r ≡ q
 one_count_fault a b c r q h k = h ∙ sym k
 
-pub one_load : (κs : Lfts 3) (a : _) (b c : _) (r q : Loaded) → load.Post κs a r b → load.Post κs a q c → r ≡ q
-one_load κs a b c r q h k = h ∙ sym k
+pub one_load : (κs : Lfts 3) (a : _) (b c : _) (r q : Result Plan Fault) → load.Post κs a r b → load.Post κs a q c → r ≡ q
+one_load κs a b c r q h k = loaded_same r q (h ∙ sym k)
 
 pub one_bound : (a : _) (b c : _) (r q : ℕ) → bound.Post tt a r b → bound.Post tt a q c → r ≡ q
 one_bound a b c r q h k = h ∙ sym k
@@ -266,8 +195,8 @@ one_obeys a b c r q h k = h ∙ sym k
 
 -- ---- the book and its reader
 
-pub one_check : (κs : Lfts 1) (a : _) (b c : _) (r q : Checked) → check.Post κs a r b → check.Post κs a q c → r ≡ q
-one_check κs a b c r q h k = h ∙ sym k
+pub one_check : (κs : Lfts 1) (a : _) (b c : _) (r q : Result Opened Fault) → check.Post κs a r b → check.Post κs a q c → r ≡ q
+one_check κs a b c r q h k = checked_same r q (h ∙ sym k)
 
 pub one_event_fault : (a : _) (b c : _) (r q : Bool) → event-fault.Post tt a r b → event-fault.Post tt a q c → r ≡ q
 one_event_fault a b c r q h k = h ∙ sym k
@@ -322,14 +251,9 @@ pub one_recorder_replay : (κs : Lfts 2) (a : _) (b c : _) (r q : DeviceReplay) 
     → (r ≡ q) × (b.1.1.0.now ≡ c.1.1.0.now)
 one_recorder_replay κs a b c r q h k = (h.0 ∙ sym k.0, h.1 ∙ sym k.1)
 
-same_written : (r q : Written) (x y : List ℕ) (wrote : Wrote) → wrote_with r x ≡ wrote → wrote_with q y ≡ wrote → (r ≡ q) × (x ≡ y)
-same_written r q x y wrote h k =
-    let e : wrote_with r x ≡ wrote_with q y = h ∙ sym k in
-    ((λ i. record { verdict = (e i).verdict; length = (e i).length }), ap (λ (w : Wrote). w.bytes) e)
-
-pub one_write : (κs : Lfts 5) (a : _) (b c : _) (r q : Written) → write.Post κs a r b → write.Post κs a q c
+pub one_write : (κs : Lfts 5) (a : _) (b c : _) (r q : Result ℕ Fault) → write.Post κs a r b → write.Post κs a q c
     → (r ≡ q) × (b.1.1.1.1.0.now ≡ c.1.1.1.1.0.now)
-one_write κs a b c r q h k = same_written r q _ _ _ h k
+one_write κs a b c r q h k = wrote_same r q _ _ (h ∙ sym k)
 
 pub one_recorder_write : (κs : Lfts 5) (a : _) (b c : _) (r q : DeviceWrite) → recorder-write.Post κs a r b → recorder-write.Post κs a q c
     → (r ≡ q) × (b.1.1.1.1.0.now ≡ c.1.1.1.1.0.now)

@@ -5,11 +5,13 @@ use mathlib.Core.Bool.{Bool}
 use mathlib.Core.List.{List}
 use Prim.Native.Nat.{ℕ}
 use contract.Lifetimes.{Lfts}
+use Rattle.std.specs.Prelude.{Result}
 use Rattle.std.specs.Prelude.{Option, Result}
 use Rattle.rules.specs.declared.event.Event.{Event}
 use Rattle.book.specs.declared.look.Entry.{Entry}
-use Rattle.jobs.specs.Job.{ReadInto, read_with}
-use Rattle.jobs.specs.declared.Job.{Job}
+use Rattle.jobs.specs.Job.{ReadInto}
+use Rattle.jobs.proofs.Answers.{job_same}
+use Rattle.rules.specs.declared.answer.Fault.{Fault}
 use Rattle.texts.specs.declared.kind.Kind.{Kind}
 use Rattle.texts.specs.declared.number.Mistake.{Mistake}
 use Rattle.texts.specs.declared.line.Line.{Line}
@@ -162,14 +164,12 @@ one_said_number_of a b c r q h k = h ∙ sym k
 
 -- ---- jobs
 
-pub one_check_job : (κs : Lfts 1) (a : _) (b c : _) (r q : Job) → check-job.Post κs a r b → check-job.Post κs a q c → r ≡ q
-one_check_job κs a b c r q h k = h.0 ∙ sym k.0
+pub one_check_job : (κs : Lfts 1) (a : _) (b c : _) (r q : Result ℕ Fault) → check-job.Post κs a r b → check-job.Post κs a q c → r ≡ q
+one_check_job κs a b c r q h k = job_same r q (h.0 ∙ sym k.0)
 
-same_read : (r q : Job) (x y : List ℕ) (read : ReadInto) → read_with r x ≡ read → read_with q y ≡ read → (r ≡ q) × (x ≡ y)
-same_read r q x y read h k = (ap (λ (i : ReadInto). i.answer) (h ∙ sym k), ap (λ (i : ReadInto). i.space) (h ∙ sym k))
-
-pub one_read_job : (κs : Lfts 2) (a : _) (b c : _) (r q : Job) → read-job.Post κs a r b → read-job.Post κs a q c → (r ≡ q) × (b.1.0.now ≡ c.1.0.now)
-one_read_job κs a b c r q h k = same_read r q _ _ _ h k
+pub one_read_job : (κs : Lfts 2) (a : _) (b c : _) (r q : Result ℕ Fault) → read-job.Post κs a r b → read-job.Post κs a q c → (r ≡ q) × (b.1.0.now ≡ c.1.0.now)
+one_read_job κs a b c r q h k =
+    (job_same r q (ap (λ (x : ReadInto). x.answer) (h ∙ sym k)), ap (λ (x : ReadInto). x.space) (h ∙ sym k))
 
 pub one_record_at : (κs : Lfts 1) (a : _) (b c : _) (r q : ℕ) → record-at.Post κs a r b → record-at.Post κs a q c → r ≡ q
 one_record_at κs a b c r q h k = h ∙ sym k

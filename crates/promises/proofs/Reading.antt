@@ -9,11 +9,13 @@ use prog.Memory.{Memory}
 use prog.Routine.{Routine}
 use types.Logic.{Logic}
 use contract.Lifetimes.{Lfts}
+use Rattle.std.specs.Prelude.{Result}
 use contract.Monad.{Fun, fact, fact_mono}
 use lib.ListN.{drop}
 use Rattle.rules.specs.Numbers.Answer.{verdict_number}
-use Rattle.rules.specs.Books.Book.{found_at, checked_of}
-use Rattle.rules.specs.Books.Book.{Checked}
+use Rattle.rules.specs.Books.Book.{found_at, Checked, checked_with, checked_of}
+use Rattle.rules.specs.declared.answer.Fault.{Fault}
+use Rattle.rules.specs.declared.answer.Opened.{Opened}
 use Rattle.rules.specs.declared.answer.Found.{Found}
 use Rattle.rules.proofs.Books.Passes.{check_passes}
 use Rattle.book.specs.Reader.{ReadAt}
@@ -31,22 +33,25 @@ module _ (b : List ℕ) (room : ℕ) (c : Checked) (h : c ≡ checked_of b room)
   found_at_lem body k r same f =
       subst (ReadAt b k) (sym (f ∙ ap (λ x. found_at x k) (same ∙ body_is b room c h e))) (walks b room (check_passes b room (number_is b room c h e)) k)
 
-module _ (κs : Lfts 1) (a : _) (b : _) (c : Checked) (h : check.Post κs a c b) (e : verdict_number c.verdict ≡ 0) where
+module _ (κs : Lfts 1) (a : _) (b : _) (r : Result Opened Fault) (h : check.Post κs a r b) (e : verdict_number (checked_with r).verdict ≡ 0) where
+  abbrev c : Checked
+  c = checked_with r
+
   -- of the body, which starts where the check says
-  pub read_finds : (κs' : Lfts 1) (lent : _) (left : _) (r : Found) → read.Post κs' lent r left → lent.0.now ≡ drop c.events a.0.now
-      → ReadAt a.0.now lent.1.0 r
-  read_finds κs' lent left r q same = found_at_lem a.0.now a.1.0 c h e lent.0.now lent.1.0 r same q
+  pub read_finds : (κs' : Lfts 1) (lent : _) (left : _) (f : Found) → read.Post κs' lent f left → lent.0.now ≡ drop c.events a.0.now
+      → ReadAt a.0.now lent.1.0 f
+  read_finds κs' lent left f q same = found_at_lem a.0.now a.1.0 c h e lent.0.now lent.1.0 f same q
 
   -- of the whole book and the start of its body
-  pub read_in_finds : (κs' : Lfts 1) (lent : _) (left : _) (r : Found) → read-in.Post κs' lent r left → lent.0.now ≡ a.0.now → lent.1.0 ≡ c.events
-      → ReadAt a.0.now lent.1.1.0 r
-  read_in_finds κs' lent left r q same start =
-      found_at_lem a.0.now a.1.0 c h e (drop lent.1.0 lent.0.now) lent.1.1.0 r (λ i. drop (start i) (same i)) q
+  pub read_in_finds : (κs' : Lfts 1) (lent : _) (left : _) (f : Found) → read-in.Post κs' lent f left → lent.0.now ≡ a.0.now → lent.1.0 ≡ c.events
+      → ReadAt a.0.now lent.1.1.0 f
+  read_in_finds κs' lent left f q same start =
+      found_at_lem a.0.now a.1.0 c h e (drop lent.1.0 lent.0.now) lent.1.1.0 f (λ i. drop (start i) (same i)) q
 
   -- of a reader that holds the body, by what the clause of `next` says
   pub next_finds : {M : Type 1} {𝓤 : Ura M} (𝓛 : Logic 𝓤) (mem : Memory → SProp 𝓤) (run : Routine → Fun 𝓤) (κs' : Lfts 1) (reader : Reader)
-      (left : _) (r : Found) → reader.body.now ≡ drop c.events a.0.now
-      → ent 𝓤 ((next.clauses 𝓛 mem run κs' (reader, tt)).ensures tt r left) (fact 𝓤 (ReadAt a.0.now reader.place r))
-  next_finds {𝓤 = 𝓤} 𝓛 mem run κs' reader left r same =
-      fact_mono 𝓤 (r ≡ found_at reader.body.now reader.place) (ReadAt a.0.now reader.place r)
-      (found_at_lem a.0.now a.1.0 c h e reader.body.now reader.place r same)
+      (left : _) (f : Found) → reader.body.now ≡ drop c.events a.0.now
+      → ent 𝓤 ((next.clauses 𝓛 mem run κs' (reader, tt)).ensures tt f left) (fact 𝓤 (ReadAt a.0.now reader.place f))
+  next_finds {𝓤 = 𝓤} 𝓛 mem run κs' reader left f same =
+      fact_mono 𝓤 (f ≡ found_at reader.body.now reader.place) (ReadAt a.0.now reader.place f)
+      (found_at_lem a.0.now a.1.0 c h e reader.body.now reader.place f same)

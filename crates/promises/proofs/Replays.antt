@@ -3,6 +3,7 @@ use mathlib.Core.Path.{◌≡◌, sym, ◌∙◌, ap, ap₂, subst}
 use mathlib.Core.List.{List}
 use Prim.Native.Nat.{ℕ, ◌*◌, ◌<◌}
 use contract.Lifetimes.{Lfts}
+use Rattle.std.specs.Prelude.{Result}
 use native.Mathlib.Omega.{arith}
 use lib.ListN.{length, replicate, length-replicate}
 use Rattle.rules.specs.Numbers.Place.{at}
@@ -15,7 +16,9 @@ use Rattle.rules.specs.Demands.Replayed.{RanUpTo, BookReaches, Compared}
 use Rattle.rules.specs.declared.plan.Plan.{Plan}
 use Rattle.rules.specs.declared.protocol.Protocol.{Protocol}
 use Rattle.rules.specs.declared.protocol.Protocol.TheVariants.{Second, First}
-use Rattle.rules.specs.Books.Book.{Checked}
+use Rattle.rules.specs.Books.Book.{Checked, checked_with}
+use Rattle.rules.specs.declared.answer.Fault.{Fault}
+use Rattle.rules.specs.declared.answer.Opened.{Opened}
 use Rattle.rules.specs.declared.answer.Replayed.{Replayed}
 use Rattle.rules.proofs.Demands.Replayed.{replayed, both_replayed}
 use Rattle.plan.proofs.bound.Reads as bound
@@ -73,6 +76,7 @@ module _ (pr : Protocol) (b : List ℕ) (room : ℕ) (c : Checked) (h : c ≡ ch
       }
 
 -- for every task of a book that `check` accepts some book reaches what `bound` returns, by either protocol
-pub bound_reached : (pr : Protocol) (κs : Lfts 1) (a : _) (b : _) (c : Checked) → check.Post κs a c b → verdict_number c.verdict ≡ 0
-    → (t n : ℕ) → t < c.plan.tasks → bound.Post tt (c.plan, (t, tt)) n (c.plan, (t, tt)) → Reaching pr a.0.now t n
-bound_reached pr κs a b c h e = reaches pr a.0.now a.1.0 c h e
+pub bound_reached : (pr : Protocol) (κs : Lfts 1) (a : _) (b : _) (c : Result Opened Fault) → check.Post κs a c b
+    → verdict_number (checked_with c).verdict ≡ 0 → (t n : ℕ) → t < (checked_with c).plan.tasks
+    → bound.Post tt ((checked_with c).plan, (t, tt)) n ((checked_with c).plan, (t, tt)) → Reaching pr a.0.now t n
+bound_reached pr κs a b c h e = reaches pr a.0.now a.1.0 (checked_with c) h e

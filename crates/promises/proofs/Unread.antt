@@ -7,12 +7,15 @@ use prog.Memory.{Memory}
 use prog.Routine.{Routine}
 use types.Logic.{Logic}
 use contract.Lifetimes.{Lfts}
+use Rattle.std.specs.Prelude.{Result}
 use contract.Monad.{Fun, fact, fact_mono}
 use denote.Triple.Walked.{needs}
 use Rattle.rules.specs.Books.Book.{found_at}
-use Rattle.rules.specs.Books.Load.{load_of}
+use Rattle.rules.specs.Books.Load.{load_of, loaded_with}
 use Rattle.rules.specs.declared.answer.Found.{Found}
-use Rattle.rules.specs.Books.Load.{Loaded}
+use Rattle.rules.specs.declared.plan.Plan.{Plan}
+use Rattle.rules.specs.declared.answer.Fault.{Fault}
+use Rattle.rules.proofs.Books.Told.{loaded_same}
 use Rattle.book.specs.Reader.{reader_at}
 use Rattle.book.specs.declared.reader.Reader.{Reader}
 use Rattle.device.specs.Table.{numbers_of}
@@ -48,13 +51,13 @@ module _ {M : Type 1} {𝓤 : Ura M} (𝓛 : Logic 𝓤) (mem : Memory → SProp
 
   -- ---- the load of a lent table of task records
 
-  pub load_table_says : (κs : Lfts 3) (a : _) (r : Loaded) (e : _)
-      → (load-table.clauses 𝓛 mem run κs a).ensures tt r e ≡ fact 𝓤 (r ≡ load_of (numbers_of a.0.now) a.1.0.now a.1.1.0.now)
+  pub load_table_says : (κs : Lfts 3) (a : _) (r : Result Plan Fault) (e : _)
+      → (load-table.clauses 𝓛 mem run κs a).ensures tt r e ≡ fact 𝓤 (loaded_with r ≡ load_of (numbers_of a.0.now) a.1.0.now a.1.1.0.now)
   load_table_says κs a r e = refl
 
-  pub one_load_table : (κs : Lfts 3) (a : _) (r q : Loaded) (e f : _)
+  pub one_load_table : (κs : Lfts 3) (a : _) (r q : Result Plan Fault) (e f : _)
       → ent 𝓤 (sep 𝓤 ((load-table.clauses 𝓛 mem run κs a).ensures tt r e) ((load-table.clauses 𝓛 mem run κs a).ensures tt q f)) (fact 𝓤 (r ≡ q))
-  one_load_table κs a r q e f = both 𝓤 _ _ (r ≡ q) (λ h k. h ∙ sym k)
+  one_load_table κs a r q e f = both 𝓤 _ _ (r ≡ q) (λ h k. loaded_same r q (h ∙ sym k))
 
   pub recorder_load_table_says : (κs : Lfts 3) (a : _) (r : DeviceLoad) (e : _)
       → (recorder-load-table.clauses 𝓛 mem run κs a).ensures tt r e

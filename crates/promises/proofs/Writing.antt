@@ -4,6 +4,7 @@ use mathlib.Core.List.{List, [], ◌∷◌, map}
 use Prim.Native.Nat.{ℕ, zero, suc, ◌*◌, ◌≤◌, ◌<◌}
 use native.Mathlib.Nat.{le_of_suc-le-suc, not-suc-le-zero}
 use contract.Lifetimes.{Lfts}
+use Rattle.std.specs.Prelude.{Result}
 use lib.ListN.{length, take, drop, length-map}
 use Rattle.rules.specs.Numbers.Place.{at}
 use Rattle.rules.specs.Numbers.Answer.{verdict_number, verdict_place}
@@ -14,10 +15,11 @@ use Rattle.rules.specs.Books.Bytes.{book_of, Bytes}
 use Rattle.rules.specs.Books.Write.{Wrote, write_of, wrote_with}
 use Rattle.rules.specs.Demands.History.{event_at}
 use Rattle.rules.specs.Demands.Written.{ReadsAs, RefusesAs, WrittenAs, WrittenBack}
-use Rattle.rules.specs.Books.Book.{Checked}
+use Rattle.rules.specs.Books.Book.{Checked, checked_with}
 use Rattle.rules.specs.declared.answer.Found.{Found}
 use Rattle.rules.specs.Books.Load.{Loaded}
-use Rattle.rules.specs.declared.answer.Written.{Written}
+use Rattle.rules.specs.declared.answer.Fault.{Fault}
+use Rattle.rules.specs.declared.answer.Opened.{Opened}
 use Rattle.rules.proofs.Books.Passes.{verdict_held}
 use Rattle.rules.proofs.Demands.Written.{writing}
 use Rattle.book.specs.Reader.{ReadAt}
@@ -28,7 +30,7 @@ use Rattle.promises.proofs.Passed.{number_is}
 use Rattle.promises.proofs.Reading.{found_at_lem}
 
 -- all that is promised of the definition holds of what `write` answers and leaves
-pub write_keeps : (κs : Lfts 5) (a : _) (b : _) (r : Written) → write.Post κs a r b
+pub write_keeps : (κs : Lfts 5) (a : _) (b : _) (r : Result ℕ Fault) → write.Post κs a r b
     → WrittenAs a.0.now a.1.0.now a.1.1.0.now a.1.1.1.0.now a.1.1.1.1.0.now (wrote_with r b.1.1.1.1.0.now)
 write_keeps κs a b r h =
     subst (λ (w : Wrote). WrittenAs a.0.now a.1.0.now a.1.1.0.now a.1.1.1.0.now a.1.1.1.1.0.now w) (sym h)
@@ -63,21 +65,21 @@ module _ (tasks locks uses events b : List ℕ) (R : ReadsAs tasks locks uses ev
         (read_there lent.1.0 lent.1.1.0 lent.0.now r q same there).end (rw (R.list, length-map events number_event) l);
   }
 
-pub write_reads_back : (κs : Lfts 5) (a : _) (b : _) (r : Written) → write.Post κs a r b → verdict_number r.verdict ≡ 0
-    → (κs' : Lfts 1) (lent : _) (left : _) (c : Checked) → check.Post κs' lent c left
-    → lent.0.now ≡ take r.length b.1.1.1.1.0.now → length a.1.1.1.0.now * 4 ≤ lent.1.0
-    → ReadsBack a.0.now a.1.0.now a.1.1.0.now a.1.1.1.0.now (take r.length b.1.1.1.1.0.now) c
+pub write_reads_back : (κs : Lfts 5) (a : _) (b : _) (r : Result ℕ Fault) → write.Post κs a r b → verdict_number (wrote_with r b.1.1.1.1.0.now).verdict ≡ 0
+    → (κs' : Lfts 1) (lent : _) (left : _) (c : Result Opened Fault) → check.Post κs' lent c left
+    → lent.0.now ≡ take (wrote_with r b.1.1.1.1.0.now).length (wrote_with r b.1.1.1.1.0.now).bytes → length a.1.1.1.0.now * 4 ≤ lent.1.0
+    → ReadsBack a.0.now a.1.0.now a.1.1.0.now a.1.1.1.0.now (take (wrote_with r b.1.1.1.1.0.now).length (wrote_with r b.1.1.1.1.0.now).bytes) (checked_with c)
 write_reads_back κs a b r h e κs' lent left c q same fits =
-    reads_back a.0.now a.1.0.now a.1.1.0.now a.1.1.1.0.now (take r.length b.1.1.1.1.0.now)
-    ((write_keeps κs a b r h).reads e) lent.1.0 fits c (q ∙ ap (λ x. checked_of x lent.1.0) same)
+    reads_back a.0.now a.1.0.now a.1.1.0.now a.1.1.1.0.now (take (wrote_with r b.1.1.1.1.0.now).length (wrote_with r b.1.1.1.1.0.now).bytes)
+    ((write_keeps κs a b r h).reads e) lent.1.0 fits (checked_with c) (q ∙ ap (λ x. checked_of x lent.1.0) same)
 
 -- ---- writing what was read
 
-pub writes_again : (κs : Lfts 1) (a : _) (b : _) (c : Checked) → check.Post κs a c b → verdict_number c.verdict ≡ 0 → Bytes a.0.now
+pub writes_again : (κs : Lfts 1) (a : _) (b : _) (c : Result Opened Fault) → check.Post κs a c b → verdict_number (checked_with c).verdict ≡ 0 → Bytes a.0.now
     → WritesAgain a.0.now
 writes_again κs a b c h e of-bytes κs' given left r q t m u k room =
     subst (WrittenBack a.0.now) (sym (q ∙ (λ i. write_of (t i) (m i) (u i) (k i) given.1.1.1.1.0.now)))
-    (writing.again a.0.now a.1.0 given.1.1.1.1.0.now of-bytes (number_is a.0.now a.1.0 c h e) room)
+    (writing.again a.0.now a.1.0 given.1.1.1.1.0.now of-bytes (number_is a.0.now a.1.0 (checked_with c) h e) room)
 
 -- ---- the same refusals
 
@@ -90,8 +92,8 @@ alike tasks locks uses events buffer w F room c h fits refused =
     let n : 0 < verdict_number (check_of b room) = rw v at refused in
     (F.number room fits n ∙ ap verdict_number (sym v), F.place room fits n ∙ ap verdict_place (sym v))
 
-pub refuses_alike : (κs : Lfts 5) (a : _) (b : _) (r : Written) → write.Post κs a r b
-    → RefusesAlike a.0.now a.1.0.now a.1.1.0.now a.1.1.1.0.now r
+pub refuses_alike : (κs : Lfts 5) (a : _) (b : _) (r : Result ℕ Fault) → write.Post κs a r b
+    → RefusesAlike a.0.now a.1.0.now a.1.1.0.now a.1.1.1.0.now (wrote_with r b.1.1.1.1.0.now)
 refuses_alike κs a b r h κs' lent left c q same fits refused =
     alike a.0.now a.1.0.now a.1.1.0.now a.1.1.1.0.now a.1.1.1.1.0.now (wrote_with r b.1.1.1.1.0.now)
-    (write_keeps κs a b r h).refuses lent.1.0 c (q ∙ ap (λ x. checked_of x lent.1.0) same) fits refused
+    (write_keeps κs a b r h).refuses lent.1.0 (checked_with c) (q ∙ ap (λ x. checked_of x lent.1.0) same) fits refused

@@ -3,9 +3,8 @@ use Rattle.std.specs.Prelude.{◌≡◌, List, ℕ, ◌*◌, ◌≤◌, ◌<◌,
 use Rattle.rules.specs.Numbers.Verdict.{Verdict, refused_at}
 use Rattle.rules.specs.declared.refusal.Refusal.TheVariants.{WrongJob, ShortSpace}
 use Rattle.jobs.specs.Grammar.{Body, levels, Good, text_of, events_of}
-use Rattle.jobs.specs.Job.{with_events}
+use Rattle.jobs.specs.Job.{Job, with_events}
 use Rattle.jobs.specs.Promised.{Place}
-use Rattle.jobs.specs.declared.Job.{Job}
 
 -- a refusal answers no events, and leaves the space as it was
 abbrev pub RefusedWith : Verdict → (space : List ℕ) → Job → (after : List ℕ) → Type 0

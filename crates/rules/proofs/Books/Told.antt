@@ -13,10 +13,10 @@ use Rattle.rules.specs.declared.answer.Fault.{Fault}
 use Rattle.rules.specs.declared.answer.Opened.{Opened}
 
 -- what is passed is not refused, and two refusals are equal where their faults are
-apart : {P : Type 0} (f : Fault) → ◌≡◌ {A = Verdict} (Ok tt) (Err f) → P
+pub apart : {P : Type 0} (f : Fault) → ◌≡◌ {A = Verdict} (Ok tt) (Err f) → P
 apart f e = let z : ◌≡◌ {A = ℕ} 0 1 = cc in absurd (omega arith)
 
-fault_same : (f g : Fault) → ◌≡◌ {A = Verdict} (Err f) (Err g) → f ≡ g
+pub fault_same : (f g : Fault) → ◌≡◌ {A = Verdict} (Err f) (Err g) → f ≡ g
 fault_same f g e = cc
 
 pub loaded_same : (r q : Result Plan Fault) → loaded_with r ≡ loaded_with q → r ≡ q

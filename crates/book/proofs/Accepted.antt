@@ -1,6 +1,6 @@
 -- A book that passes 1 to 9 and 24: its events are all that follows from their body's start, none of them is at fault, and there is room for their rows. Assumes
 -- nothing.
-use Rattle.std.specs.Prelude.{Ok, if◌then◌else◌}
+use Rattle.std.specs.Prelude.{Ok}
 use mathlib.Core.Path.{◌≡◌, ◌∙◌}
 use mathlib.Core.Bool.{false}
 use mathlib.Core.List.{List}

@@ -10,7 +10,7 @@ use lib.Seq.{take_all}
 use borrow.Author.Tests.{lt-ltb, le-ltb, ltb-false, eqb-true, eq-eqb, ne_eqb, not-false}
 use Rattle.rules.specs.Numbers.Capacity.{max_tasks, max_locks, max_uses}
 use Rattle.rules.specs.Numbers.Verdict.{Verdict, fault_at, refused_at}
-use Rattle.std.proofs.Common.{Option, Some, None, Result, Ok, Err, if◌then◌else◌}
+use Rattle.std.proofs.Common.{Option, Some, None, Result, Ok, Err}
 use Rattle.std.specs.List.{position, range_with_len}
 use Rattle.rules.specs.Numbers.Place.{first_from}
 use Rattle.rules.specs.Numbers.Refusal.{number_of, first_fault, check_for}
@@ -21,7 +21,6 @@ use Rattle.rules.specs.Books.Book.{contents_checks, event_checks, check_of, pass
 use Rattle.rules.specs.declared.plan.Plan.{Plan}
 use Rattle.rules.specs.declared.answer.Fault.{Fault}
 use Rattle.rules.specs.declared.answer.Opened.{Opened}
-use Rattle.rules.specs.declared.refusal.Refusal.{Refusal}
 use Rattle.rules.specs.declared.refusal.Refusal.TheVariants.{ShortBook, WrongCount, WrongLayout, WrongEvent, ShortRows}
 use Rattle.rules.proofs.Numbers.Choice.{or_false}
 use Rattle.rules.proofs.Numbers.Checks.{clean_for, check_left, check_right, check_none, check_finds, check_passes, one_finds, one_passes}

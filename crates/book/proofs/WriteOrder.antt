@@ -9,7 +9,7 @@ use lib.ListN.{length, drop}
 use borrow.Author.Tests.{ltb-false}
 use Rattle.rules.specs.Numbers.Capacity.{max_tasks, max_locks, max_uses, max_events}
 use Rattle.rules.specs.Numbers.Verdict.{Verdict, refused_at}
-use Rattle.std.proofs.Common.{Option, Some, None, Result, Ok, Err, if◌then◌else◌}
+use Rattle.std.proofs.Common.{Option, Some, None, Result, Ok, Err}
 use Rattle.std.specs.List.{position}
 use Rattle.rules.specs.Numbers.Place.{at, first_from}
 use Rattle.rules.specs.Numbers.Refusal.{number_of, first_fault, check_for}
@@ -20,7 +20,6 @@ use Rattle.rules.specs.Books.Bytes.{book_of}
 use Rattle.rules.specs.Books.Write.{counts_of, whole_checks, write_checks, wrote_as, write_of, wrote_with}
 use Rattle.rules.specs.declared.plan.Plan.{Plan}
 use Rattle.rules.specs.declared.answer.Fault.{Fault}
-use Rattle.rules.specs.declared.refusal.Refusal.{Refusal}
 use Rattle.rules.specs.declared.refusal.Refusal.TheVariants.{WrongCount, WrongEvent, ShortBuffer}
 use Rattle.rules.proofs.Numbers.Choice.{or_false}
 use Rattle.rules.proofs.Numbers.Place.{first_none}

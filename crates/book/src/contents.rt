@@ -47,16 +47,28 @@ pub fn first_fault(b: &[u8]) -> Result<(), Fault>
     ensures { result ≡ first_fault (contents_checks b.now) }
 {
     if b.len() < CONTENTS {
-        return Err(Fault { why: Refusal::ShortBook, place: 0 });
+        return Err(Fault {
+            why: Refusal::ShortBook,
+            place: 0,
+        });
     }
     if let Some(e) = first_count(b) {
-        return Err(Fault { why: Refusal::WrongCount, place: e + 1 });
+        return Err(Fault {
+            why: Refusal::WrongCount,
+            place: e + 1,
+        });
     }
     if let Some(e) = first_entry(b) {
-        return Err(Fault { why: Refusal::WrongLayout, place: e + 1 });
+        return Err(Fault {
+            why: Refusal::WrongLayout,
+            place: e + 1,
+        });
     }
     if bodies_end(b) != b.len() {
-        return Err(Fault { why: Refusal::WrongLayout, place: 5 });
+        return Err(Fault {
+            why: Refusal::WrongLayout,
+            place: 5,
+        });
     }
     Ok(())
 }

@@ -52,8 +52,14 @@ pub fn check(b: &[u8], room: usize, plan: Plan) -> Result<Opened, Fault>
     let events = body_at(b, Part::Events);
     let body = &b[events..];
     match first_fault(body) {
-        Some(place) => Err(Fault { why: Refusal::WrongEvent, place }),
-        None if room < body.len() => Err(Fault { why: Refusal::ShortRows, place: 0 }),
+        Some(place) => Err(Fault {
+            why: Refusal::WrongEvent,
+            place,
+        }),
+        None if room < body.len() => Err(Fault {
+            why: Refusal::ShortRows,
+            place: 0,
+        }),
         None => Ok(Opened { plan, events }),
     }
 }

@@ -66,8 +66,14 @@ fn first_last(events: &[u32], size: usize, room: usize) -> Result<(), Fault>
     ensures { result ≡ first_fault (last_checks events.now size room) }
 {
     match first_event(events) {
-        Some(k) => Err(Fault { why: Refusal::WrongEvent, place: k }),
-        None if room < size => Err(Fault { why: Refusal::ShortBuffer, place: 0 }),
+        Some(k) => Err(Fault {
+            why: Refusal::WrongEvent,
+            place: k,
+        }),
+        None if room < size => Err(Fault {
+            why: Refusal::ShortBuffer,
+            place: 0,
+        }),
         None => Ok(()),
     }
 }
@@ -77,14 +83,23 @@ fn first_fault(records: &Records, room: usize) -> Result<(), Fault>
     ensures { result ≡ first_fault (checks_in records.now room) }
 {
     if let Some(e) = first_count(records) {
-        return Err(Fault { why: Refusal::WrongCount, place: e + 1 });
+        return Err(Fault {
+            why: Refusal::WrongCount,
+            place: e + 1,
+        });
     }
     plan::load(records.tasks, records.locks, records.uses)?;
     first_last(records.events, book_size(records), room)
 }
 
 // The answer is the book's length, with the book at the start of the buffer; or a refusal, and the buffer as it was.
-pub fn write(tasks: &[u16], locks: &[u32], uses: &[u16], events: &[u32], out: &mut [u8]) -> Result<usize, Fault>
+pub fn write(
+    tasks: &[u16],
+    locks: &[u32],
+    uses: &[u16],
+    events: &[u32],
+    out: &mut [u8],
+) -> Result<usize, Fault>
     ensures { wrote_with result out.new ≡ write_of tasks.now locks.now uses.now events.now
         out.old }
 {

@@ -1,6 +1,6 @@
 -- The plan of a book by what its check answers: no task of the blank plan beside a refusal waits. Assumes nothing.
 use Rattle.std.specs.Prelude.{Ok, Err}
-use mathlib.Core.Path.{◌≡◌, refl, sym, ◌∙◌, ap}
+use mathlib.Core.Path.{◌≡◌, refl, ◌∙◌, ap}
 use mathlib.Core.List.{List}
 use Prim.Native.Nat.{ℕ}
 use Rattle.rules.specs.Books.Book.{Checked, checked_with, checked_of}

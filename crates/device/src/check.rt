@@ -23,8 +23,18 @@ impl From<Result<Opened, Fault>> for DeviceCheck {
     #[tactic(auto, unfolding(rules::specs::Books::Book::checked_with, rules::specs::Numbers::Answer::verdict_number, rules::specs::Numbers::Answer::verdict_place))]
     fn from(checked: Result<Opened, Fault>) -> DeviceCheck {
         match checked {
-            Ok(Opened { plan, events }) => DeviceCheck { number: 0, place: 0, plan, events },
-            Err(Fault { why, place }) => DeviceCheck { number: u8::from(why), place, plan: blank(), events: 0 },
+            Ok(Opened { plan, events }) => DeviceCheck {
+                number: 0,
+                place: 0,
+                plan,
+                events,
+            },
+            Err(Fault { why, place }) => DeviceCheck {
+                number: u8::from(why),
+                place,
+                plan: blank(),
+                events: 0,
+            },
         }
     }
 }

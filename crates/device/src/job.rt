@@ -20,8 +20,16 @@ impl From<Result<usize, Fault>> for DeviceJob {
     #[tactic(auto, unfolding(jobs::specs::Job::job_with, rules::specs::Numbers::Answer::verdict_number, rules::specs::Numbers::Answer::verdict_place))]
     fn from(job: Result<usize, Fault>) -> DeviceJob {
         match job {
-            Ok(events) => DeviceJob { number: 0, place: 0, events },
-            Err(Fault { why, place }) => DeviceJob { number: u8::from(why), place, events: 0 },
+            Ok(events) => DeviceJob {
+                number: 0,
+                place: 0,
+                events,
+            },
+            Err(Fault { why, place }) => DeviceJob {
+                number: u8::from(why),
+                place,
+                events: 0,
+            },
         }
     }
 }

@@ -23,8 +23,16 @@ impl From<Result<Plan, Fault>> for DeviceLoad {
     #[tactic(auto, unfolding(rules::specs::Books::Load::loaded_with, rules::specs::Numbers::Answer::verdict_number, rules::specs::Numbers::Answer::verdict_place))]
     fn from(loaded: Result<Plan, Fault>) -> DeviceLoad {
         match loaded {
-            Ok(plan) => DeviceLoad { number: 0, place: 0, plan },
-            Err(Fault { why, place }) => DeviceLoad { number: u8::from(why), place, plan: blank() },
+            Ok(plan) => DeviceLoad {
+                number: 0,
+                place: 0,
+                plan,
+            },
+            Err(Fault { why, place }) => DeviceLoad {
+                number: u8::from(why),
+                place,
+                plan: blank(),
+            },
         }
     }
 }

@@ -59,7 +59,12 @@ pub extern "C" fn recorder_step(
             state,
         };
     }
-    let stepped = scheduler::step(Protocol::from(protocol), plan, state, event_of(kind, id, amount));
+    let stepped = scheduler::step(
+        Protocol::from(protocol),
+        plan,
+        state,
+        event_of(kind, id, amount),
+    );
     DeviceStep {
         number: answer_number(stepped.answer),
         calls: answer_calls(stepped.answer),

@@ -20,8 +20,16 @@ impl From<Result<usize, Fault>> for DeviceWrite {
     #[tactic(auto, unfolding(rules::specs::Books::Write::wrote_with, rules::specs::Numbers::Answer::verdict_number, rules::specs::Numbers::Answer::verdict_place))]
     fn from(written: Result<usize, Fault>) -> DeviceWrite {
         match written {
-            Ok(length) => DeviceWrite { number: 0, place: 0, length },
-            Err(Fault { why, place }) => DeviceWrite { number: u8::from(why), place, length: 0 },
+            Ok(length) => DeviceWrite {
+                number: 0,
+                place: 0,
+                length,
+            },
+            Err(Fault { why, place }) => DeviceWrite {
+                number: u8::from(why),
+                place,
+                length: 0,
+            },
         }
     }
 }

@@ -7,7 +7,7 @@ use lib.Dec.{ltb}
 use lib.ListN.{length, drop, length-drop, length-map}
 use borrow.Author.Tests.{lt-ltb, le-ltb, ltb-true, ltb-false}
 use Rattle.std.specs.Prelude.{Result, Ok, Err}
-use Rattle.rules.specs.Numbers.Verdict.{Verdict, fault_at, refused_at}
+use Rattle.rules.specs.Numbers.Verdict.{fault_at, refused_at}
 use Rattle.rules.specs.Books.Bytes.{long_bytes}
 use Rattle.rules.specs.Books.Event.{event_number}
 use Rattle.rules.specs.declared.event.Event.{Event}

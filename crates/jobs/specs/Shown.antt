@@ -1,5 +1,5 @@
 -- RULES 20.2, 20.4: the job of the request, the empty text and the places of 25, computed as one claim. Assumes nothing.
-use Rattle.std.specs.Prelude.{Bool, true, false, ◌&&◌, List, [], ◌∷◌, ℕ, T, eqb, replicate, if◌then◌else◌}
+use Rattle.std.specs.Prelude.{Bool, true, false, ◌&&◌, List, [], ◌∷◌, ℕ, T, eqb, replicate}
 use Prim.Native.String.{String}
 use Rattle.rules.specs.Numbers.Answer.{verdict_number, verdict_place}
 use Rattle.rules.specs.Numbers.Refusal.{number_of}

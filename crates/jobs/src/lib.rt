@@ -22,8 +22,14 @@ pub fn check_job(text: &[u8], room: usize) -> Result<usize, Fault>
     ensures events_bound { (job_with result).events * 4 ≤ room }
 {
     match scan(text, &mut [0u8; 1]) {
-        Err(place) => Err(Fault { why: Refusal::WrongJob, place }),
-        Ok(count) if room / 4 < count => Err(Fault { why: Refusal::ShortSpace, place: 0 }),
+        Err(place) => Err(Fault {
+            why: Refusal::WrongJob,
+            place,
+        }),
+        Ok(count) if room / 4 < count => Err(Fault {
+            why: Refusal::ShortSpace,
+            place: 0,
+        }),
         Ok(count) => Ok(count),
     }
 }

@@ -1,5 +1,5 @@
 -- The ways through the code that composes a book. Assumes nothing.
-use Rattle.std.specs.Prelude.{Err, Ok, if◌then◌else◌}
+use Rattle.std.specs.Prelude.{Err, Ok}
 use mathlib.Core.Path.{◌≡◌, sym, ◌∙◌, ap}
 use mathlib.Core.List.{List, [], ◌∷◌}
 use Prim.Native.Nat.{ℕ, zero, suc, ◌≤◌, ◌<◌}

@@ -1,5 +1,5 @@
 -- A sentence with two numbers, computed to its bytes: `task 12 runs at 5`. Assumes nothing.
-use Rattle.std.specs.Prelude.{◌≡◌, refl, [], ◌∷◌, if◌then◌else◌}
+use Rattle.std.specs.Prelude.{◌≡◌, refl, [], ◌∷◌}
 use Rattle.page.specs.Ascii.{ascii}
 use Rattle.page.specs.Decimal.{digits_in, digits}
 use Rattle.page.specs.Says.{filled, says}

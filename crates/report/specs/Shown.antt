@@ -1,5 +1,5 @@
 -- RULES 18.2, 18.3, 18.7: the report of P1, by both protocols, and that of P5, which ends with its refusal, as one claim. Assumes nothing.
-use Rattle.std.specs.Prelude.{Bool, true, false, ◌&&◌, List, [], ◌∷◌, ℕ, T, eqb, Ok, if◌then◌else◌}
+use Rattle.std.specs.Prelude.{Bool, true, false, ◌&&◌, List, [], ◌∷◌, ℕ, T, eqb, Ok}
 use Rattle.rules.specs.Numbers.Verdict.{refused_at}
 use Rattle.rules.specs.Numbers.Refusal.{number_of}
 use Rattle.rules.specs.declared.refusal.Refusal.TheVariants.{PastLimit}

@@ -1,18 +1,15 @@
 -- RULES 12.3: a run of events under way: what one turn asks for, and what is left to run. Assumes nothing.
 use Rattle.std.specs.Prelude.{◌≡◌, List, ℕ, ◌+◌, ◌-◌, ◌*◌, ◌≤◌, eqb, length, Ok, Err, if◌then◌else◌}
-use Rattle.rules.specs.Numbers.Verdict.{Verdict, Answer, refused_at}
+use Rattle.rules.specs.Numbers.Verdict.{Verdict, Answer}
 use Rattle.rules.specs.Numbers.Answer.{found_event}
 use Rattle.rules.specs.Books.Book.{found_at}
 use Rattle.rules.specs.Numbers.Place.{from}
 use Rattle.rules.specs.Replays.Run.{run_from}
 use Rattle.rules.specs.Soundness.Sound.{SoundAndSized}
-use Rattle.rules.specs.Schedulers.State.{fresh_of}
 use Rattle.rules.specs.declared.plan.Plan.{Plan}
 use Rattle.rules.specs.declared.protocol.Protocol.{Protocol}
 use Rattle.rules.specs.declared.state.State.{State}
 use Rattle.rules.specs.declared.event.Event.{Event}
-use Rattle.rules.specs.declared.refusal.Refusal.{Refusal}
-use Rattle.rules.specs.declared.answer.Replayed.{Replayed}
 
 -- ---- one turn
 

@@ -8,8 +8,6 @@ use lib.Dec.{eqb, ltb}
 use lib.ListN.{length, take, drop}
 use lib.Seq.{drop-drop, take_all}
 use borrow.Author.Tests.{lt-ltb, le-ltb, eq-eqb, ne_eqb, eqb-true, eqb-false}
-use Rattle.rules.specs.declared.refusal.Refusal.{Refusal}
-use Rattle.rules.specs.Numbers.Verdict.{refused_at}
 use Rattle.rules.proofs.Numbers.Choice.{if_true, if_false, by_test}
 use Rattle.jobs.specs.Job.{Job, job_with, job_answer}
 use Rattle.rules.specs.declared.answer.Fault.{Fault}
@@ -20,7 +18,7 @@ use Rattle.texts.specs.Number.{number_of}
 use Rattle.texts.specs.Line.{without_return, content_of, word_length, field_of, field_length, after_field, plain_line, job_room, job_said, job_line, ended, with_second, with_first, named_line, words_line, line_of, items_after, items_of}
 use Rattle.texts.specs.declared.kind.Kind.{Kind}
 use Rattle.texts.specs.declared.number.Mistake.{Mistake}
-use Rattle.std.specs.Prelude.{Option, Some, None, Result, Ok, Err, if◌then◌else◌}
+use Rattle.std.specs.Prelude.{Option, Some, None, Result, Ok, Err}
 use Rattle.texts.specs.declared.line.Line.{Line}
 use Rattle.texts.proofs.Cuts.{rest, rest_is}
 use Rattle.texts.proofs.Named.{most_within}

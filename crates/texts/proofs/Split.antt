@@ -28,8 +28,6 @@ use Rattle.texts.specs.Line.{without_return, words_line, line_of, job_room, item
 use Rattle.texts.specs.Lines.{longer, lines_of, read_lines, of_part, records_of, is_wrong, first_wrong, count_in, line_of_record}
 use Rattle.std.specs.List.{slice_split, onto_first, enumerate_from}
 use Rattle.std.proofs.lemmas.List.FromFn.{length-enumerate_from, get_or-enumerate_from}
-use Rattle.texts.specs.declared.kind.Kind.{Kind}
-use Rattle.texts.specs.declared.number.Mistake.{Mistake}
 use Rattle.texts.specs.declared.line.Line.{Line}
 use Rattle.texts.specs.declared.lines.First.{First}
 

@@ -343,7 +343,7 @@ cases =
 table : T (all cases)
 unfolding task_numbers lock_numbers use_numbers event_numbers crane paper book end_of row_by row_of rows_of same sames agree ran_right given book_right words_with one_take
     words_right right all cases
- all_true every any count greatest first_from from renewed zeros number_of first_true found first_fault answer_number verdict_number verdict_place
+    all_true every any count greatest first_from from renewed zeros number_of first_true found first_fault answer_number verdict_number verdict_place
     event_fault event_of number_fault has_bit with_bit
     most count_fault task_fault lock_fault declares users users_base users_fault ceiling_fault maximum_fault above_fault task_fault_at lock_fault_at count_fault_of
     use_fault use_above masks_of plan_of

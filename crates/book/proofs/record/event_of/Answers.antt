@@ -1,5 +1,5 @@
 -- `record::event_of` meets its contract. One arm for each kind.
-use Rattle.std.proofs.Common.{refl, if◌then◌else◌}
+use Rattle.std.proofs.Common.{refl}
 use Rattle.rules.specs.Books.Event.{event_of}
 use Rattle.rules.proofs.Numbers.Choice.{tests}
 use Rattle.book.proofs.record.event_of.Goals as goal

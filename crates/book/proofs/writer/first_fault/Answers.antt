@@ -1,5 +1,4 @@
 -- `writer::first_fault` meets its contract. 2, then the plan's, then 8 and 23.
-use Rattle.std.proofs.Common.{rules}
 use Rattle.rules.proofs.Numbers.Checks.{handed_on}
 use Rattle.book.proofs.WriteOrder.{count_refused, few_there, plan_refused, plan_passed}
 use Rattle.book.proofs.writer.first_fault.Goals as goal

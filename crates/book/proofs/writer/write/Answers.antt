@@ -1,5 +1,4 @@
 -- `writer::write` meets its contract. The book is laid, or refused.
-use Rattle.std.proofs.Common.{rules}
 use Rattle.rules.proofs.Numbers.Checks.{handed_on}
 use Rattle.book.proofs.WriteOrder.{write_refused, room_for, write_passed}
 use Rattle.book.proofs.writer.write.Goals as goal

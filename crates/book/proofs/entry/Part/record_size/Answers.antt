@@ -1,5 +1,5 @@
 -- `Part::record_size` meets its contract. Two parts have records of two bytes, and two of four.
-use Rattle.std.proofs.Common.{refl, inl, inr, arith, if◌then◌else◌}
+use Rattle.std.proofs.Common.{refl, inl, inr, arith}
 use Rattle.rules.specs.Books.Book.{size_of}
 use Rattle.book.proofs.entry.Part.record_size.Goals as goal
 

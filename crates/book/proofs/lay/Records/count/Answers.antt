@@ -1,5 +1,5 @@
 -- `Records::count` meets its contract. One arm for each part.
-use Rattle.std.proofs.Common.{refl, if◌then◌else◌}
+use Rattle.std.proofs.Common.{refl}
 use Rattle.book.proofs.lay.Records.count.Goals as goal
 
 pub returns-in-Tasks : goal.returns-in-Tasks

@@ -64,6 +64,7 @@ use Rattle.figures.proofs.row.push_on.Reads as push-on
 use Rattle.figures.proofs.row.has_lock.Reads as has-lock
 use Rattle.figures.proofs.row.newest_word.Reads as newest-word
 use Rattle.figures.proofs.row.push_word.Reads as push-word
+use Rattle.figures.proofs.spare.spare.Reads as spare
 use Rattle.tournament.proofs.tree.Tournament.of.Reads as tournament-of
 use Rattle.tournament.proofs.tree.Tournament.top.Reads as top
 use Rattle.tournament.proofs.tree.Tournament.put.Reads as put
@@ -178,6 +179,11 @@ one_newest_word a b c r q h k = same_user r q (h ∙ sym k)
 
 pub one_push_word : (a : _) (b c : _) (r q : ℕ) → push-word.Post tt a r b → push-word.Post tt a q c → r ≡ q
 one_push_word a b c r q h k = h.0 ∙ sym k.0
+
+-- of numbers of every width: T, and after it what the function asks of T
+pub one_spare : (T t u v w x y z l m n o p κs : _) (a : _) (b c : _) (s k : Bool)
+    → spare.Post T t u v w x y z l m n o p κs a s b → spare.Post T t u v w x y z l m n o p κs a k c → s ≡ k
+one_spare T t u v w x y z l m n o p κs a b c s k h i = h ∙ sym i
 
 -- ---- the plan
 

@@ -1,6 +1,5 @@
 -- What a host in another language is answered is what the library's own functions answer, in numbers; so whatever is promised of these holds for the host.
 -- Assumes nothing.
-use Rattle.std.specs.Prelude.{if◌then◌else◌}
 use mathlib.Core.Path.{◌≡◌, refl, sym, ◌∙◌, ap}
 use mathlib.Core.Bool.{true, false}
 use Prim.Native.Nat.{ℕ}

@@ -17,7 +17,7 @@ use Rattle.texts.specs.Number.{number_of, value_of, digital}
 use Rattle.texts.specs.Line.{without_return, content_of, word_length, field_of, field_length, after_field, plain_line, ended, with_second, with_first, named_line, words_line, line_of}
 use Rattle.texts.specs.Lines.{longer, lines_of, read_lines}
 use Rattle.texts.specs.declared.kind.Kind.{Kind}
-use Rattle.std.specs.Prelude.{Some, Ok, if◌then◌else◌}
+use Rattle.std.specs.Prelude.{Some, Ok}
 use Rattle.texts.specs.declared.line.Line.{Line}
 use Rattle.promises.proofs.Digits.{all, all_append, all_cons, until_there, until_now, digits_some, digits_all, digit_not, digits_digital, digits_value}
 

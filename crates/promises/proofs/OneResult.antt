@@ -6,7 +6,6 @@ use mathlib.Core.List.{List}
 use Prim.Native.Nat.{ℕ}
 use contract.Lifetimes.{Lfts}
 use Rattle.std.specs.Prelude.{Result}
-use Rattle.rules.specs.Books.Write.{Wrote, wrote_with}
 use Rattle.rules.specs.Numbers.Verdict.{Answer}
 use Rattle.rules.specs.Replays.Run.{Ran}
 use Rattle.rules.specs.Replays.Replay.{ran_as}

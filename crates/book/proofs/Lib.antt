@@ -9,7 +9,6 @@ mod Order
 mod Where
 pub mod Accepted
 pub mod EventWalk
-mod FieldBytes
 mod Laying
 mod WriteOrder
 pub mod Looks

@@ -1,5 +1,5 @@
 // What stands in a book, whatever its bytes are: an entry of its contents, and the record k of each part as one number. It is
-// 0 where the book is too short to have it.
+// 0 where the book is too short to have it, as `specs/Look.antt` says, and no `Option`: what is shown of a short book is 0.
 ghost use Rattle.std.specs.Prelude.{◌≡◌, Option};
 ghost use Rattle.book.specs.Look.{entry_in, body_in, record_in, task_in, lock_in, use_in, event_in};
 ghost use Rattle.book.specs.Part.{index_of};

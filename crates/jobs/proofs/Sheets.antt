@@ -1,19 +1,20 @@
 -- Laws of records in space, one by one and all of them. Assumes nothing.
 use mathlib.Core.Path.{◌≡◌, refl, sym, ◌∙◌, ap}
 use mathlib.Core.List.{List, [], ◌∷◌, ◌++◌}
-use Prim.Native.Nat.{ℕ, suc, ◌+◌, ◌*◌, ◌/◌, ◌%◌, ◌≤◌, ◌<◌}
+use Prim.Native.Nat.{ℕ, suc, ◌+◌, ◌*◌, ◌/◌, ◌^◌, ◌≤◌, ◌<◌}
 use native.Mathlib.Nat.{add-zero}
 use native.Mathlib.Omega.{arith}
 use lib.Dec.{ltb}
 use lib.ListN.{length, set, length-append}
 use borrow.Author.Tests.{lt-ltb, le-ltb}
+use Rattle.std.specs.Int.{w32, to_le_bytes}
 use Rattle.rules.specs.Numbers.Place.{at, stored, tabulate}
 use Rattle.rules.specs.Books.Book.{long}
 use Rattle.rules.specs.Books.Bytes.{four, long_bytes}
 use Rattle.rules.specs.Books.Event.{event_number}
 use Rattle.rules.specs.declared.event.Event.{Event}
 use Rattle.rules.proofs.Numbers.Choice.{if_true, if_false}
-use Rattle.rules.proofs.Numbers.Stored.{length_stored, stored_on, long_stored}
+use Rattle.rules.proofs.Numbers.Stored.{length_stored, stored_on, four_written}
 use Rattle.rules.proofs.Books.ReadBack.{read_all, read_long, long_size}
 use Rattle.jobs.specs.Reader.{Answer, prepend}
 use Rattle.jobs.specs.Reader.Answer.{refused, read}
@@ -23,27 +24,20 @@ use Rattle.jobs.specs.Sheet.{with_record, record_in, Sheet, sheet, lay, lay_all,
 -- ---- one record
 
 module _ (s : List ℕ) (n : ℕ) where
-  pub store_fits : (w : ℕ) → n < length s / 4
-      → set (set (set (set s (n * 4) (w % 256)) (n * 4 + 1) (w / 256 % 256)) (n * 4 + 2) (w / 65536 % 256)) (n * 4 + 3) (w / 16777216) ≡ with_record s n w
+  pub store_fits : (w : ℕ) (bytes : List ℕ) → n < length s / 4 → w < 2 ^ 32 → bytes ≡ to_le_bytes w32 w
+      → set (set (set (set s (n * 4) (at bytes 0)) (n * 4 + 1) (at bytes 1)) (n * 4 + 2) (at bytes 2)) (n * 4 + 3) (at bytes 3) ≡ with_record s n w
   unfolding with_record
-  store_fits w l = long_stored s (n * 4) w ∙ sym (if_true (ltb n (length s / 4)) _ _ (lt-ltb n (length s / 4) l))
+  store_fits w bytes l h e = four_written s bytes (n * 4) w h e ∙ sym (if_true (ltb n (length s / 4)) _ _ (lt-ltb n (length s / 4) l))
 
   pub store_past : (w : ℕ) → length s / 4 ≤ n → s ≡ with_record s n w
   unfolding with_record
   store_past w l = sym (if_false (ltb n (length s / 4)) _ _ (le-ltb n (length s / 4) l))
 
-  pub read_fits : (a b c d : ℕ) → n < length s / 4 → a ≡ at s (n * 4) → b ≡ at s (n * 4 + 1) → c ≡ at s (n * 4 + 2) → d ≡ at s (n * 4 + 3)
-      → a + b * 256 + (c + d * 256) * 65536 ≡ record_in s n
-  unfolding record_in
-  read_fits a b c d l e f g h =
-      let k : n * 4 + 3 ≡ n * 4 + 2 + 1 = omega arith in
-      rw (e, f, g, h, k) (sym (if_true (ltb n (length s / 4)) _ _ (lt-ltb n (length s / 4) l)))
-
   pub read_past : length s / 4 ≤ n → 0 ≡ record_in s n
   unfolding record_in
   read_past l = sym (if_false (ltb n (length s / 4)) _ _ (le-ltb n (length s / 4) l))
 
-  there : n < length s / 4 → record_in s n ≡ long s (n * 4)
+  pub there : n < length s / 4 → record_in s n ≡ long s (n * 4)
   unfolding record_in
   there l = if_true (ltb n (length s / 4)) _ _ (lt-ltb n (length s / 4) l)
 

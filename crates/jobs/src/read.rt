@@ -113,6 +113,7 @@ fn item(text: &[u8], from: usize, k: usize, space: &mut [u8], n: usize) -> Resul
 }
 
 // A run of items with one space between them, as far as it goes, with k levels of nesting left. There is one at least.
+// The loop has no list to go over: each item answers where the next one starts.
 #[cycle(body_item)]
 fn body(text: &[u8], from: usize, k: usize, space: &mut [u8], n: usize) -> Result<At, usize>
     requires { (n ≤ from) × (from ≤ length text.now) }

@@ -8,9 +8,6 @@ pub fn store(space: &mut [u8], n: usize, w: u32)
 {
     if n < space.len() / 4 {
         let i = n * 4;
-        space[i] = (w % 256) as u8;
-        space[i + 1] = (w / 256 % 256) as u8;
-        space[i + 2] = (w / 65536 % 256) as u8;
-        space[i + 3] = (w / 16777216) as u8;
+        [space[i], space[i + 1], space[i + 2], space[i + 3]] = w.to_le_bytes();
     }
 }

@@ -1,5 +1,5 @@
 -- The ways through the code that composes a book. Assumes nothing.
-use Rattle.std.specs.Prelude.{Err, Ok}
+use Rattle.std.specs.Prelude.{Option, Some, None, Err, Ok}
 use mathlib.Core.Path.{◌≡◌, sym, ◌∙◌, ap}
 use mathlib.Core.List.{List, [], ◌∷◌}
 use Prim.Native.Nat.{ℕ, zero, suc, ◌≤◌, ◌<◌}
@@ -18,7 +18,6 @@ use Rattle.rules.specs.declared.refusal.Refusal.TheVariants.{WrongCount, WrongTa
 use Rattle.rules.proofs.Numbers.Choice.{if_true, if_false}
 use Rattle.texts.specs.Lines.{lines_of, read_lines, records_of, first_wrong}
 use Rattle.texts.specs.declared.line.Line.{Line}
-use Rattle.texts.specs.declared.lines.First.{First}
 use Rattle.texts.proofs.Small.{tasks_below, uses_below}
 use Rattle.wording.specs.Mistakes.{mistake_of}
 use Rattle.office.specs.Compose.{text_space, unwritten, too_long, entry_part, refused_part, refused_record, refused_by, written}
@@ -130,16 +129,16 @@ module _ (text buffer : List ℕ) where
   text_long l = if_true (ltb text_space (length text)) _ _ (lt-ltb text_space (length text) l)
 
   module _ (l : length text ≤ text_space) where
-    short : (first : First) → first_wrong 0 (read_lines text) ≡ first → compose_of text buffer ≡ composed_by first text buffer
+    short : (first : Option (ℕ × Line)) → first_wrong 0 (read_lines text) ≡ first → compose_of text buffer ≡ composed_by first text buffer
     unfolding compose_of
     short first f = if_false (ltb text_space (length text)) _ _ (le-ltb text_space (length text) l) ∙ ap (λ x. composed_by x text buffer) f
 
-    pub text_wrong : (n : ℕ) (line : Line) → first_wrong 0 (read_lines text) ≡ First.At n line → compose_of text buffer ≡ unwritten buffer (mistake_of n line)
+    pub text_wrong : (n : ℕ) (line : Line) → first_wrong 0 (read_lines text) ≡ Some (n, line) → compose_of text buffer ≡ unwritten buffer (mistake_of n line)
     unfolding composed_by
-    text_wrong n line e = short (First.At n line) e
+    text_wrong n line e = short (Some (n, line)) e
 
-    pub text_right : first_wrong 0 (read_lines text) ≡ First.None → compose_of text buffer ≡ composed_records text buffer
+    pub text_right : first_wrong 0 (read_lines text) ≡ None → compose_of text buffer ≡ composed_records text buffer
     unfolding composed_by
-    text_right e = short First.None e
+    text_right e = short None e
 
 pub ruleset wholes = (records_written, records_refused, text_long, text_wrong, text_right)

@@ -1,17 +1,16 @@
 -- RULES 19.10: what `show` writes for an accepted book is a text whose records are the book's, so that `compose` writes the same bytes from it. Assumes nothing.
-use Rattle.std.specs.Prelude.{◌≡◌, List, ℕ, ◌≤◌, length, take}
+use Rattle.std.specs.Prelude.{◌≡◌, List, ℕ, ◌≤◌, None, length, take}
 use Rattle.rules.specs.Numbers.Answer.{verdict_number}
 use Rattle.rules.specs.Books.Book.{tasks_of, locks_of, uses_of, event_numbers_of, check_of}
 use Rattle.rules.specs.Books.Bytes.{Bytes}
 use Rattle.texts.specs.Lines.{lines_of, read_lines, records_of, first_wrong}
-use Rattle.texts.specs.declared.lines.First.{First}
 use Rattle.office.specs.Ran.{row_space}
 use Rattle.office.specs.Show.{shown_of}
 use Rattle.office.specs.Compose.{text_space, Composed, compose_of}
 
 -- the text of a book: no line has a mistake, the records of each part are the book's, and it is no longer than a text may be
 pub record ReadAgain (b : List ℕ) : Type 0 where
-  pub right : first_wrong 0 (read_lines (shown_of b)) ≡ First.None
+  pub right : first_wrong 0 (read_lines (shown_of b)) ≡ None
   pub tasks : records_of 0 (lines_of (shown_of b)) ≡ tasks_of b
   pub locks : records_of 1 (lines_of (shown_of b)) ≡ locks_of b
   pub uses : records_of 2 (lines_of (shown_of b)) ≡ uses_of b

@@ -1,5 +1,5 @@
 -- RULES 19.5: the book of a text, or the line that says why there is none. Assumes nothing.
-use Rattle.std.specs.Prelude.{List, [], ◌∷◌, ℕ, eqb, ltb, length, Ok, Err, if◌then◌else◌}
+use Rattle.std.specs.Prelude.{List, [], ◌∷◌, ℕ, Option, Some, None, eqb, ltb, length, Ok, Err, if◌then◌else◌}
 use Rattle.rules.specs.Numbers.Verdict.{Verdict}
 use Rattle.rules.specs.Numbers.Refusal.{number_of}
 use Rattle.rules.specs.Books.Plan.{most}
@@ -8,7 +8,6 @@ use Rattle.rules.specs.declared.refusal.Refusal.{Refusal}
 use Rattle.page.specs.Says.{says}
 use Rattle.texts.specs.Lines.{lines_of, read_lines, records_of, first_wrong, line_of_record}
 use Rattle.texts.specs.declared.line.Line.{Line}
-use Rattle.texts.specs.declared.lines.First.{First}
 use Rattle.wording.specs.Mistakes.{mistake_of, refusal_words, refusal_at_line}
 
 -- the most bytes that a text may have
@@ -61,9 +60,9 @@ composed_as (Err f) lines w = record { length = 0; bytes = w.bytes; said = refus
 unfoldable pub composed_records : List ℕ → List ℕ → Composed
 composed_records text buffer = composed_as (written (lines_of text) buffer).verdict (read_lines text) (written (lines_of text) buffer)
 
-unfoldable pub composed_by : First → List ℕ → List ℕ → Composed
-composed_by First.None text buffer = composed_records text buffer
-composed_by (First.At n line) text buffer = unwritten buffer (mistake_of n line)
+unfoldable pub composed_by : Option (ℕ × Line) → List ℕ → List ℕ → Composed
+composed_by None text buffer = composed_records text buffer
+composed_by (Some (n, line)) text buffer = unwritten buffer (mistake_of n line)
 
 -- a text that is too long
 unfoldable pub too_long : List ℕ

@@ -17,7 +17,7 @@ use plan::count::most_of;
 use rules::answer::Fault;
 use rules::capacity::{MAX_EVENTS, MAX_LOCKS, MAX_TASKS, MAX_USES};
 use rules::refusal::Refusal;
-use texts::lines::{First, collect, first_wrong, line_of_record};
+use texts::lines::{collect, first_wrong, line_of_record};
 use wording::mistake::{put_mistake, put_refusal, put_refusal_at};
 
 // Places for one record more than there may be: then 2 is given as for all of them.
@@ -203,8 +203,8 @@ fn compose_text(text: &[u8], out: &mut [u8], page: &mut Page) -> usize
         return 0;
     }
     match first_wrong(text) {
-        First::None => compose_records(text, out, page),
-        First::At(n, line) => {
+        None => compose_records(text, out, page),
+        Some((n, line)) => {
             put_mistake(page, n as u64, line);
             0
         }

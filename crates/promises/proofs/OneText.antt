@@ -5,7 +5,6 @@ use mathlib.Core.Bool.{Bool}
 use mathlib.Core.List.{List}
 use Prim.Native.Nat.{ℕ}
 use contract.Lifetimes.{Lfts}
-use Rattle.std.specs.Prelude.{Result}
 use Rattle.std.specs.Prelude.{Option, Result}
 use Rattle.rules.specs.declared.event.Event.{Event}
 use Rattle.book.specs.declared.look.Entry.{Entry}
@@ -15,7 +14,6 @@ use Rattle.rules.specs.declared.answer.Fault.{Fault}
 use Rattle.texts.specs.declared.kind.Kind.{Kind}
 use Rattle.texts.specs.declared.number.Mistake.{Mistake}
 use Rattle.texts.specs.declared.line.Line.{Line}
-use Rattle.texts.specs.declared.lines.First.{First}
 use Rattle.office.specs.Answered.{Answered, page, answered}
 use Rattle.office.specs.declared.compose.Made.{Made}
 use Rattle.page.proofs.Page.new.Reads as new
@@ -153,7 +151,7 @@ one_line_of κs a b c r q h k = h ∙ sym k
 pub one_items : (κs : Lfts 1) (a : _) (b c : _) (r q : _) → items.Post κs a r b → items.Post κs a q c → r.now ≡ q.now
 one_items κs a b c r q h k = h ∙ sym k
 
-pub one_first_wrong : (κs : Lfts 1) (a : _) (b c : _) (r q : First) → first_wrong_lem.Post κs a r b → first_wrong_lem.Post κs a q c → r ≡ q
+pub one_first_wrong : (κs : Lfts 1) (a : _) (b c : _) (r q : Option (ℕ × Line)) → first_wrong_lem.Post κs a r b → first_wrong_lem.Post κs a q c → r ≡ q
 one_first_wrong κs a b c r q h k = h ∙ sym k
 
 pub one_line_of_record : (κs : Lfts 1) (a : _) (b c : _) (r q : ℕ) → line-of-record.Post κs a r b → line-of-record.Post κs a q c → r ≡ q

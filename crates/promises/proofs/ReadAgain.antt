@@ -1,5 +1,5 @@
 -- RULES 19.10: reading what `show` writes gives the same records, for every accepted book, and composing it the same bytes. Assumes nothing.
-use Rattle.std.specs.Prelude.{Ok, Err}
+use Rattle.std.specs.Prelude.{Ok, Err, None}
 use Rattle.rules.specs.Numbers.Verdict.{Verdict}
 use mathlib.Core.Path.{◌≡◌, refl, sym, ◌∙◌, ap}
 use mathlib.Core.Bool.{Bool, true, false, not, ◌&&◌, ◌||◌}
@@ -32,7 +32,6 @@ use Rattle.texts.specs.Cut.{hash}
 use Rattle.texts.specs.Line.{line_of, items_of}
 use Rattle.texts.specs.Lines.{lines_of, read_lines, of_part, records_of, is_wrong, first_wrong}
 use Rattle.texts.specs.declared.line.Line.{Line}
-use Rattle.texts.specs.declared.lines.First.{First}
 use Rattle.book.specs.Look.{entry_in, body_in, word_in, long_in, task_in, lock_in, use_in, event_in}
 use Rattle.book.specs.declared.look.Entry.{Entry}
 use Rattle.wording.specs.Records.{task_line, lock_line, use_line, event_line}
@@ -149,7 +148,7 @@ unfoldable rights : List Line → Bool
 rights [] = true
 rights (l ∷ ls) = not (is_wrong l) && rights ls
 
-rights_none : (ls : List Line) (n : ℕ) → rights ls ≡ true → first_wrong n ls ≡ First.None
+rights_none : (ls : List Line) (n : ℕ) → rights ls ≡ true → first_wrong n ls ≡ None
 unfolding rights first_wrong
 rights_none [] n h = refl
 rights_none (l ∷ ls) n h =
@@ -356,7 +355,7 @@ module _ (b : List ℕ) (passed : check_of b row_space ≡ Ok tt) where
         ∙ parts_read (ran_of Second b).verdict (ran_of Second b).state.head.accepted (ran_of Second b).rows []
         ∙ append-nil said
 
-    pub read_right : first_wrong 0 (read_lines (shown_of b)) ≡ First.None
+    pub read_right : first_wrong 0 (read_lines (shown_of b)) ≡ None
     read_right = ap (first_wrong 0) text_lines
         ∙ rights_none said 0 (shown_right (task_in b) (lock_in b) (use_in b) (event_in b) (count_at b 0) (count_at b 1) (count_at b 2) (count_at b 3))
 

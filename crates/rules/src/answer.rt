@@ -14,7 +14,8 @@ pub struct Fault {
 }
 
 // What stands at a place of the event body: an event, with the next place; a record that is
-// refused, at its place; or no whole record.
+// refused, at its place; or no whole record. Three outcomes, which an `Option` of a `Result` says no
+// plainer.
 #[derive(Clone, Copy)]
 pub enum Found {
     Got(Event, usize),
@@ -29,7 +30,8 @@ pub struct Opened {
     pub events: usize,
 }
 
-// The answer of a step and the state after it, which is the given one where the event is refused.
+// The answer of a step and the state after it, which is the given one where the event is refused. No
+// `Result`, since the state is wanted beside a refusal too.
 #[derive(Clone, Copy)]
 pub struct Stepped {
     pub answer: Result<bool, Refusal>,
@@ -37,7 +39,8 @@ pub struct Stepped {
 }
 
 // What the replay of a book comes to: what was refused, the plan that was loaded, and the state where
-// the run stopped; the blank plan and a fresh state where the book itself is refused.
+// the run stopped; the blank plan and a fresh state where the book itself is refused. Plan and state
+// are wanted beside a refusal, so this is no `Result`.
 #[derive(Clone, Copy)]
 pub struct Replayed {
     pub verdict: Result<(), Fault>,

@@ -1,5 +1,5 @@
 -- The lines of a text, one after the other, and the ways through the code that goes along them. Assumes nothing.
-use Rattle.std.specs.Prelude.{Ok, Err, if◌then◌else◌}
+use Rattle.std.specs.Prelude.{Ok, Err, Some, None, if◌then◌else◌}
 use mathlib.Core.Path.{◌≡◌, refl, sym, ◌∙◌, ap}
 use mathlib.Core.Bool.{Bool, true, false}
 use mathlib.Core.Logic.{◌⊎◌, inl, inr, ⊎_elim}
@@ -29,7 +29,6 @@ use Rattle.texts.specs.Lines.{longer, lines_of, read_lines, of_part, records_of,
 use Rattle.std.specs.List.{slice_split, onto_first, enumerate_from}
 use Rattle.std.proofs.lemmas.List.FromFn.{length-enumerate_from, get_or-enumerate_from}
 use Rattle.texts.specs.declared.line.Line.{Line}
-use Rattle.texts.specs.declared.lines.First.{First}
 
 -- ---- the lines, as `split` gives them: after the last newline it gives one more, without bytes
 
@@ -90,8 +89,8 @@ unfolding first_wrong is_wrong
 wrong_parts n text = same_of_parts (λ ls. first_wrong n (map line_of ls)) (λ ls. go n ls) text
   where
     go : (n : ℕ) (ls : List (List ℕ)) → first_wrong n (map line_of (ls ++ [] ∷ [])) ≡ first_wrong n (map line_of ls)
-    go n [] = ap (λ l. if is_wrong l then First.At (suc n) l else First.None) blank_line
-    go n (l ∷ ls) = ap (λ x. if is_wrong (line_of l) then First.At (suc n) (line_of l) else x) (go (suc n) ls)
+    go n [] = ap (λ l. if is_wrong l then Some (suc n, l) else None) blank_line
+    go n (l ∷ ls) = ap (λ x. if is_wrong (line_of l) then Some (suc n, line_of l) else x) (go (suc n) ls)
 
 pub record_parts : (part k n : ℕ) (text : List ℕ) → line_of_record part k n (map line_of (parts text)) ≡ line_of_record part k n (read_lines text)
 unfolding line_of_record count_in
@@ -200,7 +199,7 @@ module _ (ls : List (List ℕ)) (k : ℕ) (b : List ℕ) (l : k < length ls) (e 
   wrong_next n t h g f = rw (add-one n) (rw (add-one k) (sym (ap (first_wrong n) now ∙ if_false (is_wrong (line_of b)) _ _ (sym g ∙ f)) ∙ h))
 
   pub wrong_found : (n : ℕ) (t : Bool) → first_wrong n (map line_of (drop k ls)) ≡ first_wrong 0 (map line_of ls) → t ≡ is_wrong (line_of b) → t ≡ true
-      → First.At (n + 1) (line_of b) ≡ first_wrong 0 (map line_of ls)
+      → Some (n + 1, line_of b) ≡ first_wrong 0 (map line_of ls)
   unfolding first_wrong
   wrong_found n t h g f = rw (add-one n) (sym (ap (first_wrong n) now ∙ if_true (is_wrong (line_of b)) _ _ (sym g ∙ f)) ∙ h)
 
@@ -226,7 +225,7 @@ module _ (ls : List (List ℕ)) (k : ℕ) (l : k ≡ length ls) where
   unfolding records_of typed
   collect_ends part p q e = sym (ap (λ x. typed q (records_of part x)) none_left) ∙ e
 
-  pub wrong_ends : (n : ℕ) → first_wrong n (map line_of (drop k ls)) ≡ first_wrong 0 (map line_of ls) → First.None ≡ first_wrong 0 (map line_of ls)
+  pub wrong_ends : (n : ℕ) → first_wrong n (map line_of (drop k ls)) ≡ first_wrong 0 (map line_of ls) → None ≡ first_wrong 0 (map line_of ls)
   unfolding first_wrong
   wrong_ends n e = sym (ap (λ x. first_wrong n (map line_of x)) none_left) ∙ e
 

@@ -1,9 +1,8 @@
 -- RULES 19.1, 19.3, 19.4: the lines of a text, the records of each part, the first line with a mistake, and the line of a record. Assumes nothing.
-use Rattle.std.specs.Prelude.{Bool, true, false, List, [], ◌∷◌, ◌++◌, map, ℕ, suc, ◌-◌, eqb, ltb, if◌then◌else◌}
+use Rattle.std.specs.Prelude.{Bool, true, false, List, [], ◌∷◌, ◌++◌, map, ℕ, suc, ◌-◌, Option, Some, None, eqb, ltb, if◌then◌else◌}
 use Rattle.texts.specs.Cut.{newline}
 use Rattle.texts.specs.Line.{line_of, items_of, item_numbers}
 use Rattle.texts.specs.declared.line.Line.{Line}
-use Rattle.texts.specs.declared.lines.First.{First}
 
 -- a byte more at the front of the first line
 unfoldable pub longer : ℕ → List (List ℕ) → List (List ℕ)
@@ -43,9 +42,9 @@ is_wrong (Line.Wrong kind word m) = true
 is_wrong (Line.Refused why place) = true
 
 -- the first of them, and its number, where n lines stand before these
-unfoldable pub first_wrong : ℕ → List Line → First
-first_wrong n [] = First.None
-first_wrong n (l ∷ ls) = if is_wrong l then First.At (suc n) l else first_wrong (suc n) ls
+unfoldable pub first_wrong : ℕ → List Line → Option (ℕ × Line)
+first_wrong n [] = None
+first_wrong n (l ∷ ls) = if is_wrong l then Some (suc n, l) else first_wrong (suc n) ls
 
 -- how many records of this part a line says
 unfoldable pub count_in : ℕ → Line → ℕ

@@ -11,13 +11,6 @@ use jobs::read_job;
 use jobs::record::record_at;
 use page::Page;
 
-// No line, or the first with a mistake: its number from 1, and what it says.
-#[derive(Clone, Copy)]
-pub enum First {
-    None,
-    At(usize, Line),
-}
-
 // Whether it has a mistake.
 #[tactic(auto, unfolding(crate::specs::Lines::is_wrong))]
 fn is_wrong(line: Line) -> bool
@@ -29,17 +22,17 @@ fn is_wrong(line: Line) -> bool
     }
 }
 
-// The first line with a mistake.
-pub fn first_wrong(text: &[u8]) -> First
+// The first line with a mistake: its number from 1, and what it says.
+pub fn first_wrong(text: &[u8]) -> Option<(usize, Line)>
     ensures { result ≡ first_wrong 0 (read_lines text.now) }
 {
     for (i, bytes) in text.split(|&c| c == b'\n').enumerate() {
         let line = line_of(bytes);
         if is_wrong(line) {
-            return First::At(i + 1, line);
+            return Some((i + 1, line));
         }
     }
-    First::None
+    None
 }
 
 // The numbers of the first n records in event space.
@@ -83,7 +76,7 @@ fn keep(page: &mut Page<u32>, line: Line, bytes: &[u8], part: u8)
     }
 }
 
-// The records of a part, as many as the page has room for.
+// The records of a part, 0 to 3, as many as the page has room for. Of a part with another number there are none, so this is a number and no enum.
 pub fn collect(text: &[u8], part: u8, page: &mut Page<u32>)
     ensures { page.new ≡ typed page.old (records_of part (lines_of text.now)) }
 {

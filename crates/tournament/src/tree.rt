@@ -62,7 +62,8 @@ impl Tournament {
     }
 
     // The key of t is another: what stands above it follows. Places 2p + 1 and 2p + 2 stand below p, so
-    // 4p + 3 - i stands beside i. What was stored last is at hand in v.
+    // 4p + 3 - i stands beside i. What was stored last is at hand in v. The place is halved at each level, so
+    // there is no range to go over.
     pub fn put(&mut self, t: usize, key: u64)
         ensures tasks { self.new.tasks ≡ self.old.tasks }
         ensures keys { (f : ℕ → ℕ) → self.old.keys ≡ tree_of self.old.tasks f

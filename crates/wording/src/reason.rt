@@ -26,7 +26,7 @@ pub struct Facts {
 }
 
 // A call: the event's number, the task that ran before it, the lock that it names, the task that runs after it and its
-// user word.
+// user word. These numbers stand in the sentence as they are handed in (`call_line`).
 pub fn put_call(page: &mut Page, n: u64, before: u64, lock: u64, after: u64, user: u64)
     ensures { page.new ≡ typed page.old (call_line n before lock after user) }
 {

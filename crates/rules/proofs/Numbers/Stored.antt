@@ -1,13 +1,14 @@
 -- Laws of values that are stored from a place on: one run after another, what stands there then, and the bytes of a number. Assumes nothing.
 use mathlib.Core.Path.{◌≡◌, refl, ◌∙◌, ap, ap₂}
 use mathlib.Core.List.{List, [], ◌∷◌, ◌++◌}
-use Prim.Native.Nat.{ℕ, suc, ◌+◌, ◌/◌, ◌%◌, ◌≤◌, ◌<◌}
+use Prim.Native.Nat.{ℕ, suc, ◌+◌, ◌/◌, ◌%◌, ◌^◌, ◌≤◌, ◌<◌}
 use native.Mathlib.Nat.{zero-add, suc-add}
 use native.Mathlib.Numerals.{add-one}
 use native.Mathlib.Omega.{arith}
 use lib.ListN.{length, set, take, drop, length-set}
 use lib.Seq.{sets, sets-eq}
-use Rattle.rules.specs.Numbers.Place.{stored}
+use Rattle.std.specs.Int.{w16, w32, to_le_bytes}
+use Rattle.rules.specs.Numbers.Place.{at, stored}
 use Rattle.rules.specs.Books.Bytes.{two, four}
 
 stored_sets : (xs : List ℕ) (i : ℕ) (vs : List ℕ) → stored xs i vs ≡ sets xs i vs
@@ -58,6 +59,19 @@ long_stored out i w =
     let b : i + 2 ≡ suc (suc i) = omega arith in
     let c : i + 3 ≡ suc (suc (suc i)) = omega arith in
     rw (a, b, c)
+
+-- and as std gives its bytes
+module _ (out bytes : List ℕ) (i w : ℕ) where
+  pub two_written : w < 2 ^ 16 → bytes ≡ to_le_bytes w16 w → set (set out i (at bytes 0)) (i + 1) (at bytes 1) ≡ stored out i (two w)
+  two_written h e =
+      let high : w / 256 % 256 ≡ w / 256 = omega (arith, h) in
+      rw e (ap (λ v. set (set out i (w % 256)) (i + 1) v) high) ∙ word_stored out i w
+
+  pub four_written : w < 2 ^ 32 → bytes ≡ to_le_bytes w32 w
+      → set (set (set (set out i (at bytes 0)) (i + 1) (at bytes 1)) (i + 2) (at bytes 2)) (i + 3) (at bytes 3) ≡ stored out i (four w)
+  four_written h e =
+      let high : w / 16777216 % 256 ≡ w / 16777216 = omega (arith, h) in
+      rw e (ap (λ v. set (set (set (set out i (w % 256)) (i + 1) (w / 256 % 256)) (i + 2) (w / 65536 % 256)) (i + 3) v) high) ∙ long_stored out i w
 
 -- the bytes after the first are within the list
 pub second_in : (out : List ℕ) (i x : ℕ) → i + 3 < length out → i + 1 < length (set out i x)

@@ -1,5 +1,5 @@
 -- RULES 5.1: the refusal numbers, all in this place, and how a list of tests in order gives one. Assumes nothing.
-use Rattle.std.specs.Prelude.{◌≡◌, Bool, true, false, List, [], ◌∷◌, ℕ, ◌+◌, ◌-◌, ◌<◌, eqb, ltb, Ok, Err, if◌then◌else◌}
+use Rattle.std.specs.Prelude.{◌≡◌, Bool, true, false, List, [], ◌∷◌, ℕ, ◌+◌, ◌<◌, eqb, ltb, Ok, Err, if◌then◌else◌}
 use Rattle.rules.specs.Numbers.Verdict.{Verdict, Tested, refused_at}
 use Rattle.rules.specs.Numbers.Place.{first_from}
 use Rattle.rules.specs.declared.refusal.Refusal.{Refusal}
@@ -56,10 +56,6 @@ number_of Refusal.AboveMaximum = 24
 number_of Refusal.WrongJob = 25
 -- there are fewer than four bytes of event space for each event of a job
 number_of Refusal.ShortSpace = 26
-
--- a refusal's place in the order of the numbers, from 1: they follow each other, but for 16
-unfoldable pub place_of : Refusal → ℕ
-place_of why = if ltb (number_of why) 16 then number_of why else number_of why - 1
 
 -- tests in order, each with its refusal: the first that holds refuses
 unfoldable pub first_true : List (Bool × Refusal) → Tested

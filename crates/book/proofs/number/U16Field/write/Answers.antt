@@ -1,6 +1,6 @@
 -- A `u16` is written as `two` says. Its two bytes are those of `to_le_bytes`.
 use Rattle.std.proofs.Common.{rules}
-use Rattle.book.proofs.FieldBytes.{two_written}
+use Rattle.rules.proofs.Numbers.Stored.{two_written}
 use Rattle.book.proofs.number.U16Field.write.Goals as goal
 
 pub returns : goal.returns

@@ -5,6 +5,7 @@ ghost use Rattle.rules.specs.Numbers.Capacity.{max_takes};
 ghost use Rattle.rules.specs.Numbers.Place.{at};
 ghost use Rattle.rules.specs.Numbers.Row.{priority, saves};
 
+use figures::priority::user_of;
 use figures::row::{newest_of, push_word, under_of};
 use rules::capacity::MAX_LOCKS;
 use rules::priority::UserPriority;
@@ -25,7 +26,7 @@ pub fn row_priority(base: UserPriority, ceiling: &[u8; MAX_LOCKS], row: u64, k: 
         base
     } else {
         let below = row_priority(base, ceiling, under_of(row), k - 1);
-        UserPriority(at_lock(ceiling, newest_of(row))).max(below)
+        user_of(at_lock(ceiling, newest_of(row))).max(below)
     }
 }
 

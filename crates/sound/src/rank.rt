@@ -5,6 +5,7 @@ ghost use Rattle.rules.specs.Numbers.Place.{at, greatest};
 ghost use Rattle.rules.specs.Schedulers.Figures.{figures_of, rank_of};
 
 use crate::priority::row_priority;
+use figures::priority::{kernel_of, user_of};
 use rules::capacity::MAX_TASKS;
 use rules::plan::Plan;
 use rules::priority::{KernelPriority, UserPriority};
@@ -17,9 +18,9 @@ pub fn rank_of(p: &Plan, s: &State, x: usize) -> UserPriority
 {
     match s.released.get(x) {
         Some(number) if *number != 0 => {
-            row_priority(UserPriority(p.base[x]), &p.ceiling, s.takes[x], s.depth[x])
+            row_priority(user_of(p.base[x]), &p.ceiling, s.takes[x], s.depth[x])
         }
-        _ => UserPriority(0),
+        _ => user_of(0),
     }
 }
 
@@ -28,5 +29,5 @@ pub fn greatest_kept(n: usize, kept: &[u8; MAX_TASKS]) -> KernelPriority
     requires { n ≤ max_tasks }
     ensures { result.0 ≡ greatest (at kept.now) n }
 {
-    KernelPriority(kept[..n].iter().fold(0, |top, k| top.max(*k)))
+    kernel_of(kept[..n].iter().fold(0, |top, k| top.max(*k)))
 }

@@ -10,11 +10,10 @@ ghost use Rattle.rules.specs.Soundness.SoundTest.{number_new, number_test, own_t
 use crate::priority::{at_lock, row_saves};
 use crate::rank::rank_of;
 use figures::mask::has_bit;
-use figures::priority::recorded;
+use figures::priority::{kernel_of, recorded, user_of};
 use figures::row::{newest_of, under_of};
 use rules::capacity::{MAX_DELAY, MAX_LOCKS, MAX_TAKES, MAX_TASKS};
 use rules::plan::Plan;
-use rules::priority::{KernelPriority, UserPriority};
 use rules::state::State;
 
 // Each of the k newest of a row is of one of m locks, declared; after them there is 0.
@@ -77,9 +76,9 @@ fn kept_sound(p: &Plan, s: &State, x: usize) -> bool
     requires { x < max_tasks }
     ensures { result ≡ eqb (at s.now.kept x) (kept_of p.now (figures_of s.now) s.now.head.running x) }
 {
-    let kept = KernelPriority(s.kept[x]);
+    let kept = kernel_of(s.kept[x]);
     if x == s.head.running as usize {
-        kept == KernelPriority(0)
+        kept == kernel_of(0)
     } else {
         kept == recorded(rank_of(p, s, x))
     }
@@ -92,7 +91,7 @@ fn saved_sound(p: &Plan, s: &State, x: usize) -> bool
     requires short { at s.now.depth x ≤ max_takes }
     ensures { result ≡ eqb (at s.now.saved x) (saved_of p.now (figures_of s.now) x) }
 {
-    s.saved[x] == row_saves(UserPriority(p.base[x]), &p.ceiling, s.takes[x], s.depth[x])
+    s.saved[x] == row_saves(user_of(p.base[x]), &p.ceiling, s.takes[x], s.depth[x])
 }
 
 #[tactic(auto, using(crate::proofs::Tests::turns), unfolding(rules::specs::Soundness::SoundTest::task_test))]

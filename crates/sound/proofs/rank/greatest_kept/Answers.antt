@@ -8,4 +8,4 @@ use Rattle.sound.proofs.rank.greatest_kept.Goals as goal
 pub returns : goal.returns
 returns c =
     let folded : c.fold.result ≡ fold (λ a x. max a x) 0 (take c.args.n c.args.kept.now) = search (rules, chains) in
-    folded ∙ greatest_folds c.args.kept.now c.args.n (omega arith)
+    c.kernel_of.ensures ∙ folded ∙ greatest_folds c.args.kept.now c.args.n (omega arith)

@@ -15,7 +15,7 @@ use Rattle.rules.specs.Numbers.Row.{newest, under, pushed, has}
 use Rattle.rules.specs.Schedulers.Figures.{Figures, figures_of}
 use Rattle.rules.specs.Schedulers.FiguresAfter.{differs, left_of, stays_open, eager_calls, delayed, figures_after}
 use Rattle.rules.specs.Schedulers.Protocol.{second_word}
-use Rattle.rules.specs.Schedulers.Lazy.{words_of, calls_for, entering, best_kept, stays, restored, leaves, switched}
+use Rattle.rules.specs.Schedulers.Lazy.{words_of, state_of, calls_for, entering, best_kept, stays, restored, leaves, switched}
 use Rattle.rules.specs.Schedulers.Lazy.{after_release, after_acquire, after_unlock, words_after, lazy_call}
 use Rattle.rules.specs.Replays.Step.{after_of, answered, act_of}
 use Rattle.rules.specs.declared.plan.Plan.{Plan}
@@ -36,9 +36,10 @@ use Rattle.tournament.specs.Keys.{tournament_of}
 use Rattle.tournament.specs.Tournament.{IsTournamentOf}
 use Rattle.tournament.specs.declared.tree.Tournament.{Tournament}
 use Rattle.tournament.proofs.KeyLaws.{put_idle}
-use Rattle.kernel.specs.Acting.{Accepts, IdleWord, given_back, with_words}
+use Rattle.kernel.specs.Acting.{Accepts, IdleWord, calls_at_acquire, calls_at_unlock, given_back, told_of, with_words, worked}
+use Rattle.kernel.specs.Ready.{ReleaseReady, AcquireReady, UnlockReady, FinishReady}
 use Rattle.kernel.specs.Work.{charged_row}
-use Rattle.kernel.proofs.Ready.{room, eager_room, lazy_room, unlock_runs, release_none, acquire_row, acquire_words, finish_left}
+use Rattle.kernel.proofs.Ready.{accept_room, acquire_row, acquire_words}
 use Rattle.kernel.proofs.WorkLaws.{charges}
 
 -- a tournament stands for another state of the same release numbers and kept priorities
@@ -75,19 +76,19 @@ module _ (p : Plan) (s : State) where
   abbrev pub finished : State
   finished = record counted { released = set s.released r 0 }
 
-  pub finish_acts : (pr : Protocol) (n : ℕ) (found after : State) → Accepts p s Event.Finish
+  pub finish_acts : (pr : Protocol) (n : ℕ) (found after : State) → FinishReady s
       → found ≡ with_words finished (entering p.maximum (words_of finished)) → n ≡ p.tasks
       → after ≡ with_words found (switched pr n found.released found.kept (words_of found)) → after ≡ after_of pr p s Event.Finish
   unfolding after_of figures_after eager_calls words_after entering
-  finish_acts pr n found after A e t g =
-      let k : set s.kept r 0 ≡ s.kept = sym (ap (set s.kept r) (finish_left A)) ∙ set-get_or s.kept r 0 in
+  finish_acts pr n found after R e t g =
+      let k : set s.kept r 0 ≡ s.kept = sym (ap (set s.kept r) R.left) ∙ set-get_or s.kept r 0 in
       rw (g, t, e, k, add-zero s.head.eager)
 
   -- the tournament stands: nothing is kept for the task that is done
-  pub finish_stands : (n : ℕ) (found : State) (tree : Tournament) → Accepts p s Event.Finish
+  pub finish_stands : (n : ℕ) (found : State) (tree : Tournament) → FinishReady s
       → found ≡ with_words finished (entering p.maximum (words_of finished)) → IsTournamentOf n tree s → IsTournamentOf tree.tasks tree found
   unfolding entering
-  finish_stands n found tree A e T = rw e (stands n tree _ T.tasks (put_idle n tree s T r 0 (finish_left A)) T.sized)
+  finish_stands n found tree R e T = rw e (stands n tree _ T.tasks (put_idle n tree s T r 0 R.left) T.sized)
 
   -- ---- release
 
@@ -102,14 +103,14 @@ module _ (p : Plan) (s : State) where
     unfolding after_of figures_after eager_calls words_after entering
     release_acts pr n found after base e m b g = rw (g, m, b, e, add-zero s.head.eager)
 
-    pub release_stands : (n : ℕ) (found : State) (tree : Tournament) → Accepts p s (Event.Release t)
+    pub release_stands : (n : ℕ) (found : State) (tree : Tournament) → ReleaseReady p s t
         → found ≡ with_words released (entering p.maximum (words_of released)) → IsTournamentOf n tree s → IsTournamentOf tree.tasks tree found
     unfolding entering
-    release_stands n found tree A e T = rw e (stands n tree _ T.tasks (put_idle n tree s T t (s.head.accepted + 1) (release_none A)) T.sized)
+    release_stands n found tree R e T = rw e (stands n tree _ T.tasks (put_idle n tree s T t (s.head.accepted + 1) R.arrives.none) T.sized)
 
   -- ---- acquire
 
-  pub acquire_acts : (pr : Protocol) (l row words calls : ℕ) (user top : UserPriority) → Accepts p s (Event.Acquire l) → top.0 ≡ at p.ceiling l
+  pub acquire_acts : (pr : Protocol) (l row words calls : ℕ) (user top : UserPriority) → AcquireReady s l → top.0 ≡ at p.ceiling l
       → row ≡ pushed (at s.takes r % 256 ^ 7) l → words ≡ pushed (at s.saved r % 256 ^ 7) s.head.user.0 → user.0 ≡ max s.head.user.0 top.0
       → calls ≡ differs s.head.user.0 user.0
       → record s {
@@ -118,22 +119,28 @@ module _ (p : Plan) (s : State) where
         takes = set s.takes r row;
         saved = set s.saved r words;
         owner = set s.owner l (r + 1);
-      } ≡ after_of pr p s (Event.Acquire l)
-  unfolding after_of figures_after eager_calls words_after after_acquire
-  acquire_acts pr l row words calls user top A c t w u g =
-      let o = allowed p f r (Event.Acquire l) A.passed in
+      } ≡ told_of pr p s (Event.Acquire l) (calls_at_acquire p s l)
+  unfolding told_of figures_after words_after after_acquire
+  acquire_acts pr l row words calls user top R c t w u g =
       let U : user ≡ record { 0 = max s.head.user.0 (at p.ceiling l) } = ap (λ v. record { 0 = v }) (u ∙ ap (max s.head.user.0) c) in
-      let E : s.head.eager + calls ≡ (figures_after p f r (Event.Acquire l)).eager =
-      ap (λ v. s.head.eager + v) (g ∙ ap (differs s.head.user.0) (u ∙ ap (max s.head.user.0) c)) ∙ sym (take_calls (scene A.sound (room A)) o.runs o) in
-      rw (E, U, push_fits (at s.takes r) l row (acquire_row A) t, push_fits (at s.saved r) s.head.user.0 words (acquire_words A) w)
+      let E : calls ≡ calls_at_acquire p s l = g ∙ ap (differs s.head.user.0) (u ∙ ap (max s.head.user.0) c) in
+      rw (E, U, push_fits (at s.takes r) l row (acquire_row R) t, push_fits (at s.saved r) s.head.user.0 words (acquire_words R) w)
+
+  -- in a sound state the user word is the priority of the task that acts, so the calls are the figures'
+  pub acquire_same : (pr : Protocol) (l : ℕ) → Accepts p s (Event.Acquire l) → told_of pr p s (Event.Acquire l) (calls_at_acquire p s l) ≡ after_of pr p s (Event.Acquire l)
+  unfolding after_of told_of
+  acquire_same pr l A =
+      let o = allowed p f r (Event.Acquire l) A.passed in
+      ap (λ v. state_of (record (figures_after p f r (Event.Acquire l)) { eager = v })
+      (words_after pr p f (figures_after p f r (Event.Acquire l)).released (words_of s) (Event.Acquire l)))
+      (sym (take_calls (scene A.sound (accept_room A)) o.runs o))
 
   -- ---- unlock: `back` is the state where the take is given back
 
-  module _ (l calls : ℕ) (back : State) (A : Accepts p s (Event.Unlock l)) (given : back ≡ given_back l s) (g : calls ≡ differs s.head.user.0 back.head.user.0) where
-    counts : s.head.eager + calls ≡ (figures_after p f r (Event.Unlock l)).eager
+  module _ (l calls : ℕ) (back : State) (R : UnlockReady s l) (given : back ≡ given_back l s) (g : calls ≡ differs s.head.user.0 back.head.user.0) where
+    counts : calls ≡ calls_at_unlock s
     unfolding restored
-    counts = let o = allowed p f r (Event.Unlock l) A.passed in
-        ap (λ v. s.head.eager + v) (g ∙ ap (λ (x : State). differs s.head.user.0 x.head.user.0) given) ∙ sym (give_calls (scene A.sound (room A)) o.runs o)
+    counts = g ∙ ap (λ (x : State). differs s.head.user.0 x.head.user.0) given
 
     -- the state that goes on
     abbrev pub restored_so : ℕ → State
@@ -150,19 +157,19 @@ module _ (p : Plan) (s : State) where
 
       pub unlock_calls : (pr : Protocol) (n : ℕ) (found after : State) → call ≡ true
           → found ≡ with_words (restored_so 1) (entering p.maximum (words_of (restored_so 1))) → n ≡ p.tasks
-          → after ≡ with_words found (leaves pr n found.released (words_of found)) → after ≡ after_of pr p s (Event.Unlock l)
-      unfolding after_of figures_after words_after after_unlock restored entering
+          → after ≡ with_words found (leaves pr n found.released (words_of found)) → after ≡ told_of pr p s (Event.Unlock l) (calls_at_unlock s)
+      unfolding told_of figures_after words_after after_unlock restored entering
       unlock_calls pr n found after y e m q = rw (q, m, e, given, add-zero s.head.lazy, counts, said_so true y)
 
       pub unlock_stays : (pr : Protocol) → call ≡ false
-          → record back { head = record back.head { accepted = back.head.accepted + 1; eager = back.head.eager + calls } } ≡ after_of pr p s (Event.Unlock l)
-      unfolding after_of figures_after words_after after_unlock restored
+          → record back { head = record back.head { accepted = back.head.accepted + 1; eager = back.head.eager + calls } } ≡ told_of pr p s (Event.Unlock l) (calls_at_unlock s)
+      unfolding told_of figures_after words_after after_unlock restored
       unlock_stays pr y = rw (given, counts, said_so false y)
 
     -- somebody runs, and the tournament stands
     pub unlock_idle : IdleWord (restored_so 1)
     unfolding restored
-    unlock_idle = rw given (λ h. absurd (omega (arith, unlock_runs A)))
+    unlock_idle = rw given (λ h. absurd (omega (arith, R.runs)))
 
     pub unlock_stands : (n : ℕ) (found : State) (tree : Tournament) → found ≡ with_words (restored_so 1) (entering p.maximum (words_of (restored_so 1)))
         → IsTournamentOf n tree s → IsTournamentOf tree.tasks tree found
@@ -176,16 +183,26 @@ module _ (p : Plan) (s : State) where
 
     pub unlock_rooms : (back.head.eager < max_accepted) × (back.head.lazy < max_accepted)
     unfolding restored
-    unlock_rooms = rw (given, add-zero s.head.lazy) (eager_room A, lazy_room A)
+    unlock_rooms = rw (given, add-zero s.head.lazy) (omega (arith, R.room, R.eager), omega (arith, R.room, R.lazy))
+
+  pub unlock_same : (pr : Protocol) (l : ℕ) → Accepts p s (Event.Unlock l) → told_of pr p s (Event.Unlock l) (calls_at_unlock s) ≡ after_of pr p s (Event.Unlock l)
+  unfolding after_of told_of
+  unlock_same pr l A =
+      let o = allowed p f r (Event.Unlock l) A.passed in
+      ap (λ v. state_of (record (figures_after p f r (Event.Unlock l)) { eager = v })
+      (words_after pr p f (figures_after p f r (Event.Unlock l)).released (words_of s) (Event.Unlock l)))
+      (sym (give_calls (scene A.sound (accept_room A)) o.runs o))
 
   -- ---- work
 
-  pub work_acts : (pr : Protocol) (a : ℕ) (waited : State) (units : List ℕ) → Accepts p s (Event.Work a)
-      → waited ≡ record s { delay = renewed s.delay (delayed p f r a) p.tasks }
+  pub work_acts : (a : ℕ) (waited : State) (units : List ℕ) → waited ≡ record s { delay = renewed s.delay (delayed p f r a) p.tasks }
       → units ≡ charged_row waited.units a (at waited.takes r) (at waited.depth r)
-      → record waited { head = record waited.head { accepted = waited.head.accepted + 1 }; units = units } ≡ after_of pr p s (Event.Work a)
+      → record waited { head = record waited.head { accepted = waited.head.accepted + 1 }; units = units } ≡ worked p s a
+  work_acts a waited units e u = rw (u, e)
+
+  pub work_same : (pr : Protocol) (a : ℕ) → Accepts p s (Event.Work a) → worked p s a ≡ after_of pr p s (Event.Work a)
   unfolding after_of figures_after eager_calls words_after
-  work_acts pr a waited units A e u = rw (u, e, charges A, add-zero s.head.eager)
+  work_same pr a A = rw (charges A, add-zero s.head.eager)
 
 -- ---- an eager call, where the words differ
 

@@ -30,7 +30,7 @@ use Rattle.rules.proofs.Numbers.Place.{any_some, some_any}
 use Rattle.rules.proofs.Numbers.Row.{has_none, has_newest, has_under, has_cases}
 use Rattle.rules.proofs.Schedulers.FiguresKept.{inside, holder_out}
 use Rattle.rules.proofs.Schedulers.WordsKept.{owner_is, owner_some}
-use Rattle.kernel.specs.Acting.{IsSound}
+use Rattle.kernel.specs.Acting.{IsSound, with_user}
 use Rattle.kernel.specs.Work.{past_row, InRow}
 use Rattle.kernel.proofs.WorkLaws.{row_under}
 
@@ -196,10 +196,10 @@ module _ (p : Plan) (s : State) (I : IsSound p s) where
 
   -- the owner's byte says whether another task has the lock open
   pub owner_none : (l : ℕ) → at s.owner l ≡ 0 → not (eqb (at s.owner l) 0) ≡ elsewhere (figures_of s) p.tasks s.head.running l
-  owner_none l e = unowned (at s.owner l) e ∙ other_same p s I.sound l
+  owner_none l e = unowned (at s.owner l) e ∙ other_same p (with_user s I.user) I.sound l
 
   pub owner_some_other : (l : ℕ) → (at s.owner l ≡ 0 → ⊥) → not (eqb (at s.owner l) (s.head.running + 1)) ≡ elsewhere (figures_of s) p.tasks s.head.running l
-  owner_some_other l n = owned_by (at s.owner l) n ∙ other_same p s I.sound l
+  owner_some_other l n = owned_by (at s.owner l) n ∙ other_same p (with_user s I.user) I.sound l
 
   pub row_known : InRow p.locks (at s.takes s.head.running) (at s.depth s.head.running)
   unfolding holds
@@ -208,8 +208,8 @@ module _ (p : Plan) (s : State) (I : IsSound p s) where
   -- the open sections are those along the row
   pub past_none : (a : ℕ) → false ≡ past_row p.limit s.units a (at s.takes s.head.running) (at s.depth s.head.running)
       → false ≡ past_limit p (figures_of s) s.head.running a
-  past_none a e = e ∙ past_same p s I.sound a
+  past_none a e = e ∙ past_same p (with_user s I.user) I.sound a
 
   pub past_some_section : (a : ℕ) → true ≡ past_row p.limit s.units a (at s.takes s.head.running) (at s.depth s.head.running)
       → true ≡ past_limit p (figures_of s) s.head.running a
-  past_some_section a e = e ∙ past_same p s I.sound a
+  past_some_section a e = e ∙ past_same p (with_user s I.user) I.sound a

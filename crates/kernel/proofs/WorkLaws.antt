@@ -23,12 +23,13 @@ use Rattle.rules.specs.declared.plan.Plan.{Plan}
 use Rattle.rules.specs.declared.state.State.{State}
 use Rattle.rules.specs.declared.event.Event.{Event}
 use Rattle.rules.proofs.Numbers.Choice.{if_true, if_false, by_test, either, not_so, untrue, true_and, at_or, lt_or_le}
-use Rattle.rules.proofs.Numbers.Place.{RenewedSoFar, renewed_next, renewed_rest, renewed_at, length_renewed, some_any}
+use Rattle.rules.proofs.Numbers.Place.{RenewedSoFar, renewed_next, renewed_rest, renewed_at, renewed_same, length_renewed, some_any}
+use Rattle.rules.proofs.Schedulers.Rules.{delayed_same}
 use Rattle.rules.proofs.Numbers.Row.{has_none, has_suc, has_newest, has_under}
 use Rattle.rules.proofs.Books.Obeyed.{few_locks}
 use Rattle.rules.proofs.Schedulers.Passed.{allowed}
-use Rattle.rules.proofs.Soundness.Shortcuts.{shortcuts}
 use Rattle.kernel.specs.Acting.{Accepts}
+use Rattle.kernel.specs.Ready.{WorkReady}
 use Rattle.kernel.specs.Work.{waited_by, bumped, charged_row, InRow, Laden}
 
 -- ---- a task's delay
@@ -61,16 +62,13 @@ module _ (p : Plan) (s : State) (a : ℕ) where
         (ap (λ zs. at zs t) h.1 ∙ renewed_rest s.delay waited t t 0 (omega arith))),
   )
 
+-- nobody waits more where nothing is kept above the running task's base
+pub waits_nobody : (p : Plan) (s : State) (a : ℕ) → WorkReady p s → best_kept s.kept p.tasks ≤ at p.base s.head.running
+    → s ≡ record s { delay = renewed s.delay (delayed p (figures_of s) s.head.running a) p.tasks }
+waits_nobody p s a R h = ap (λ d. record s { delay = d }) (sym (renewed_same s.delay (delayed p (figures_of s) s.head.running a) p.tasks
+    (λ x l. delayed_same p (figures_of s) s.head.running a x (λ c. omega (arith, R.waiting x c.out c.lower, c.lower)))))
+
 module _ {p : Plan} {s : State} {a : ℕ} (A : Accepts p s (Event.Work a)) where
-  -- nobody waits more where nothing is kept above the running task's base
-  pub waits_nobody : best_kept s.kept p.tasks ≤ at p.base s.head.running → s ≡ record s { delay = renewed s.delay (delayed p (figures_of s) s.head.running a) p.tasks }
-  unfolding after_of figures_after
-  waits_nobody h = ap (λ d. record s { delay = d }) (sym ((shortcuts A.sound).spares a h))
-
-  pub work_row : InRow max_locks (at s.takes s.head.running) (at s.depth s.head.running)
-  unfolding holds
-  work_row = record { known = λ l h. omega (arith, A.sound.sound.figures.known s.head.running l h, few_locks A.sound.sound.plan) }
-
   -- the open sections have room for a units more, since none of them would pass its limit
   laden : Laden p.locks s.units a (at s.takes s.head.running) (at s.depth s.head.running)
   unfolding holds past_limit

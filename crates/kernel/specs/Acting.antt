@@ -1,24 +1,31 @@
--- RULES 9: what the code of each event is handed: a sound state in which the event passes its tests. Assumes nothing.
-use Rattle.std.specs.Prelude.{◌≡◌, ◌≢◌, ℕ, ◌-◌, ◌≤◌, ◌<◌, set, Ok}
+-- RULES 9: what the code of the events is handed, and what it makes of a state. Assumes nothing.
+use Rattle.std.specs.Prelude.{◌≡◌, ◌≢◌, ℕ, ◌+◌, ◌-◌, ◌≤◌, ◌<◌, max, set, Ok}
 use Rattle.rules.specs.Numbers.Capacity.{max_tasks}
-use Rattle.rules.specs.Numbers.Place.{at}
+use Rattle.rules.specs.Numbers.Place.{at, renewed}
 use Rattle.rules.specs.Numbers.Row.{under}
 use Rattle.rules.specs.Schedulers.EventRefusals.{refusal_of}
 use Rattle.rules.specs.Schedulers.Figures.{figures_of}
-use Rattle.rules.specs.Schedulers.FiguresAfter.{stays_open, left_of}
-use Rattle.rules.specs.Schedulers.Lazy.{Words, words_of, state_of, restored}
+use Rattle.rules.specs.Schedulers.FiguresAfter.{differs, delayed, figures_after, stays_open, left_of}
+use Rattle.rules.specs.Schedulers.Lazy.{Words, words_of, state_of, back_of, restored, words_after}
 use Rattle.rules.specs.Soundness.Sound.{SoundAndSized}
 use Rattle.rules.specs.declared.plan.Plan.{Plan}
 use Rattle.rules.specs.declared.protocol.Protocol.{Protocol}
 use Rattle.rules.specs.declared.state.State.{State}
 use Rattle.rules.specs.declared.event.Event.{Event}
+use Rattle.rules.specs.declared.priority.UserPriority.{UserPriority}
+use Rattle.kernel.specs.Work.{charged_row}
 
--- a state that is sound by one of the protocols
+-- a state with another user word
+abbrev pub with_user : State → UserPriority → State
+with_user s user = record s { head = record s.head { user = user } }
+
+-- a state that is sound by one of the protocols, but for its user word: that may be any
 pub record IsSound (p : Plan) (s : State) : Type 0 where
   pub protocol : Protocol
-  pub sound : SoundAndSized protocol p s
+  pub user : UserPriority
+  pub sound : SoundAndSized protocol p (with_user s user)
 
--- and in which the event is accepted
+-- a sound state in which the event is accepted
 pub record Accepts (p : Plan) (s : State) (e : Event) : Type 0 where
   pub protocol : Protocol
   pub sound : SoundAndSized protocol p s
@@ -54,3 +61,25 @@ given_back l s =
       units = set s.units l (left_of (stays_open (figures_of s) s.head.running l) (at s.units l));
     })
     (restored (stays_open (figures_of s) s.head.running l) l 0 (words_of s))
+
+-- ---- the eager calls, as the code tells them: from the user word before an acquire or an unlock and the one that it leaves
+
+abbrev pub calls_at_acquire : Plan → State → ℕ → ℕ
+calls_at_acquire p s l = differs s.head.user.0 (max s.head.user.0 (at p.ceiling l))
+
+abbrev pub calls_at_unlock : State → ℕ
+calls_at_unlock s = differs s.head.user.0 (back_of (words_of s))
+
+-- the state after an event, with so many eager calls more; in a sound state it is `after_of`
+unfoldable pub told_of : Protocol → Plan → State → Event → ℕ → State
+told_of pr p s e calls =
+    state_of (record (figures_after p (figures_of s) s.head.running e) { eager = s.head.eager + calls })
+    (words_after pr p (figures_of s) (figures_after p (figures_of s) s.head.running e).released (words_of s) e)
+
+-- the state after work of a units, charged along the row of takes; in a sound state it is `after_of`
+abbrev pub worked : Plan → State → ℕ → State
+worked p s a = record s {
+  head = record s.head { accepted = s.head.accepted + 1 };
+  delay = renewed s.delay (delayed p (figures_of s) s.head.running a) p.tasks;
+  units = charged_row s.units a (at s.takes s.head.running) (at s.depth s.head.running);
+}

@@ -1,3 +1,4 @@
--- RULES 9: what the code of each event is handed, and what work does along the row of the running task's takes.
+-- RULES 9: what the code of the events is handed and makes of a state, and what work does along the row of the running task's takes.
 pub mod Acting
+pub mod Ready
 pub mod Work

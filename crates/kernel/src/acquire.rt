@@ -1,8 +1,8 @@
 // RULES 9.5: acquire.
 ghost use Rattle.std.specs.Prelude.{◌≡◌};
-ghost use Rattle.rules.specs.Replays.Step.{after_of};
 ghost use Rattle.rules.specs.declared.protocol.Protocol.{Protocol};
-ghost use Rattle.kernel.specs.Acting.{Accepts};
+ghost use Rattle.kernel.specs.Acting.{calls_at_acquire, told_of};
+ghost use Rattle.kernel.specs.Ready.{AcquireReady};
 
 use crate::calls::eager_calls;
 use figures::priority::user_of;
@@ -13,8 +13,9 @@ use rules::state::State;
 
 // The running task has a take of lock l more, and its word is saved and raised to the lock's ceiling.
 pub fn acquire(plan: &Plan, state: &mut State, l: u8)
-    requires { Accepts plan.now state.old (Event.Acquire l) }
-    ensures { (pr : Protocol) → state.new ≡ after_of pr plan.now state.old (Event.Acquire l) }
+    requires { AcquireReady state.old l }
+    ensures { (pr : Protocol) → state.new
+        ≡ told_of pr plan.now state.old (Event.Acquire l) (calls_at_acquire plan.now state.old l) }
 {
     let x = state.head.running as usize;
     let y = l as usize;

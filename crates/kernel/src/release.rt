@@ -3,7 +3,8 @@ ghost use Rattle.std.specs.Prelude.{◌≡◌, ◌<◌, set};
 ghost use Rattle.rules.specs.Replays.Step.{after_of};
 ghost use Rattle.rules.specs.Schedulers.Lazy.{after_release, best_kept, stays, switched, words_of};
 ghost use Rattle.tournament.specs.Tournament.{IsTournamentOf};
-ghost use Rattle.kernel.specs.Acting.{Accepts, Arrives, with_words};
+ghost use Rattle.kernel.specs.Acting.{Arrives, with_words};
+ghost use Rattle.kernel.specs.Ready.{ReleaseReady};
 
 use crate::entry::enter;
 use crate::protocol::second_word;
@@ -84,7 +85,7 @@ fn arrive(protocol: Protocol, state: &mut State, tree: &mut Tournament, t: u8, b
 
 // The newcomer t has a release number and no delay, and arrives.
 pub fn release(protocol: Protocol, plan: &Plan, state: &mut State, tree: &mut Tournament, t: u8)
-    requires { Accepts plan.now state.old (Event.Release t) × IsTournamentOf plan.now.tasks tree.old state.old }
+    requires { ReleaseReady plan.now state.old t × IsTournamentOf plan.now.tasks tree.old state.old }
     ensures state_after { state.new ≡ after_of protocol plan.now state.old (Event.Release t) }
     ensures tree_after { IsTournamentOf plan.now.tasks tree.new state.new }
 {

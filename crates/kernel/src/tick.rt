@@ -2,7 +2,7 @@
 ghost use Rattle.std.specs.Prelude.{◌≡◌};
 ghost use Rattle.rules.specs.Replays.Step.{after_of};
 ghost use Rattle.tournament.specs.Tournament.{IsTournamentOf};
-ghost use Rattle.kernel.specs.Acting.{Accepts};
+ghost use Rattle.kernel.specs.Ready.{TickReady};
 
 use crate::entry::enter;
 use crate::protocol::second_word;
@@ -15,7 +15,7 @@ use tournament::tree::Tournament;
 
 // The kernel is entered, and that is all.
 pub fn tick(protocol: Protocol, plan: &Plan, state: &mut State, tree: &Tournament)
-    requires { Accepts plan.now state.old Event.Tick × IsTournamentOf plan.now.tasks tree.now state.old }
+    requires { TickReady state.old × IsTournamentOf plan.now.tasks tree.now state.old }
     ensures { state.new ≡ after_of protocol plan.now state.old Event.Tick }
 {
     state.head.accepted += 1;

@@ -2,10 +2,10 @@
 ghost use Rattle.std.specs.Prelude.{◌≡◌, ◌<◌};
 ghost use Rattle.rules.specs.Numbers.Capacity.{max_locks, max_tasks};
 ghost use Rattle.rules.specs.Numbers.Place.{at};
-ghost use Rattle.rules.specs.Replays.Step.{after_of};
 ghost use Rattle.rules.specs.Schedulers.Lazy.{lazy_call, words_of};
 ghost use Rattle.tournament.specs.Tournament.{IsTournamentOf};
-ghost use Rattle.kernel.specs.Acting.{Accepts, given_back};
+ghost use Rattle.kernel.specs.Acting.{calls_at_unlock, given_back, told_of};
+ghost use Rattle.kernel.specs.Ready.{UnlockReady};
 
 use crate::calls::eager_calls;
 use crate::entry::enter;
@@ -47,9 +47,9 @@ pub fn unlock(
     tree: &mut Tournament,
     l: u8,
 ) -> bool
-    requires { Accepts plan.now state.old (Event.Unlock l) × IsTournamentOf plan.now.tasks tree.old state.old }
+    requires { UnlockReady state.old l × IsTournamentOf plan.now.tasks tree.old state.old }
     ensures call { result ≡ lazy_call (words_of state.old) (Event.Unlock l) }
-    ensures state_after { state.new ≡ after_of protocol plan.now state.old (Event.Unlock l) }
+    ensures state_after { state.new ≡ told_of protocol plan.now state.old (Event.Unlock l) (calls_at_unlock state.old) }
     ensures tree_after { IsTournamentOf plan.now.tasks tree.new state.new }
 {
     let before = state.head.user;

@@ -2,19 +2,17 @@
 ghost use Rattle.std.specs.Prelude.{◌≡◌, ◌≤◌, ◌<◌};
 ghost use Rattle.rules.specs.Numbers.Capacity.{max_locks, max_tasks};
 ghost use Rattle.rules.specs.Numbers.Place.{renewed};
-ghost use Rattle.rules.specs.Replays.Step.{after_of};
 ghost use Rattle.rules.specs.Schedulers.Figures.{figures_of};
 ghost use Rattle.rules.specs.Schedulers.FiguresAfter.{delayed};
-ghost use Rattle.rules.specs.declared.protocol.Protocol.{Protocol};
 ghost use Rattle.tournament.specs.Tournament.{IsTournamentOf};
-ghost use Rattle.kernel.specs.Acting.{Accepts};
+ghost use Rattle.kernel.specs.Acting.{worked};
+ghost use Rattle.kernel.specs.Ready.{WorkReady};
 ghost use Rattle.kernel.specs.Work.{InRow, charged_row, waited_by};
 
 use crate::switch::best;
 use figures::priority::kernel_of;
 use figures::row::{has_lock, newest_of, under_of};
 use rules::capacity::MAX_LOCKS;
-use rules::event::Event;
 use rules::plan::Plan;
 use rules::state::State;
 use tournament::tree::Tournament;
@@ -44,7 +42,7 @@ fn delays(plan: &Plan, state: &mut State, a: u16)
 // The same, and without a walk where nothing is kept above the running task's base: then nobody of greater
 // base is released (RULES 8.13).
 fn waits(plan: &Plan, state: &mut State, tree: &Tournament, a: u16)
-    requires { Accepts plan.now state.old (Event.Work a) × IsTournamentOf plan.now.tasks tree.now state.old }
+    requires { WorkReady plan.now state.old × IsTournamentOf plan.now.tasks tree.now state.old }
     ensures { state.new ≡ record state.old {
       delay = renewed state.old.delay (delayed plan.now (figures_of state.old) state.old.head.running a) plan.now.tasks;
     } }
@@ -74,8 +72,8 @@ fn charge(units: &mut [u16; MAX_LOCKS], row: u64, k: u8, a: u16)
 // The running task works a units: they count once for each lock that it has open, and as delay for every
 // released task of greater base.
 pub fn work(plan: &Plan, state: &mut State, tree: &Tournament, a: u16)
-    requires { Accepts plan.now state.old (Event.Work a) × IsTournamentOf plan.now.tasks tree.now state.old }
-    ensures { (pr : Protocol) → state.new ≡ after_of pr plan.now state.old (Event.Work a) }
+    requires { WorkReady plan.now state.old × IsTournamentOf plan.now.tasks tree.now state.old }
+    ensures { state.new ≡ worked plan.now state.old a }
 {
     let x = state.head.running as usize;
     waits(plan, state, tree, a);

@@ -2,6 +2,7 @@
 use Rattle.std.specs.Prelude.{if◌then◌else◌}
 use mathlib.Core.Path.{◌≡◌, refl, sym, ◌∙◌, ap, ap₂}
 use mathlib.Core.Logic.{◌≢◌, ⊎_elim}
+use mathlib.Core.List.{List}
 use Prim.Native.Nat.{ℕ, zero, suc, ◌+◌, ◌*◌, ◌-◌, ◌/◌, ◌^◌, ◌≤◌, ◌<◌}
 use native.Mathlib.Nat.{le_antisymm, eq-zero-or-pos}
 use native.Mathlib.Decide.{ℕ_discrete}
@@ -15,7 +16,8 @@ use Rattle.rules.proofs.Numbers.Place.{greatest_all, greatest_least, greatest_so
 use Rattle.rules.proofs.Schedulers.Rules.{earlier_nobody, earlier_later, earlier_sooner}
 use Rattle.rules.proofs.Schedulers.Elect.{Lead, earliest_within, elected_none, elected_lead}
 use Rattle.rules.specs.declared.state.State.{State}
-use Rattle.tournament.specs.Keys.{order_of, keys_of, who_of, word_of}
+use Rattle.tournament.specs.Tree.{tree_of, changed}
+use Rattle.tournament.specs.Keys.{order_of, keys_of, who_of, word_of, tournament_of, root_of}
 use Rattle.tournament.specs.Tournament.{IsTournamentOf}
 use Rattle.tournament.specs.declared.tree.Tournament.{Tournament}
 use Rattle.tournament.proofs.TreeLaws.{root_greatest}
@@ -107,17 +109,33 @@ module _ (released kept : ℕ → ℕ) (n : ℕ) (few : n ≤ nobody) (early : (
       ))
       (eq-zero-or-pos root)
 
+-- ---- the tables
+
+module _ (n : ℕ) (released kept : List ℕ) (few : n ≤ max_tasks) (root : ℕ) (says : root ≡ root_of n released kept) where
+  pub root_elects : (r : ℕ) → ((x : ℕ) → at released x < 2 ^ 32) → r ≡ who_of root → r ≡ elected (at released) (at kept) n
+  root_elects r early e = e ∙ ap who_of says ∙ who_elected (at released) (at kept) n (omega (arith, few)) early
+
+  pub root_second : (k r : ℕ) → ((x : ℕ) → at released x < 2 ^ 32) → ((x : ℕ) → at kept x < 2 ^ 8) → k ≡ word_of root → r ≡ k → r ≡ greatest (at kept) n
+  root_second k r early small e g = g ∙ e ∙ ap word_of says ∙ word_greatest (at released) (at kept) n (omega (arith, few)) early small
+
+-- what stands at the top of a tournament
+pub top_root : (n : ℕ) (released kept tree : List ℕ) (r : ℕ) → n ≤ max_tasks → tree ≡ tournament_of n released kept → r ≡ at tree 0 → r ≡ root_of n released kept
+top_root n released kept tree r few held e = e ∙ ap (λ xs. at xs 0) held ∙ root_greatest n few (keys_of (at released) (at kept))
+
 -- ---- the tournament of a state
 
-module _ (n : ℕ) (tree : Tournament) (s : State) (T : IsTournamentOf n tree s) (early : (x : ℕ) → at s.released x < 2 ^ 32) (top : ℕ) (read : top ≡ at tree.keys 0) where
-  few : n ≤ max_tasks
-  few = omega (arith, tree.few, T.tasks)
+module _ (n : ℕ) (tree : Tournament) (s : State) (T : IsTournamentOf n tree s) where
+  pub tasks_few : n ≤ max_tasks
+  tasks_few = omega (arith, tree.few, T.tasks)
 
-  top_root : top ≡ greatest (keys_of (at s.released) (at s.kept)) n
-  top_root = read ∙ ap (λ xs. at xs 0) T.keys ∙ root_greatest n few (keys_of (at s.released) (at s.kept))
+  pub top_says : (top : ℕ) → top ≡ at tree.keys 0 → top ≡ root_of n s.released s.kept
+  top_says top read = top_root n s.released s.kept tree.keys top tasks_few T.keys read
 
-  pub root_elects : (q : ℕ) → q ≡ who_of top → q ≡ elected (at s.released) (at s.kept) n
-  root_elects q e = e ∙ ap who_of top_root ∙ who_elected (at s.released) (at s.kept) n (omega (arith, few)) early
-
-  pub root_best : (k r : ℕ) → ((x : ℕ) → at s.kept x < 2 ^ 8) → k ≡ word_of top → r ≡ k → r ≡ greatest (at s.kept) n
-  root_best k r small e g = g ∙ e ∙ ap word_of top_root ∙ word_greatest (at s.released) (at s.kept) n (omega (arith, few)) early small
+-- and where a key was put, what `put` answers
+pub put_says : (n : ℕ) (tree after : Tournament) (s s₂ : State) (t key root : ℕ) → IsTournamentOf n tree s → IsTournamentOf n after s₂
+    → ((f : ℕ → ℕ) → tree.keys ≡ tree_of tree.tasks f → after.keys ≡ tree_of tree.tasks (changed f t key))
+    → ((f : ℕ → ℕ) → tree.keys ≡ tree_of tree.tasks f → root ≡ greatest (changed f t key) tree.tasks) → root ≡ root_of n s₂.released s₂.kept
+put_says n tree after s s₂ t key root T A put says =
+    let f : ℕ → ℕ = keys_of (at s.released) (at s.kept) in
+    let e : tree.keys ≡ tree_of tree.tasks f = T.keys ∙ ap (λ m. tree_of m f) (sym T.tasks) in
+    top_says n after s₂ A root (says f e ∙ sym (root_greatest tree.tasks tree.few (changed f t key)) ∙ ap (λ xs. at xs 0) (sym (put f e)))

@@ -216,19 +216,33 @@ module _ (n : ℕ) where
 -- ---- what a put comes to
 
 module _ (n : ℕ) (few : n ≤ max_tasks) (t key : ℕ) (f : ℕ → ℕ) where
+  -- a tree of the changed keys has the greatest of them at its root
+  root_changed : (tree : List ℕ) (r : ℕ) → r ≡ at tree 0 → tree ≡ tree_of n (changed f t key) → r ≡ greatest (changed f t key) n
+  root_changed tree r g e = g ∙ ap (λ xs. at xs 0) e ∙ root_greatest n few (changed f t key)
+
   -- a key past the last changes nothing
   pub put_past : n ≤ t → (tree : List ℕ) → tree ≡ tree_of n f → tree ≡ tree_of n (changed f t key)
   put_past h tree e = e ∙ tree_ext n few f (changed f t key) (λ x l. sym (changed_other f t key x (λ q. omega arith)))
 
-  pub climb_ends : (old : List ℕ) (i v : ℕ) (tree : List ℕ) → t < n → ClimbedSoFar n (inner n + t) (set old (inner n + t) key) i v tree → i ≤ 0
-      → old ≡ tree_of n f → tree ≡ tree_of n (changed f t key)
-  climb_ends old i v tree b C z e =
-      let S : SettledAt n (NotAbove n i) (changed f t key) tree = (C.1 (changed f t key) (rw e (key_put n few f t key b))).0 in
-      settled_tree n few (changed f t key) tree (record {
-        sized = S.sized;
-        key = S.key;
-        node = λ j l _. S.node j l (λ h. omega arith, λ h. omega arith);
-      })
+  pub put_past_root : n ≤ t → (tree : List ℕ) (r : ℕ) → tree ≡ tree_of n f → r ≡ at tree 0 → r ≡ greatest (changed f t key) n
+  put_past_root h tree r e g = root_changed tree r g (put_past h tree e)
+
+  module _ (old : List ℕ) (i v : ℕ) (tree : List ℕ) (b : t < n) (C : ClimbedSoFar n (inner n + t) (set old (inner n + t) key) i v tree) (z : i ≤ 0)
+      (e : old ≡ tree_of n f) where
+    pub climb_ends : tree ≡ tree_of n (changed f t key)
+    climb_ends =
+        let S : SettledAt n (NotAbove n i) (changed f t key) tree = (C.1 (changed f t key) (rw e (key_put n few f t key b))).0 in
+        settled_tree n few (changed f t key) tree (record {
+          sized = S.sized;
+          key = S.key;
+          node = λ j l _. S.node j l (λ h. omega arith, λ h. omega arith);
+        })
+
+    pub climb_root : v ≡ greatest (changed f t key) n
+    climb_root =
+        let o : i ≡ 0 = omega arith in
+        root_changed tree v (sym (C.1 (changed f t key) (rw e (key_put n few f t key b))).1 ∙ ap (at tree) o) climb_ends
 
 pub climb_start : (n t key : ℕ) (old : List ℕ) → n ≤ max_tasks → t < n → ClimbedSoFar n (inner n + t) (set old (inner n + t) key) (inner n + t) key (set old (inner n + t) key)
 climb_start n t key old few l = (omega arith, λ f s. (s, get_or-set_same old (inner n + t) key 0 (omega (arith, s.sized, length-set old (inner n + t) key))))
+

@@ -1,7 +1,7 @@
 -- A task's key: the greater kept priority goes first, then the earlier release, then the lower number. Assumes nothing.
 use Rattle.std.specs.Prelude.{List, ℕ, ◌+◌, ◌*◌, ◌-◌, ◌/◌, ◌%◌, ◌^◌, eqb, if◌then◌else◌}
 use Rattle.rules.specs.Numbers.Capacity.{nobody}
-use Rattle.rules.specs.Numbers.Place.{at}
+use Rattle.rules.specs.Numbers.Place.{at, greatest}
 use Rattle.tournament.specs.Tree.{tree_of}
 
 -- of two tasks the one of lesser order goes first; release numbers are below 2^32 and tasks below 2^8
@@ -26,3 +26,7 @@ word_of key = key / 2 ^ 40 % 2 ^ 8
 -- the tournament of the first n tasks, by their release numbers and kept priorities
 abbrev pub tournament_of : ℕ → List ℕ → List ℕ → List ℕ
 tournament_of n released kept = tree_of n (keys_of (at released) (at kept))
+
+-- its root: the greatest of their keys
+abbrev pub root_of : ℕ → List ℕ → List ℕ → ℕ
+root_of n released kept = greatest (keys_of (at released) (at kept)) n

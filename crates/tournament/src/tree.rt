@@ -1,7 +1,7 @@
 // The tournament of a state's tasks, in an array of their keys.
 ghost use Rattle.std.specs.Prelude.{◌≡◌, ℕ, ◌≤◌, ◌<◌, min, replicate};
 ghost use Rattle.rules.specs.Numbers.Capacity.{max_tasks};
-ghost use Rattle.rules.specs.Numbers.Place.{at};
+ghost use Rattle.rules.specs.Numbers.Place.{at, greatest};
 ghost use Rattle.tournament.specs.Keys.{keys_of, tournament_of};
 ghost use Rattle.tournament.specs.Tree.{TreeFrom, changed, inner, places, tree_of};
 
@@ -39,6 +39,31 @@ fn raise(keys: &mut [u64; PLACES], n: usize)
     }
 }
 
+// The key of t is another, in an array of n keys: what stands above it follows, and the greatest key is the
+// answer. Places 2p + 1 and 2p + 2 stand below p, so 4p + 3 - i stands beside i. What was stored last is at
+// hand in v. The place is halved at each level, so there is no range to go over.
+pub fn put(keys: &mut [u64; PLACES], n: usize, t: usize, key: u64) -> u64
+    ensures keys_after { (f : ℕ → ℕ) → n ≤ max_tasks → keys.old ≡ tree_of n f → keys.new ≡ tree_of n (changed f t key) }
+    ensures root { (f : ℕ → ℕ) → n ≤ max_tasks → keys.old ≡ tree_of n f → result ≡ greatest (changed f t key) n }
+{
+    if MAX_TASKS < n {
+        return 0;
+    }
+    if n <= t {
+        return keys[0];
+    }
+    let mut i = n - 1 + t;
+    let mut v = key;
+    keys[i] = v;
+    while i > 0 {
+        let p = (i - 1) / 2;
+        v = v.max(keys[4 * p + 3 - i]);
+        keys[p] = v;
+        i = p;
+    }
+    v
+}
+
 impl Tournament {
     // Of the first n tasks, by their release numbers and kept priorities.
     pub fn of(n: usize, released: &[u32; MAX_TASKS], kept: &[u8; MAX_TASKS]) -> Tournament
@@ -61,24 +86,14 @@ impl Tournament {
         self.keys[0]
     }
 
-    // The key of t is another: what stands above it follows. Places 2p + 1 and 2p + 2 stand below p, so
-    // 4p + 3 - i stands beside i. What was stored last is at hand in v. The place is halved at each level, so
-    // there is no range to go over.
-    pub fn put(&mut self, t: usize, key: u64)
+    // The key of t is another, and the root is the answer.
+    pub fn put(&mut self, t: usize, key: u64) -> u64
         ensures tasks { self.new.tasks ≡ self.old.tasks }
         ensures keys { (f : ℕ → ℕ) → self.old.keys ≡ tree_of self.old.tasks f
             → self.new.keys ≡ tree_of self.old.tasks (changed f t key) }
+        ensures root { (f : ℕ → ℕ) → self.old.keys ≡ tree_of self.old.tasks f
+            → result ≡ greatest (changed f t key) self.old.tasks }
     {
-        if t < self.tasks {
-            let mut i = self.tasks - 1 + t;
-            let mut v = key;
-            self.keys[i] = v;
-            while i > 0 {
-                let p = (i - 1) / 2;
-                v = v.max(self.keys[4 * p + 3 - i]);
-                self.keys[p] = v;
-                i = p;
-            }
-        }
+        put(&mut self.keys, self.tasks, t, key)
     }
 }

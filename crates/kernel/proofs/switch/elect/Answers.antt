@@ -3,4 +3,4 @@ use Rattle.tournament.proofs.Election.{root_elects}
 use Rattle.kernel.proofs.switch.elect.Goals as goal
 
 pub returns : goal.returns
-returns c = search root_elects
+returns c n few says = search root_elects

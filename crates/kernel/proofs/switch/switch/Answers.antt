@@ -1,6 +1,6 @@
--- `kernel::switch::switch` meets its contract. Who is elected runs by what was kept for it. Assumes nothing.
-use Rattle.kernel.proofs.SwitchLaws.{switch_runs}
+-- `kernel::switch::switch` meets its contract. The root is read. Assumes nothing.
+use Rattle.tournament.proofs.Election.{top_says}
 use Rattle.kernel.proofs.switch.switch.Goals as goal
 
-pub returns-clause-state_after : goal.returns-clause-state_after
-returns-clause-state_after c = search switch_runs
+pub run-requires : goal.run-requires
+run-requires c = (c.requires, top_says _ _ _ c.requires _ c.top-root.ensures)

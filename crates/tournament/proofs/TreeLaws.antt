@@ -245,4 +245,3 @@ module _ (n : ℕ) (few : n ≤ max_tasks) (t key : ℕ) (f : ℕ → ℕ) where
 
 pub climb_start : (n t key : ℕ) (old : List ℕ) → n ≤ max_tasks → t < n → ClimbedSoFar n (inner n + t) (set old (inner n + t) key) (inner n + t) key (set old (inner n + t) key)
 climb_start n t key old few l = (omega arith, λ f s. (s, get_or-set_same old (inner n + t) key 0 (omega (arith, s.sized, length-set old (inner n + t) key))))
-

@@ -23,8 +23,12 @@ impl<'a> Input<'a> {
         }
     }
 
-    // The next N bytes.
+    // The next N bytes, at once where they are all there.
     pub fn take<const N: usize>(&mut self) -> [u8; N] {
+        if let Some((&bytes, rest)) = self.rest.split_first_chunk::<N>() {
+            self.rest = rest;
+            return bytes;
+        }
         let mut bytes = [0u8; N];
         for byte in bytes.iter_mut() {
             *byte = self.byte();
@@ -38,6 +42,7 @@ impl<'a> Input<'a> {
 pub struct Reply<const N: usize> {
     bytes: [u8; N],
     length: usize,
+    ghost within: { length ≤ N },
 }
 
 impl<const N: usize> Reply<N> {
@@ -49,12 +54,10 @@ impl<const N: usize> Reply<N> {
     }
 
     pub fn put(&mut self, bytes: &[u8]) {
-        for &byte in bytes {
-            if self.length < N {
-                self.bytes[self.length] = byte;
-                self.length += 1;
-            }
-        }
+        let room = &mut self.bytes[self.length..];
+        let n = bytes.len().min(room.len());
+        room[..n].copy_from_slice(&bytes[..n]);
+        self.length += n;
     }
 
     // A place of a book, which four bytes hold.

@@ -1,10 +1,11 @@
 -- 7 and 24 as the code asks them: the locks that two tasks may take are those with two users or more, and a user's maximum is below the ceiling where the
 -- least one is. Assumes nothing.
 use Rattle.std.specs.Prelude.{if◌then◌else◌}
-use mathlib.Core.Path.{◌≡◌, sym, ◌∙◌, ap, ap₂}
+use mathlib.Core.Path.{◌≡◌, refl, sym, ◌∙◌, ap, ap₂}
 use mathlib.Core.Bool.{Bool, true, false, not, ◌&&◌, ◌||◌}
+use mathlib.Core.List.{List}
 use mathlib.Core.Logic.{⊎_elim}
-use Prim.Native.Nat.{ℕ, ◌+◌, ◌-◌, ◌≤◌, ◌<◌, max}
+use Prim.Native.Nat.{ℕ, zero, suc, ◌+◌, ◌-◌, ◌≤◌, ◌<◌, max}
 use native.Mathlib.Numerals.{add-one}
 use native.Mathlib.Omega.{arith}
 use lib.Bits.{bit_and, bit_or}
@@ -17,7 +18,7 @@ use Rattle.rules.specs.declared.plan.Plan.{Plan}
 use Rattle.rules.proofs.Numbers.Choice.{by_test, lt_or_le}
 use Rattle.rules.proofs.Numbers.Mask.{bit_none, and_has, or_has}
 use Rattle.rules.proofs.Numbers.Place.{AskedSoFar, asked_start, asked_next}
-use Rattle.plan.specs.Shared.{SharedLocks}
+use Rattle.plan.specs.Shared.{SharedLocks, users_by, used_by, shared_by}
 
 -- ---- the locks that two tasks may take
 
@@ -33,30 +34,51 @@ two_more c true = ⊎_elim
     (lt_or_le c 1)
 two_more c false = by_test (leb 2 c) (λ e. rw e) (λ e. rw e (by_test (leb 1 c) (λ d. rw d) (λ d. rw d)))
 
+module _ (uses : List ℕ) (l : ℕ) where
+  used_one : (n : ℕ) → has_bit (used_by n uses) l ≡ leb 1 (users_by n uses l)
+  unfolding used_by users_by count
+  used_one zero = bit_none l
+  used_one (suc k) =
+      or_has (used_by k uses) (at uses k) l ∙ ap (λ t. t || has_bit (at uses k) l) (used_one k) ∙ one_more (users_by k uses l) (has_bit (at uses k) l)
+
+  -- lock l is in the set of the walk exactly where two tasks or more may take it
+  pub shared_two : (n : ℕ) → has_bit (shared_by n uses) l ≡ leb 2 (users_by n uses l)
+  unfolding shared_by users_by count
+  shared_two zero = bit_none l
+  shared_two (suc k) =
+      or_has (shared_by k uses) (bit_and (used_by k uses) (at uses k)) l
+      ∙ ap₂ ◌||◌ (shared_two k) (and_has (used_by k uses) (at uses k) l ∙ ap (λ t. t && has_bit (at uses k) l) (used_one k))
+      ∙ two_more (users_by k uses l) (has_bit (at uses k) l)
+
 module _ (p : Plan) where
+  -- of a plan's own tasks: its users, and its shared locks
+  pub users_same : (l : ℕ) → users_by p.tasks p.uses l ≡ users p l
+  unfolding users_by users declares
+  users_same l = refl
+
+  pub shared_locks_by : SharedLocks p (shared_by p.tasks p.uses)
+  shared_locks_by l = shared_two p.uses l p.tasks ∙ ap (leb 2) (users_same l)
+
+  -- and any other set of them has the same locks
+  pub shared_same : (set : ℕ) → SharedLocks p set → (l : ℕ) → has_bit set l ≡ has_bit (shared_by p.tasks p.uses) l
+  shared_same set s l = s l ∙ sym (shared_locks_by l)
+
   -- of the first i tasks one may take the locks of the set `used`, and two those of `shared`
-  pub record SharedSoFar (i used shared : ℕ) : Type 0 where
-    pub one : (l : ℕ) → has_bit used l ≡ leb 1 (count (λ x. declares p x l) i)
-    pub two : (l : ℕ) → has_bit shared l ≡ leb 2 (count (λ x. declares p x l) i)
+  abbrev pub SharedSoFar : (i used shared : ℕ) → Type 0
+  SharedSoFar i used shared = (used ≡ used_by i p.uses) × (shared ≡ shared_by i p.uses)
 
   pub shared_start : SharedSoFar 0 0 0
-  unfolding count
-  shared_start = record { one = bit_none; two = bit_none }
+  unfolding used_by shared_by
+  shared_start = (refl, refl)
 
   -- set is what task i may take
   pub shared_next : (i used shared set : ℕ) → SharedSoFar i used shared → set ≡ at p.uses i
       → SharedSoFar (i + 1) (bit_or used set) (bit_or shared (bit_and used set))
-  unfolding count declares
-  shared_next i used shared set s e = rw (add-one i, e) (record {
-    one = λ l. or_has used (at p.uses i) l ∙ ap (λ t. t || has_bit (at p.uses i) l) (s.one l) ∙ one_more _ (has_bit (at p.uses i) l);
-    two = λ l. or_has shared (bit_and used (at p.uses i)) l
-        ∙ ap₂ ◌||◌ (s.two l) (and_has used (at p.uses i) l ∙ ap (λ t. t && has_bit (at p.uses i) l) (s.one l))
-        ∙ two_more _ (has_bit (at p.uses i) l);
-  })
+  unfolding used_by shared_by
+  shared_next i used shared set (u, s) e = rw (add-one i) (ap₂ bit_or u e, ap₂ bit_or s (ap₂ bit_and u e))
 
-  pub shared_ends : (i used shared : ℕ) → SharedSoFar i used shared → i ≡ p.tasks → SharedLocks p shared
-  unfolding users
-  shared_ends i used shared s e = rw e at s.two
+  pub shared_ends : (i used shared : ℕ) → SharedSoFar i used shared → i ≡ p.tasks → shared ≡ shared_by p.tasks p.uses
+  shared_ends i used shared (u, s) e = s ∙ ap (λ k. shared_by k p.uses) e
 
 -- fewer than two are not two
 pub not_two : (c : ℕ) → not (leb 2 c) ≡ ltb c 2

@@ -4,7 +4,7 @@ ghost use Rattle.rules.specs.Numbers.Capacity.{max_tasks, max_locks};
 ghost use Rattle.rules.specs.Numbers.Mask.{has_bit};
 ghost use Rattle.rules.specs.Books.Plan.{ceiling_fault, users_base};
 ghost use Rattle.plan.specs.First.{first_place};
-ghost use Rattle.plan.specs.Shared.{SharedLocks};
+ghost use Rattle.plan.specs.Shared.{SharedLocks, shared_by};
 
 use figures::mask::has_bit;
 use rules::plan::Plan;
@@ -12,7 +12,8 @@ use rules::plan::Plan;
 // The locks that two tasks may take, as a set: one walk over the tasks for all locks.
 pub fn shared_locks(p: &Plan) -> u32
     requires { p.now.tasks ≤ max_tasks }
-    ensures { SharedLocks p.now result }
+    ensures walked { result ≡ shared_by p.now.tasks p.now.uses }
+    ensures shares { SharedLocks p.now result }
 {
     let mut used = 0u32;
     let mut shared = 0u32;

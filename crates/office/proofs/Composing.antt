@@ -1,27 +1,34 @@
 -- The ways through the code that composes a book. Assumes nothing.
 use Rattle.std.specs.Prelude.{Option, Some, None, Err, Ok}
-use mathlib.Core.Path.{◌≡◌, sym, ◌∙◌, ap}
+use mathlib.Core.Path.{◌≡◌, refl, sym, ◌∙◌, ap, ap₂}
+use mathlib.Core.Logic.{⊎_elim}
 use mathlib.Core.List.{List, [], ◌∷◌}
-use Prim.Native.Nat.{ℕ, zero, suc, ◌≤◌, ◌<◌}
+use Prim.Native.Nat.{ℕ, zero, suc, ◌+◌, ◌≤◌, ◌<◌}
+use native.Mathlib.Numerals.{add-one}
 use native.Mathlib.Omega.{arith}
+use denote.MutBor.{MutBor, at_last}
 use lib.Dec.{eqb, ltb}
-use lib.ListN.{length, take, replicate, length-replicate, length-take}
+use lib.ListN.{length, set, take, replicate, length-set, length-replicate, length-take}
+use lib.Seq.{set_out}
 use borrow.Author.Tests.{lt-ltb, le-ltb, ne_eqb}
 use Rattle.rules.specs.Numbers.Capacity.{max_tasks, max_locks, max_uses, max_events}
-use Rattle.rules.specs.Numbers.Place.{at}
+use Rattle.rules.specs.Numbers.Place.{at, stored}
 use Rattle.rules.specs.Numbers.Refusal.{number_of}
 use Rattle.rules.specs.Books.Plan.{most}
 use Rattle.rules.specs.Books.Write.{Wrote, write_of, wrote_with}
 use Rattle.rules.specs.declared.answer.Fault.{Fault}
 use Rattle.rules.specs.declared.refusal.Refusal.{Refusal}
 use Rattle.rules.specs.declared.refusal.Refusal.TheVariants.{WrongCount, WrongTask, WrongLock, WrongCeiling, WrongEvent}
-use Rattle.rules.proofs.Numbers.Choice.{if_true, if_false}
+use Rattle.rules.proofs.Numbers.Choice.{if_true, if_false, lt_or_le}
+use Rattle.page.specs.Page.{typed, page as lent}
+use Rattle.page.proofs.Typed.{put_within, put_past}
 use Rattle.texts.specs.Lines.{lines_of, read_lines, records_of, first_wrong}
 use Rattle.texts.specs.declared.line.Line.{Line}
 use Rattle.texts.proofs.Small.{tasks_below, uses_below}
 use Rattle.wording.specs.Mistakes.{mistake_of}
 use Rattle.office.specs.Compose.{text_space, unwritten, too_long, entry_part, refused_part, refused_record, refused_by, written}
 use Rattle.office.specs.Compose.{composed_as, composed_records, composed_by, compose_of}
+use Rattle.office.specs.Answered.{page, said_on}
 use Rattle.office.specs.Small.{Small}
 use Rattle.office.proofs.Cuts.{cut_write}
 use Rattle.office.proofs.Numbers.{other_number}
@@ -142,3 +149,25 @@ module _ (text buffer : List ℕ) where
     text_right e = short None e
 
 pub ruleset wholes = (records_written, records_refused, text_long, text_wrong, text_right)
+
+-- ---- the line on its page
+
+stored_past : (out : List ℕ) (i : ℕ) (text : List ℕ) → length out ≤ i → stored out i text ≡ out
+unfolding stored
+stored_past out i [] l = refl
+stored_past out i (b ∷ bs) l = ap (λ o. stored o (suc i) bs) (set_out out i b l) ∙ stored_past out (suc i) bs (omega arith)
+
+-- what is said on a page is what is typed there byte by byte, at every place
+pub said_typed : (out : MutBor (List ℕ)) (i : ℕ) (text : List ℕ)
+    → said_on (page out.now i) text ≡ page (typed (lent out i) text).out.now (typed (lent out i) text).place
+unfolding typed stored
+said_typed out i [] = ap (page out.now) (omega arith)
+said_typed out i (b ∷ bs) = ⊎_elim
+    (λ (h : i < length out.now). ap (page (stored (set out.now i b) (suc i) bs)) (omega (arith, length-set out.now i b))
+    ∙ said_typed (at_last out (set out.now i b)) (suc i) bs
+    ∙ ap (λ p. page (typed p bs).out.now (typed p bs).place) (ap (lent (at_last out (set out.now i b))) (sym (add-one i)) ∙ put_within out i b h))
+    (λ (h : length out.now ≤ i). ap₂ page
+    (ap (λ o. stored o (suc i) bs) (set_out out.now i b h) ∙ stored_past out.now (suc i) bs (omega arith) ∙ sym (stored_past out.now i bs h)) (omega arith)
+    ∙ said_typed out i bs
+    ∙ ap (λ p. page (typed p bs).out.now (typed p bs).place) (put_past out i b h))
+    (lt_or_le i (length out.now))

@@ -1,6 +1,6 @@
 -- What composing leaves in the two buffers that it is lent: the book's length, the buffer with the book, and the page with the line that says why there
 -- is none. Assumes nothing.
-use Rattle.std.specs.Prelude.{List, ℕ, min, length, ◌+◌}
+use Rattle.std.specs.Prelude.{List, ℕ, min, max, length, ◌+◌}
 use Rattle.rules.specs.Numbers.Place.{stored}
 use Rattle.office.specs.Compose.{Composed}
 
@@ -12,9 +12,9 @@ pub record Said : Type 0 where
 abbrev pub page : List ℕ → ℕ → Said
 page bytes place = record { bytes = bytes; place = place }
 
--- a text at that place, cut where the bytes end
+-- a text at that place, cut where the bytes end; past their end nothing is put, and the place stays
 abbrev pub said_on : Said → List ℕ → Said
-said_on p text = page (stored p.bytes p.place text) (min (p.place + length text) (length p.bytes))
+said_on p text = page (stored p.bytes p.place text) (max p.place (min (p.place + length text) (length p.bytes)))
 
 pub record Answered : Type 0 where
   pub length : ℕ

@@ -61,9 +61,12 @@ impl TryFrom<u32> for Command {
     }
 }
 
-// Reads what follows a command, and replies. Says whether it was one.
-fn answer(command: Command, protocol: Protocol, input: &mut [u8], rows: &mut [u8]) -> bool {
+// Reads what follows a command, and replies. Says whether it was one: what follows is read first.
+fn answer(number: u32, protocol: Protocol, input: &mut [u8], rows: &mut [u8]) -> bool {
     io::read_full(0, input);
+    let Ok(command) = Command::try_from(number) else {
+        return false;
+    };
     match command {
         Command::Replay => replay::reply(protocol, input, rows),
         Command::Check => check::reply(input, rows.len()),
@@ -84,9 +87,7 @@ fn one(input: &mut [u8], rows: &mut [u8]) -> bool {
         return false;
     }
     let mut head = Input::new(&head);
-    let Ok(command) = Command::try_from(u32::from_le_bytes(head.take())) else {
-        return false;
-    };
+    let number = u32::from_le_bytes(head.take());
     let [protocol, _, _, _]: [u8; 4] = head.take();
     let size = u32::from_le_bytes(head.take()) as usize;
     let room = u32::from_le_bytes(head.take()) as usize;
@@ -94,7 +95,7 @@ fn one(input: &mut [u8], rows: &mut [u8]) -> bool {
         return false;
     }
     answer(
-        command,
+        number,
         Protocol::from(protocol),
         &mut input[..size],
         &mut rows[..room],

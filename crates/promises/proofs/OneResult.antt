@@ -2,7 +2,7 @@
 -- a are the arguments, b and c what is lent as it was left. The one that changes a lent tournament asks that it is one. Assumes nothing.
 use mathlib.Core.Path.{◌≡◌, sym, ◌∙◌, ap, ap₂}
 use mathlib.Core.Bool.{Bool}
-use mathlib.Core.List.{List}
+use mathlib.Core.List.{List, []}
 use Prim.Native.Nat.{ℕ}
 use contract.Lifetimes.{Lfts}
 use Rattle.std.specs.Prelude.{Result}
@@ -22,6 +22,7 @@ use Rattle.rules.specs.declared.answer.Fault.{Fault}
 use Rattle.rules.specs.declared.answer.Opened.{Opened}
 use Rattle.rules.proofs.Books.Told.{loaded_same, checked_same, wrote_same}
 use Rattle.device.specs.declared.check.DeviceCheck.{DeviceCheck}
+use Rattle.device.specs.declared.load.DeviceLoad.{DeviceLoad}
 use Rattle.device.specs.declared.step.DeviceStep.{DeviceStep}
 use Rattle.device.specs.declared.replay.DeviceReplay.{DeviceReplay}
 use Rattle.device.specs.declared.write.DeviceWrite.{DeviceWrite}
@@ -82,6 +83,10 @@ use Rattle.book.proofs.reader.read.Reads as read
 use Rattle.book.proofs.reader.read_in.Reads as read-in
 use Rattle.sound.proofs.sound.Reads as sound
 use Rattle.scheduler.proofs.step.Reads as step
+use Rattle.device.proofs.check.DeviceCheckFromResultOpenedFault.from.Reads as device-check
+use Rattle.device.proofs.load.DeviceLoadFromResultPlanFault.from.Reads as device-load
+use Rattle.device.proofs.write.DeviceWriteFromResultUsizeFault.from.Reads as device-write
+use Rattle.device.proofs.job.DeviceJobFromResultUsizeFault.from.Reads as device-job
 use Rattle.device.proofs.check.recorder_check.Reads as recorder-check
 use Rattle.device.proofs.bound.recorder_bound.Reads as recorder-bound
 use Rattle.device.proofs.step.recorder_fresh.Reads as recorder-fresh
@@ -226,7 +231,20 @@ one_sound a b c r q h k = h ∙ sym k
 pub one_step : (a : _) (b c : _) (r q : Stepped) → step.Post tt a r b → step.Post tt a q c → r ≡ q
 one_step a b c r q h k = h ∙ sym k
 
--- ---- what a host in another language calls
+-- ---- what a host in another language calls, and how an answer is spelled for it
+
+pub one_device_check : (a : _) (b c : _) (r q : DeviceCheck) → device-check.Post tt a r b → device-check.Post tt a q c → r ≡ q
+one_device_check a b c r q h k = h ∙ sym k
+
+pub one_device_load : (a : _) (b c : _) (r q : DeviceLoad) → device-load.Post tt a r b → device-load.Post tt a q c → r ≡ q
+one_device_load a b c r q h k = h ∙ sym k
+
+-- by any bytes beside the answer, and so by none
+pub one_device_write : (a : _) (b c : _) (r q : DeviceWrite) → device-write.Post tt a r b → device-write.Post tt a q c → r ≡ q
+one_device_write a b c r q h k = h [] ∙ sym (k [])
+
+pub one_device_job : (a : _) (b c : _) (r q : DeviceJob) → device-job.Post tt a r b → device-job.Post tt a q c → r ≡ q
+one_device_job a b c r q h k = h ∙ sym k
 
 pub one_recorder_check : (κs : Lfts 1) (a : _) (b c : _) (r q : DeviceCheck) → recorder-check.Post κs a r b → recorder-check.Post κs a q c → r ≡ q
 one_recorder_check κs a b c r q h k = h ∙ sym k

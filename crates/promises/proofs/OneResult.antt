@@ -1,11 +1,12 @@
 -- Of every function that another crate or a host in another language can call: any two results that its contract allows for the same arguments are equal.
--- a are the arguments, b and c what is lent as it was left. The one that changes a lent tournament asks that it is one. Assumes nothing.
+-- a are the arguments, b and c what is lent as it was left. Those that change a lent tournament ask that it is one. Assumes nothing.
 use mathlib.Core.Path.{◌≡◌, sym, ◌∙◌, ap, ap₂}
 use mathlib.Core.Bool.{Bool}
 use mathlib.Core.List.{List, []}
-use Prim.Native.Nat.{ℕ}
+use Prim.Native.Nat.{ℕ, ◌≤◌}
 use contract.Lifetimes.{Lfts}
 use Rattle.std.specs.Prelude.{Result}
+use Rattle.rules.specs.Numbers.Capacity.{max_tasks}
 use Rattle.rules.specs.Numbers.Verdict.{Answer}
 use Rattle.rules.specs.Replays.Run.{Ran}
 use Rattle.rules.specs.Replays.Replay.{ran_as}
@@ -67,7 +68,8 @@ use Rattle.figures.proofs.row.push_word.Reads as push-word
 use Rattle.figures.proofs.spare.spare.Reads as spare
 use Rattle.tournament.proofs.tree.Tournament.of.Reads as tournament-of
 use Rattle.tournament.proofs.tree.Tournament.top.Reads as top
-use Rattle.tournament.proofs.tree.Tournament.put.Reads as put
+use Rattle.tournament.proofs.tree.Tournament.put.Reads as tournament-put
+use Rattle.tournament.proofs.tree.put.Reads as put
 use Rattle.tournament.proofs.keys.key_of.Reads as key_of
 use Rattle.tournament.proofs.keys.who_of.Reads as who-of
 use Rattle.tournament.proofs.keys.word_of.Reads as word_of
@@ -303,10 +305,15 @@ one_word_of a b c r q h k = h ∙ sym k
 pub one_top : (κs : Lfts 1) (a : _) (b c : _) (r q : ℕ) → top.Post κs a r b → top.Post κs a q c → r ≡ q
 one_top κs a b c r q h k = h ∙ sym k
 
-pub one_put : (κs : Lfts 1) (a : _) (b c : _) (r q : _) → put.Post κs a r b → put.Post κs a q c
+pub one_put : (κs : Lfts 1) (a : _) (b c : _) (r q : ℕ) → put.Post κs a r b → put.Post κs a q c
+    → (f : ℕ → ℕ) → a.1.0 ≤ max_tasks → a.0.now ≡ tree_of a.1.0 f
+    → (r ≡ q) × (b.0.now ≡ c.0.now)
+one_put κs a b c r q h k f few e = (h.1 f few e ∙ sym (k.1 f few e), h.0 f few e ∙ sym (k.0 f few e))
+
+pub one_tournament_put : (κs : Lfts 1) (a : _) (b c : _) (r q : ℕ) → tournament-put.Post κs a r b → tournament-put.Post κs a q c
     → (f : ℕ → ℕ) → a.0.now.keys ≡ tree_of a.0.now.tasks f
-    → (b.0.now.tasks ≡ c.0.now.tasks) × (b.0.now.keys ≡ c.0.now.keys)
-one_put κs a b c r q h k f e = (h.0 ∙ sym k.0, h.1 f e ∙ sym (k.1 f e))
+    → (r ≡ q) × (b.0.now.tasks ≡ c.0.now.tasks) × (b.0.now.keys ≡ c.0.now.keys)
+one_tournament_put κs a b c r q h k f e = (h.1.1 f e ∙ sym (k.1.1 f e), h.0 ∙ sym k.0, h.1.0 f e ∙ sym (k.1.0 f e))
 
 pub one_tournament : (κs : Lfts 2) (a : _) (b c : _) (r q : Tournament) → tournament-of.Post κs a r b → tournament-of.Post κs a q c
     → (r.tasks ≡ q.tasks) × (r.keys ≡ q.keys)

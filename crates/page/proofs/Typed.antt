@@ -14,7 +14,7 @@ use Rattle.rules.proofs.Numbers.Choice.{if_true, if_false, lt_or_le}
 use Rattle.rules.proofs.Numbers.Stored.{length_stored}
 use Rattle.rules.specs.Numbers.Place.{stored}
 use Rattle.page.specs.declared.Page.{Page}
-use Rattle.page.specs.Page.{page, put, typed}
+use Rattle.page.specs.Page.{Laid, page, put, typed}
 
 -- one byte, as the code puts it: within the bytes, and past them
 pub put_within : {T : Type 0} (out : MutBor (List T)) (i : ℕ) (b : T) → i < length out.now → page (at_last out (set out.now i b)) (i + 1) ≡ typed (page out i) (b ∷ [])
@@ -42,6 +42,21 @@ typed_none p = refl
 
 -- what a function needs that types one text after the other
 pub ruleset typing = (typed_on, typed_none, append_assoc, append-nil)
+
+-- ---- a text laid into bytes
+
+pub laid_within : (old : List ℕ) (i b : ℕ) → i < length old → Laid old i (b ∷ []) (set old i b) (i + 1)
+laid_within old i b l = record { typed = λ m e. sym (put_within m i b (omega (arith, l, ap length e))) ∙ ap (λ o. page (at_last m (set o i b)) (i + 1)) e }
+
+pub laid_past : (old : List ℕ) (i b : ℕ) → length old ≤ i → Laid old i (b ∷ []) old i
+laid_past old i b l = record { typed = λ m e. sym (put_past m i b (omega (arith, l, ap length e))) ∙ ap (λ o. page (at_last m o) i) e }
+
+pub laid_none : (old : List ℕ) (i : ℕ) → Laid old i [] old i
+unfolding typed
+laid_none old i = record { typed = λ m e. ap (λ o. page (at_last m o) i) e }
+
+pub laid_on : (a b c : List ℕ) (i j k : ℕ) (x y : List ℕ) → Laid a i x b j → Laid b j y c k → Laid a i (x ++ y) c k
+laid_on a b c i j k x y h g = record { typed = λ m e. sym (typed_on (page m i) x y) ∙ ap (λ p. typed p y) (h.typed m e) ∙ g.typed (at_last m b) refl }
 
 -- ---- what is typed is what was to be written
 

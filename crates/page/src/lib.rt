@@ -2,7 +2,8 @@
 #![tactic(auto)]
 
 ghost use Rattle.std.specs.Prelude.{◌≡◌, [], ◌∷◌, ◌%◌};
-ghost use Rattle.page.specs.Page.{page, typed};
+ghost use Rattle.page.specs.Page.{Laid, page, typed};
+ghost use Rattle.rules.specs.Numbers.Place.{at};
 ghost use Rattle.page.specs.Decimal.{digit, digits};
 ghost use Rattle.page.specs.Says.{filled};
 
@@ -48,24 +49,17 @@ impl<'a, T: Copy> Page<'a, T> {
 
 impl Page<'_> {
     // The bytes of a text.
-    #[tactic(auto, using(std::proofs::lemmas::Grind::common_steps, crate::proofs::Typed::typing))]
     pub fn put_text(&mut self, text: &[u8])
         ensures { self.new ≡ typed self.old text.now }
     {
-        for &byte in text {
-            self.put(byte);
-        }
+        self.place = lay_text(&mut *self.out, self.place, text);
     }
 
-    // A number in decimal: its last digit stands after those of a tenth of it.
-    #[tactic(auto, using(crate::proofs::Typed::typing, crate::proofs::Numbers::digits_one, crate::proofs::Numbers::digits_more))]
+    // A number in decimal.
     pub fn put_number(&mut self, n: u64)
         ensures { self.new ≡ typed self.old (digits n) }
     {
-        if n >= 10 {
-            self.put_number(n / 10);
-        }
-        self.put(last_digit(n));
+        self.place = lay_number(&mut *self.out, self.place, n);
     }
 
     // A number with a space before it.
@@ -78,19 +72,10 @@ impl Page<'_> {
     }
 
     // A sentence with numbers: each `@` of it becomes the next of them, and 0 where there are no more.
-    #[tactic(auto, using(crate::proofs::Said::said_mark, crate::proofs::Said::said_byte, crate::proofs::Said::said_ends))]
     pub fn put_says(&mut self, text: &[u8], numbers: &[u64])
         ensures { self.new ≡ typed self.old (filled text.now numbers.now) }
     {
-        let mut next = 0;
-        for &byte in text {
-            if byte == b'@' {
-                self.put_number(numbers.get(next).copied().unwrap_or(0));
-                next += 1;
-            } else {
-                self.put(byte);
-            }
-        }
+        self.place = lay_says(&mut *self.out, self.place, text, numbers);
     }
 }
 
@@ -99,4 +84,59 @@ fn last_digit(n: u64) -> u8
     ensures { result ≡ digit (n % 10) }
 {
     b'0' + (n % 10) as u8
+}
+
+// The same over lent bytes, with the place at hand: through a lent page both would be read and written anew for each byte. Each
+// answers the place after its part.
+
+fn lay(out: &mut [u8], place: usize, byte: u8) -> usize
+    ensures { Laid out.old place (byte ∷ []) out.new result }
+{
+    if place < out.len() {
+        out[place] = byte;
+        place + 1
+    } else {
+        place
+    }
+}
+
+fn lay_text(out: &mut [u8], from: usize, text: &[u8]) -> usize
+    ensures { Laid out.old from text.now out.new result }
+{
+    let mut place = from;
+    for &byte in text {
+        place = lay(out, place, byte);
+    }
+    place
+}
+
+// A number's last digit stands after those of a tenth of it.
+fn lay_number(out: &mut [u8], from: usize, n: u64) -> usize
+    ensures { Laid out.old from (digits n) out.new result }
+{
+    let place = if n >= 10 { lay_number(out, from, n / 10) } else { from };
+    lay(out, place, last_digit(n))
+}
+
+// Number j of some, and 0 past their end.
+fn number_at(numbers: &[u64], j: usize) -> u64
+    ensures { result ≡ at numbers.now j }
+{
+    numbers.get(j).copied().unwrap_or(0)
+}
+
+fn lay_says(out: &mut [u8], from: usize, text: &[u8], numbers: &[u64]) -> usize
+    ensures { Laid out.old from (filled text.now numbers.now) out.new result }
+{
+    let mut place = from;
+    let mut next = 0;
+    for &byte in text {
+        if byte == b'@' {
+            place = lay_number(out, place, number_at(numbers, next));
+            next += 1;
+        } else {
+            place = lay(out, place, byte);
+        }
+    }
+    place
 }

@@ -1,5 +1,0 @@
--- the measure is the number
-use Rattle.page.proofs.Page.+put_number.Given as goal
-
-abbrev pub decreases-put_number : goal.decreases-put_number
-decreases-put_number l = l.n

@@ -99,7 +99,10 @@ fn item(text: &[u8], from: usize, k: usize, space: &mut [u8], n: usize) -> Resul
 {
     match byte(text, from) {
         WORK => work(text, from + 1, space, n),
-        LEFT if k > 0 => {
+        LEFT => {
+            if k == 0 {
+                return Err(from);
+            }
             let l = enter(text, from + 1, space, n)?;
             if byte(text, l.place) == GAP {
                 let inner = body(text, l.place + 1, k - 1, space, n + 1)?;

@@ -83,7 +83,9 @@ fn write_words(protocol: Protocol, book: &[u8]) {
 }
 
 // RULES 15.7: the buffer is larger than the largest book. What is read of a longer input has the
-// report of all of it.
+// report of all of it. A function of its own, also when it is compiled: the buffers, over a mebibyte, are taken only where
+// there is a book to report.
+#[inline(never)]
 fn report_input(asked: Asked) {
     let mut book = io::large_buffer();
     let n = io::read_full(0, &mut book);

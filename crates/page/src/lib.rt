@@ -114,7 +114,11 @@ fn lay_text(out: &mut [u8], from: usize, text: &[u8]) -> usize
 fn lay_number(out: &mut [u8], from: usize, n: u64) -> usize
     ensures { Laid out.old from (digits n) out.new result }
 {
-    let place = if n >= 10 { lay_number(out, from, n / 10) } else { from };
+    let place = if n >= 10 {
+        lay_number(out, from, n / 10)
+    } else {
+        from
+    };
     lay(out, place, last_digit(n))
 }
 

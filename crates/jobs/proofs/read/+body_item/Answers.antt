@@ -39,5 +39,5 @@ item-returns-else-byte-eq-GAP-clause-did t c = search (items, err_same, rules)
 pub item-returns-in_default-clause-did : goal.item-returns-in_default-clause-did
 item-returns-in_default-clause-did t c = search (items, err_same, rules)
 
-pub item-returns-in_default-2-clause-did : goal.item-returns-in_default-2-clause-did
-item-returns-in_default-2-clause-did t c = search (items, err_same, rules)
+pub item-returns-then-k-eq0-clause-did : goal.item-returns-then-k-eq0-clause-did
+item-returns-then-k-eq0-clause-did t c = search (items, err_same, rules)

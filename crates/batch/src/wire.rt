@@ -1,5 +1,7 @@
 // Numbers by their bytes, the lowest first. What lies past the end of the input reads as 0, and what comes past the room of a
 // reply is not sent.
+ghost use Rattle.std.specs.Prelude.{◌≤◌};
+
 use rules::answer::Fault;
 
 // The bytes of a command that are still to be read.
@@ -54,7 +56,8 @@ impl<const N: usize> Reply<N> {
     }
 
     pub fn put(&mut self, bytes: &[u8]) {
-        let room = &mut self.bytes[self.length..];
+        let all = &mut self.bytes[..];
+        let room = &mut all[self.length..];
         let n = bytes.len().min(room.len());
         room[..n].copy_from_slice(&bytes[..n]);
         self.length += n;

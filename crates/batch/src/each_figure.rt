@@ -28,16 +28,16 @@ pub fn read_plan(input: &mut Input) -> Plan {
 }
 
 pub fn put_plan<const N: usize>(reply: &mut Reply<N>, plan: &Plan) {
-    reply.put(&plan.tasks.to_le_bytes());
-    reply.put(&plan.locks.to_le_bytes());
+    reply.put_few(plan.tasks.to_le_bytes());
+    reply.put_few(plan.locks.to_le_bytes());
     reply.put(&plan.base);
     reply.put(&plan.maximum);
     reply.put(&plan.ceiling);
     for limit in plan.limit {
-        reply.put(&limit.to_le_bytes());
+        reply.put_few(limit.to_le_bytes());
     }
     for uses in plan.uses {
-        reply.put(&uses.to_le_bytes());
+        reply.put_few(uses.to_le_bytes());
     }
 }
 
@@ -53,10 +53,10 @@ fn read_head(input: &mut Input) -> Head {
 }
 
 fn put_head<const N: usize>(reply: &mut Reply<N>, head: &Head) {
-    reply.put(&head.accepted.to_le_bytes());
+    reply.put_few(head.accepted.to_le_bytes());
     reply.put(&[head.running, head.user.0, head.next.0]);
-    reply.put(&head.lazy.to_le_bytes());
-    reply.put(&head.eager.to_le_bytes());
+    reply.put_few(head.lazy.to_le_bytes());
+    reply.put_few(head.eager.to_le_bytes());
 }
 
 pub fn read_state(input: &mut Input) -> State {
@@ -76,21 +76,21 @@ pub fn read_state(input: &mut Input) -> State {
 pub fn put_state<const N: usize>(reply: &mut Reply<N>, state: &State) {
     put_head(reply, &state.head);
     for number in state.released {
-        reply.put(&number.to_le_bytes());
+        reply.put_few(number.to_le_bytes());
     }
     reply.put(&state.kept);
     for delay in state.delay {
-        reply.put(&delay.to_le_bytes());
+        reply.put_few(delay.to_le_bytes());
     }
     reply.put(&state.depth);
     for row in state.takes {
-        reply.put(&row.to_le_bytes());
+        reply.put_few(row.to_le_bytes());
     }
     for row in state.saved {
-        reply.put(&row.to_le_bytes());
+        reply.put_few(row.to_le_bytes());
     }
     for units in state.units {
-        reply.put(&units.to_le_bytes());
+        reply.put_few(units.to_le_bytes());
     }
     reply.put(&state.owner);
 }

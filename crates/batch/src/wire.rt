@@ -63,6 +63,18 @@ impl<const N: usize> Reply<N> {
         self.length += n;
     }
 
+    // The bytes of a number, stored at once: so few that to copy them by their number would cost more.
+    pub fn put_few<const M: usize>(&mut self, bytes: [u8; M]) {
+        let all = &mut self.bytes[..];
+        let room = &mut all[self.length..];
+        if M <= room.len() {
+            room[..M].copy_from_slice(&bytes);
+            self.length += M;
+        } else {
+            self.put(&bytes);
+        }
+    }
+
     // A place of a book, which four bytes hold.
     pub fn put_place(&mut self, place: usize) {
         self.put(&place.to_le_bytes()[..4]);

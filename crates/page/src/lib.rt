@@ -114,12 +114,12 @@ fn lay_text(out: &mut [u8], from: usize, text: &[u8]) -> usize
 fn lay_number(out: &mut [u8], from: usize, n: u64) -> usize
     ensures { Laid out.old from (digits n) out.new result }
 {
-    let place = if n >= 10 {
-        lay_number(out, from, n / 10)
-    } else {
-        from
-    };
-    lay(out, place, last_digit(n))
+    let last = last_digit(n);
+    if n < 10 {
+        return lay(out, from, last);
+    }
+    let place = lay_number(out, from, n / 10);
+    lay(out, place, last)
 }
 
 // Number j of some, and 0 past their end.

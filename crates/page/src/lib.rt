@@ -7,6 +7,9 @@ ghost use Rattle.rules.specs.Numbers.Place.{at};
 ghost use Rattle.page.specs.Decimal.{digit, digits};
 ghost use Rattle.page.specs.Says.{filled};
 
+// What stands in a sentence for a number.
+const MARK: u8 = b'@';
+
 // Lent bytes, or numbers of another kind, and the place of the next one.
 #[derive(Drop)]
 pub struct Page<'a, T = u8> {
@@ -135,7 +138,7 @@ fn lay_says(out: &mut [u8], from: usize, text: &[u8], numbers: &[u64]) -> usize
     let mut place = from;
     let mut next = 0;
     for &byte in text {
-        if byte == b'@' {
+        if byte == MARK {
             place = lay_number(out, place, number_at(numbers, next));
             next += 1;
         } else {

@@ -19,12 +19,12 @@ use Rattle.rules.proofs.Schedulers.FiguresKept.{inside}
 use Rattle.rules.proofs.Schedulers.Passed.{Releasable, Takeable, Givable, allowed, passed_room}
 use Rattle.rules.proofs.Numbers.Row.{saves_places}
 use Rattle.rules.proofs.Books.Obeyed.{few_tasks, few_locks, base_byte, ceiling_byte}
-use Rattle.kernel.specs.Acting.{IsSound, Accepts, IdleWord, Arrives, with_words}
+use Rattle.kernel.specs.Acting.{IsSound, IsSoundButForUser, Accepts, IdleWord, Arrives, with_words}
 use Rattle.kernel.specs.Ready.{TickReady, ReleaseReady, AcquireReady, UnlockReady, WorkReady, FinishReady}
 
--- ---- a sound state
+-- ---- a sound state, whatever its user word
 
-module _ {p : Plan} {s : State} (I : IsSound p s) where
+module _ {p : Plan} {s : State} (I : IsSoundButForUser p s) where
   pub tasks_in : p.tasks ≤ max_tasks
   tasks_in = few_tasks I.sound.sound.plan
 
@@ -34,11 +34,17 @@ module _ {p : Plan} {s : State} (I : IsSound p s) where
   pub runs_in : s.head.running ≢ nobody → s.head.running < p.tasks
   runs_in n = inside I.sound.sound.figures s.head.running (I.sound.sound.words.runs n)
 
+pub but_for_user : {p : Plan} {s : State} → IsSound p s → IsSoundButForUser p s
+but_for_user {p} {s} I = record { protocol = I.protocol; user = s.head.user; sound = I.sound }
+
 -- ---- and one in which an event is accepted: what the code of the event asks for
 
 module _ {p : Plan} {s : State} {e : Event} (A : Accepts p s e) where
   pub is_sound : IsSound p s
-  is_sound = record { protocol = A.protocol; user = s.head.user; sound = A.sound }
+  is_sound = record { protocol = A.protocol; sound = A.sound }
+
+  accept_sound : IsSoundButForUser p s
+  accept_sound = but_for_user is_sound
 
   pub accept_room : s.head.accepted < max_accepted
   accept_room = passed_room p (figures_of s) s.head.running e A.passed
@@ -52,7 +58,7 @@ accepts_as {p} {s} q A = record {
 
 module _ {p : Plan} {s : State} where
   pub tick_ready : Accepts p s Event.Tick → TickReady s
-  tick_ready A = record { room = accept_room A; idle = λ l. idle_word A.sound (omega (arith, l, tasks_in (is_sound A))) }
+  tick_ready A = record { room = accept_room A; idle = λ l. idle_word A.sound (omega (arith, l, tasks_in (accept_sound A))) }
 
   pub release_ready : {t : ℕ} → Accepts p s (Event.Release t) → ReleaseReady p s t
   release_ready {t} A =
@@ -75,8 +81,8 @@ module _ {p : Plan} {s : State} where
         room = accept_room A;
         lazy = A.sound.sound.words.lazy;
         eager = A.sound.sound.figures.eager;
-        runs = omega (arith, runs_in (is_sound A) o.runs, tasks_in (is_sound A));
-        known = omega (arith, o.known, locks_in (is_sound A));
+        runs = omega (arith, runs_in (accept_sound A) o.runs, tasks_in (accept_sound A));
+        known = omega (arith, o.known, locks_in (accept_sound A));
         free = o.room;
         row = A.sound.sound.figures.places s.head.running;
         words = rw (A.sound.sound.words.saved s.head.running) (saves_places (at p.ceiling) (at p.base s.head.running) (at s.takes s.head.running)
@@ -89,8 +95,8 @@ module _ {p : Plan} {s : State} where
         room = accept_room A;
         lazy = A.sound.sound.words.lazy;
         eager = A.sound.sound.figures.eager;
-        runs = omega (arith, runs_in (is_sound A) o.runs, tasks_in (is_sound A));
-        known = omega (arith, o.known, locks_in (is_sound A));
+        runs = omega (arith, runs_in (accept_sound A) o.runs, tasks_in (accept_sound A));
+        known = omega (arith, o.known, locks_in (accept_sound A));
         some = o.some;
       }
 
@@ -98,15 +104,15 @@ module _ {p : Plan} {s : State} where
   unfolding holds
   work_ready {a} A = record {
     room = accept_room A;
-    runs = omega (arith, runs_in (is_sound A) (allowed p (figures_of s) s.head.running (Event.Work a) A.passed).runs, tasks_in (is_sound A));
-    locks = record { known = λ l h. omega (arith, A.sound.sound.figures.known s.head.running l h, locks_in (is_sound A)) };
+    runs = omega (arith, runs_in (accept_sound A) (allowed p (figures_of s) s.head.running (Event.Work a) A.passed).runs, tasks_in (accept_sound A));
+    locks = record { known = λ l h. omega (arith, A.sound.sound.figures.known s.head.running l h, locks_in (accept_sound A)) };
     waiting = λ x o l. waiting A.sound x o l;
   }
 
   pub finish_ready : Accepts p s Event.Finish → FinishReady s
   finish_ready A = record {
     room = accept_room A;
-    runs = omega (arith, runs_in (is_sound A) (allowed p (figures_of s) s.head.running Event.Finish A.passed).runs, tasks_in (is_sound A));
+    runs = omega (arith, runs_in (accept_sound A) (allowed p (figures_of s) s.head.running Event.Finish A.passed).runs, tasks_in (accept_sound A));
     left = kept_running A.sound;
   }
 

@@ -30,7 +30,7 @@ use Rattle.rules.proofs.Numbers.Place.{any_some, some_any}
 use Rattle.rules.proofs.Numbers.Row.{has_none, has_newest, has_under, has_cases}
 use Rattle.rules.proofs.Schedulers.FiguresKept.{inside, holder_out}
 use Rattle.rules.proofs.Schedulers.WordsKept.{owner_is, owner_some}
-use Rattle.kernel.specs.Acting.{IsSound, with_user}
+use Rattle.kernel.specs.Acting.{IsSoundButForUser, with_user}
 use Rattle.kernel.specs.Work.{past_row, InRow}
 use Rattle.kernel.proofs.WorkLaws.{row_under}
 
@@ -185,9 +185,9 @@ module _ {pr : Protocol} (p : Plan) (s : State) (S : SoundAndSized pr p s) where
       known_lock : (l : ℕ) → has (at s.takes r) (at s.depth r) l ≡ true → l < p.locks
       known_lock l q = figured.known r l q
 
--- ---- of a sound state
+-- ---- of a state that is sound but for its user word
 
-module _ (p : Plan) (s : State) (I : IsSound p s) where
+module _ (p : Plan) (s : State) (I : IsSoundButForUser p s) where
   unowned : (o : ℕ) → o ≡ 0 → not (eqb o 0) ≡ (not (eqb o 0) && not (eqb o (s.head.running + 1)))
   unowned o e = rw (eq-eqb o 0 e)
 

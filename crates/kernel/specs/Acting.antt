@@ -15,12 +15,17 @@ use Rattle.rules.specs.declared.event.Event.{Event}
 use Rattle.rules.specs.declared.priority.UserPriority.{UserPriority}
 use Rattle.kernel.specs.Work.{charged_row}
 
+-- a state that is sound by one of the protocols
+pub record IsSound (p : Plan) (s : State) : Type 0 where
+  pub protocol : Protocol
+  pub sound : SoundAndSized protocol p s
+
 -- a state with another user word
 abbrev pub with_user : State → UserPriority → State
 with_user s user = record s { head = record s.head { user = user } }
 
--- a state that is sound by one of the protocols, but for its user word: that may be any
-pub record IsSound (p : Plan) (s : State) : Type 0 where
+-- and one that is sound but for its user word: that may be any
+pub record IsSoundButForUser (p : Plan) (s : State) : Type 0 where
   pub protocol : Protocol
   pub user : UserPriority
   pub sound : SoundAndSized protocol p (with_user s user)

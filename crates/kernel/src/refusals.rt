@@ -4,7 +4,7 @@ ghost use Rattle.rules.specs.Numbers.Capacity.{max_tasks};
 ghost use Rattle.rules.specs.Numbers.Refusal.{first_true};
 ghost use Rattle.rules.specs.Schedulers.EventRefusals.{elsewhere, not_newest, past_limit, refusal_of, tests_of};
 ghost use Rattle.rules.specs.Schedulers.Figures.{figures_of};
-ghost use Rattle.kernel.specs.Acting.{IsSound};
+ghost use Rattle.kernel.specs.Acting.{IsSoundButForUser};
 
 use figures::mask::has_bit;
 use figures::row::{newest_of, under_of};
@@ -15,7 +15,7 @@ use rules::refusal::Refusal;
 use rules::state::State;
 
 fn release_refusal(plan: &Plan, state: &State, t: u8) -> Result<(), Refusal>
-    requires { IsSound plan.now state.now }
+    requires { IsSoundButForUser plan.now state.now }
     ensures { result ≡ first_true (tests_of plan.now (figures_of state.now) state.now.head.running (Event.Release t)) }
 {
     let y = t as usize;
@@ -31,7 +31,7 @@ fn release_refusal(plan: &Plan, state: &State, t: u8) -> Result<(), Refusal>
 // Whether lock l is open for another task than the one that runs, by its owner's byte: the task plus one,
 // or 0 for none.
 fn open_elsewhere(plan: &Plan, state: &State, l: u8) -> bool
-    requires sound { IsSound plan.now state.now }
+    requires sound { IsSoundButForUser plan.now state.now }
     requires known { (l < plan.now.locks) × (state.now.head.running < plan.now.tasks) }
     ensures { result ≡ elsewhere (figures_of state.now) plan.now.tasks state.now.head.running l }
 {
@@ -40,7 +40,7 @@ fn open_elsewhere(plan: &Plan, state: &State, l: u8) -> bool
 }
 
 fn acquire_refusal(plan: &Plan, state: &State, l: u8) -> Result<(), Refusal>
-    requires { IsSound plan.now state.now }
+    requires { IsSoundButForUser plan.now state.now }
     ensures { result ≡ first_true (tests_of plan.now (figures_of state.now) state.now.head.running (Event.Acquire l)) }
 {
     let x = state.head.running as usize;
@@ -69,7 +69,7 @@ fn older(state: &State, l: u8) -> bool
 }
 
 fn unlock_refusal(plan: &Plan, state: &State, l: u8) -> Result<(), Refusal>
-    requires { IsSound plan.now state.now }
+    requires { IsSoundButForUser plan.now state.now }
     ensures { result ≡ first_true (tests_of plan.now (figures_of state.now) state.now.head.running (Event.Unlock l)) }
 {
     if state.head.running == NOBODY {
@@ -85,7 +85,7 @@ fn unlock_refusal(plan: &Plan, state: &State, l: u8) -> Result<(), Refusal>
 
 // Whether a units more would take an open section of the running task past its limit.
 fn past(plan: &Plan, state: &State, a: u16) -> bool
-    requires sound { IsSound plan.now state.now }
+    requires sound { IsSoundButForUser plan.now state.now }
     requires known { state.now.head.running < plan.now.tasks }
     ensures { result ≡ past_limit plan.now (figures_of state.now) state.now.head.running a }
 {
@@ -102,7 +102,7 @@ fn past(plan: &Plan, state: &State, a: u16) -> bool
 }
 
 fn work_refusal(plan: &Plan, state: &State, a: u16) -> Result<(), Refusal>
-    requires { IsSound plan.now state.now }
+    requires { IsSoundButForUser plan.now state.now }
     ensures { result ≡ first_true (tests_of plan.now (figures_of state.now) state.now.head.running (Event.Work a)) }
 {
     if a == 0 {
@@ -117,7 +117,7 @@ fn work_refusal(plan: &Plan, state: &State, a: u16) -> Result<(), Refusal>
 }
 
 fn finish_refusal(plan: &Plan, state: &State) -> Result<(), Refusal>
-    requires { IsSound plan.now state.now }
+    requires { IsSoundButForUser plan.now state.now }
     ensures { result ≡ first_true (tests_of plan.now (figures_of state.now) state.now.head.running Event.Finish) }
 {
     if state.head.running == NOBODY {
@@ -131,7 +131,7 @@ fn finish_refusal(plan: &Plan, state: &State) -> Result<(), Refusal>
 
 // 11, then the event's own tests.
 pub fn refusal(plan: &Plan, state: &State, e: Event) -> Result<(), Refusal>
-    requires { IsSound plan.now state.now }
+    requires { IsSoundButForUser plan.now state.now }
     ensures { result ≡ refusal_of plan.now (figures_of state.now) state.now.head.running e }
 {
     if MAX_ACCEPTED <= state.head.accepted {

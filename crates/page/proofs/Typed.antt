@@ -55,8 +55,13 @@ pub laid_none : (old : List ℕ) (i : ℕ) → Laid old i [] old i
 unfolding typed
 laid_none old i = record { typed = λ m e. ap (λ o. page (at_last m o) i) e }
 
+-- two texts that make a third where they are typed, one after the other, make it where they are laid
+pub laid_as : (a b c : List ℕ) (i j k : ℕ) (x y z : List ℕ) → ((p : Page ℕ) → typed (typed p x) y ≡ typed p z) → Laid a i x b j → Laid b j y c k → Laid a i z c k
+laid_as a b c i j k x y z make h g =
+    record { typed = λ m e. sym (make (page m i)) ∙ ap (λ p. typed p y) (h.typed m e) ∙ g.typed (at_last m b) refl }
+
 pub laid_on : (a b c : List ℕ) (i j k : ℕ) (x y : List ℕ) → Laid a i x b j → Laid b j y c k → Laid a i (x ++ y) c k
-laid_on a b c i j k x y h g = record { typed = λ m e. sym (typed_on (page m i) x y) ∙ ap (λ p. typed p y) (h.typed m e) ∙ g.typed (at_last m b) refl }
+laid_on a b c i j k x y h g = laid_as a b c i j k x y (x ++ y) (λ p. typed_on p x y) h g
 
 -- ---- what is typed is what was to be written
 

@@ -4,7 +4,7 @@ use mathlib.Core.Logic.{◌≢◌}
 use Prim.Native.Nat.{ℕ, ◌≤◌, ◌<◌, ◌^◌}
 use native.Mathlib.Nat.{lt_of_lt_of_le, pow-le-pow_right}
 use native.Mathlib.Omega.{arith}
-use Rattle.rules.specs.Numbers.Capacity.{max_tasks, max_locks, max_takes, max_accepted, nobody}
+use Rattle.rules.specs.Numbers.Capacity.{max_tasks, max_locks, max_accepted, nobody}
 use Rattle.rules.specs.Numbers.Place.{at}
 use Rattle.rules.specs.Schedulers.EventRefusals.{refusal_of}
 use Rattle.rules.specs.Schedulers.Figures.{figures_of, holds}

@@ -15,10 +15,9 @@ use Rattle.rules.specs.Numbers.Capacity.{max_locks, max_delay}
 use Rattle.rules.specs.Numbers.Place.{at, renewed}
 use Rattle.rules.specs.Numbers.Row.{newest, under, has}
 use Rattle.rules.specs.Schedulers.Figures.{Figures, figures_of, holds}
-use Rattle.rules.specs.Schedulers.FiguresAfter.{delayed, charged, figures_after}
+use Rattle.rules.specs.Schedulers.FiguresAfter.{delayed, charged}
 use Rattle.rules.specs.Schedulers.Lazy.{best_kept}
 use Rattle.rules.specs.Schedulers.EventRefusals.{past_limit}
-use Rattle.rules.specs.Replays.Step.{after_of}
 use Rattle.rules.specs.declared.plan.Plan.{Plan}
 use Rattle.rules.specs.declared.state.State.{State}
 use Rattle.rules.specs.declared.event.Event.{Event}

@@ -24,7 +24,7 @@ pub record IsSound (p : Plan) (s : State) : Type 0 where
 abbrev pub with_user : State → UserPriority → State
 with_user s user = record s { head = record s.head { user = user } }
 
--- and one that is sound but for its user word: that may be any
+-- a state that is sound by one of the protocols, but for its user word: that may be any
 pub record IsSoundButForUser (p : Plan) (s : State) : Type 0 where
   pub protocol : Protocol
   pub user : UserPriority

@@ -1,8 +1,7 @@
 -- `kernel::act::accept` meets its contract. Each arm is its event's. Assumes nothing.
-use Rattle.std.proofs.Common.{◌≡◌, ◌∙◌, sym, ap}
+use Rattle.std.proofs.Common.{◌∙◌, sym, ap}
 use Rattle.rules.specs.Replays.Step.{after_of}
 use Rattle.rules.specs.Schedulers.Lazy.{lazy_call}
-use Rattle.rules.specs.declared.event.Event.{Event}
 use Rattle.kernel.proofs.Ready.{accepts_as, tick_ready, release_ready, acquire_ready, unlock_ready, work_ready, finish_ready}
 use Rattle.kernel.proofs.EventLaws.{acquire_stands, work_stands, ticked_stands, acquire_same, unlock_same, work_same}
 use Rattle.kernel.proofs.act.accept.Goals as goal

@@ -1,11 +1,12 @@
 -- `kernel::act::act` meets its contract. The event is refused with what its tests say, or accepted. Assumes nothing.
 use Rattle.std.proofs.Common.{sym}
 use Rattle.rules.proofs.Numbers.Checks.{handed_on}
+use Rattle.kernel.proofs.Ready.{but_for_user}
 use Rattle.kernel.proofs.EventLaws.{act_refused, act_accepted}
 use Rattle.kernel.proofs.act.act.Goals as goal
 
 pub refusal-requires : goal.refusal-requires
-refusal-requires c = record { protocol = c.args.protocol; user = c.args.state.now.head.user; sound = c.requires.0 }
+refusal-requires c = but_for_user (record { protocol = c.args.protocol; sound = c.requires.0 })
 
 pub accept-requires : goal.accept-requires
 accept-requires c = (record { protocol = c.args.protocol; sound = c.requires.0; passed = sym c.in_ok-refusal.ensures }, c.requires.1)
